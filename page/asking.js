@@ -1,5 +1,5 @@
-// Asks the workers, each of which has one module: the compiler's, and, loaded when it is first wanted, the one that explains. Where the
-// engine has no stack for a call in a worker, it is done on the page, which has more.
+// Asks the workers, each of which has one module: the compiler's, and, loaded when they are first wanted, the one that explains and the one that
+// verifies and traces. Where the engine has no stack for a call in a worker, it is done on the page, which has more.
 import { open } from './zikorape.js';
 import { Kept } from './kept.js';
 
@@ -70,7 +70,8 @@ class Caller {
   }
 }
 
-const compiler = new Caller('zikorape.wasm'), explainer = new Caller('diagnostics.wasm');
+const compiler = new Caller('zikorape.wasm'), explainer = new Caller('diagnostics.wasm'), analyser = new Caller('analysis.wasm');
+const BY = { explain: explainer, warn: explainer, verify: analyser, trace: analyser };
 
 // Fetches the compiler's module, and starts its worker; `whether` is told whether something is under way.
 export function load(whether) {
@@ -86,14 +87,14 @@ async function call(caller, what, args) {
 // { answer }, with `here` where the page did it; { stopped } after `stop`; or { failed } where the engine has no stack for it at all.
 export const ask = (what, ...args) => call(compiler, what, args);
 
-// The same of the module that explains, warns, verifies and traces; { failed } too where it cannot be loaded.
+// The same of the modules that explain, warn, verify and trace; { failed } too where they cannot be loaded.
 export async function askWhy(what, ...args) {
   try {
-    await explainer.load();
+    await BY[what].load();
   } catch (error) {
     return { failed: error.message, absent: true };
   }
-  return call(explainer, what, args);
+  return call(BY[what], what, args);
 }
 
 let isHere = false;
@@ -111,5 +112,6 @@ export function moveMachine() {
 // Ends what is under way; whether the machine that was kept is gone with it.
 export function stop() {
   explainer.stop();
+  analyser.stop();
   return compiler.stop();
 }

@@ -1,15 +1,15 @@
 #!/bin/sh
-# sh page/build.sh [MODULE]: makes page/zikorape.wasm and page/diagnostics.wasm, writes what they were made of to page/SOURCES, and prints their sizes.
+# sh page/build.sh [MODULE]: makes zikorape.wasm, diagnostics.wasm and analysis.wasm in page/, writes what they were made of to page/SOURCES, and prints their sizes.
 # MODULE is the library's module for LLVM; without it `sh bindings/build.sh --prove bindings/out` makes it first, over what the gate proved.
 # That takes two to three minutes, and two more are for WebAssembly.
 #   KIT       the kit's folder: by default where `rt` lies
 #   RLIBS     as for bindings/build.sh
 #   WASM_OPT  wasm-opt of binaryen 108 (Debian's package binaryen): by default that on the PATH
 # The module is for x86-64; it is compiled for wasm64, linked with the page's own heap, and lowered to 32-bit addresses, which every
-# browser has. Two files are made of it: zikorape.wasm compiles, shows, runs and interprets; diagnostics.wasm explains, warns, verifies and
-# traces, and is fetched when that is first wanted: each has what the other has too, and one with both would be too large. Of the former
-# wasm-opt lowers the addresses and does nothing else: its -O2 makes code that is slower here and takes more of the engine's stack. The
-# latter is made for its size.
+# browser has. Three files are made of it: zikorape.wasm compiles, shows, runs and interprets; diagnostics.wasm explains and warns, analysis.wasm
+# verifies and traces, and these are fetched when that is first wanted: one with all would be too large. Of the first wasm-opt lowers the
+# addresses and does nothing else: its -O2 makes code that is slower here and takes more of the engine's stack. The others are made for
+# their size.
 # shellcheck disable=SC2086 # flags, features and names are words
 set -eu
 page=$(cd "$(dirname "$0")" && pwd)
@@ -29,7 +29,8 @@ flags='--target=wasm64-unknown-unknown -mbulk-memory -msign-ext'
 features='--enable-memory64 --enable-bulk-memory --enable-sign-ext --enable-mutable-globals --enable-multivalue'
 layout='e-m:e-p:64:64-p10:8:8-p20:8:8-i64:64-i128:128-n32:64-S128-ni:1:10:20'
 compiler='build build_with functions image frames preprocess list form interpret run step machine_size machine_place machine_ask machine_clear message version malloc free'
-explainer='explain warn verify trace message version malloc free'
+explainer='explain warn message version malloc free'
+analyser='verify trace message version malloc free'
 
 # The same module for another target.
 "$clang" --target=x86_64-unknown-linux-gnu -x ir "$module" -S -emit-llvm -O0 -o native.ll
@@ -57,4 +58,5 @@ made() {
 
 made zikorape fast.o "$compiler"
 made diagnostics small.o "$explainer" -Oz --strip-debug --strip-producers
+made analysis small.o "$analyser" -Oz --strip-debug --strip-producers
 sh "$page/digest.sh" >"$page/SOURCES"

@@ -101,6 +101,7 @@ export async function runTo(halts) {
   else report();
   if (session.seen.waits) $('typed').focus();
   await moved();
+  if (turn !== session.turn) return;
   if (!isThere && session.seen.outcome !== 0 && !session.seen.waits) await ended();
 }
 

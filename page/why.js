@@ -1,5 +1,5 @@
 // What the second module says of a program: why it is refused, its warnings, and which operators are shown to be defined on every input.
-import { $, say, text } from './dom.js';
+import { $, text } from './dom.js';
 import { ask, askWhy } from './asking.js';
 import { STACK, program, session } from './session.js';
 import * as findings from './findings.js';
@@ -12,7 +12,7 @@ const key = ({ file, line }) => `${file}:${line}`;
 async function told(what, ...more) {
   const turn = session.turn, got = await askWhy(what, ...program(), ...more);
   if (turn !== session.turn || got.stopped) return undefined;
-  if (got.failed) { say(got.absent ? `What explains could not be loaded: ${got.failed}` : 'The engine has no stack for it.'); return undefined; }
+  if (got.failed) { $('verdict').textContent = got.absent ? `What explains could not be loaded: ${got.failed}` : 'The engine has no stack for it.'; return undefined; }
   if (got.answer.status === 1) return undefined;
   return { status: got.answer.status, list: findings.parse(text(got.answer.output)) };
 }

@@ -15,6 +15,7 @@ trap 'rm -rf "$work"; [ -z "$server" ] || kill "$server" 2>/dev/null' EXIT
 
 has() { command -v "$1" >/dev/null 2>&1; }
 is_young() { [ "$(sh "$root/page/digest.sh")" = "$(cat "$root/page/SOURCES")" ]; }
+are_there() { [ -e "$root/page/zikorape.wasm" ] && [ -e "$root/page/diagnostics.wasm" ] && [ -e "$root/page/analysis.wasm" ]; }
 is_small() { [ "$(wc -c <"$1")" -lt 1400000 ]; }
 is_small_by_gzip() { [ "$(gzip -9 -c "$1" | wc -c)" -lt 400000 ]; }
 
@@ -32,7 +33,7 @@ small_module() {
 
 module() {
     holds 'the modules of page/ are of these sources (sh page/build.sh makes them anew)' is_young
-    for name in zikorape diagnostics; do
+    for name in zikorape diagnostics analysis; do
         holds "page/$name.wasm has less than 1.4 MB" is_small "$root/page/$name.wasm"
         holds "page/$name.wasm has less than 400 KB by gzip" is_small_by_gzip "$root/page/$name.wasm"
     done
@@ -41,9 +42,9 @@ module() {
     node "$here/thread.mjs" "$here/compare.mjs" "$root/page/zikorape.wasm" "$work/rows" >"$work/compared" 2>&1
     add "$work/compared"
     python3 "$here/told.py" "$cc" >"$work/told_rows" 2>"$work/said" || cat "$work/said"
-    node "$here/thread.mjs" "$here/told.mjs" "$root/page/zikorape.wasm" "$root/page/diagnostics.wasm" "$work/told_rows" >"$work/told" 2>&1
+    node "$here/thread.mjs" "$here/told.mjs" "$root/page" "$work/told_rows" >"$work/told" 2>&1
     add "$work/told"
-    node "$here/pictures.mjs" "$root/page/zikorape.wasm" "$root/page/diagnostics.wasm" >"$work/pictures" 2>&1
+    node "$here/pictures.mjs" "$root/page" >"$work/pictures" 2>&1
     add "$work/pictures"
 }
 
@@ -58,8 +59,8 @@ in_browser() {
 
 holds 'page/examples.js and page/tour.js are of the documents (python3 page/examples.py makes them anew)' python3 "$root/page/examples.py" --check
 if has gcc; then holds 'the heap' heap; else leave_out 'the heap: no gcc'; fi
-if [ ! -e "$root/page/zikorape.wasm" ] || [ ! -e "$root/page/diagnostics.wasm" ]; then
-    leave_out 'the modules and the page: no page/zikorape.wasm or page/diagnostics.wasm (sh page/build.sh)'
+if ! are_there; then
+    leave_out 'the modules and the page: not all of zikorape.wasm, diagnostics.wasm and analysis.wasm are in page/ (sh page/build.sh)'
 elif ! has node; then
     leave_out 'the modules and the page: no node'
 else

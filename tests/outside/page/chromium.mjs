@@ -5,6 +5,7 @@ import os from 'os';
 import path from 'path';
 
 const FLAGS = ['--headless=new', '--no-sandbox', '--disable-gpu', '--remote-debugging-port=0', '--window-size=1200,900'];
+const LONGEST = Number(process.env.LONGEST ?? 60000);      // ms that something may take before it is taken for missing
 const pause = ms => new Promise(over => setTimeout(over, ms));
 
 export async function launch() {
@@ -65,7 +66,7 @@ class Tab {
     return (await this.send('Runtime.evaluate', { expression, awaitPromise: true, returnByValue: true })).result?.value;
   }
 
-  async until(expression, ms = 60000) {
+  async until(expression, ms = LONGEST) {
     for (const start = Date.now(); Date.now() - start < ms; await pause(50)) if (await this.run(expression)) return true;
     return false;
   }

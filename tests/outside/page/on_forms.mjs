@@ -44,6 +44,8 @@ const LINE_4 = Array.from({ length: 13 }, (_, k) => (0x1101c + 4 * k).toString(1
 
 async function joined(reader) {
   const { page } = reader;
+  await reader.example('tour');
+  await page.click('tab-forms');
   await page.set('form', '1');
   await reader.until(`$('form-nodes').querySelector('b')?.textContent === 'unit'`);
   await page.click('tab-tokens');
@@ -68,6 +70,7 @@ async function joined(reader) {
 
 async function listing(reader) {
   const { page } = reader;
+  await reader.example('tour');
   await page.click('tab-listing');
   await reader.at(`all('#listing-lines .word')[7].focus()`);
   reader.check('a word is told by its place in the file', /offset 0000101C, as the bytes 93 02 60 04/.test(await page.told('word-where')), await page.told('word-where'));

@@ -1,11 +1,11 @@
-// node pictures.mjs COMPILER EXPLAINER: the page's pictures of the examples against the machine's memory. At each place at which a statement begins the
+// node pictures.mjs FOLDER: the page's pictures, by the modules in FOLDER, of the examples against the machine's memory. At each place at which a statement begins the
 // machine is followed by the observer's events, and what the picture has of each static object is what the machine has there. The last line counts.
 import fs from 'fs';
 import { compile, open } from '../../../page/zikorape.js';
 import { examples } from '../../../page/examples.js';
 import { Story, describe, follow } from '../../../page/trace.js';
 
-const [zk, why] = process.argv.slice(2).map(name => open(compile(fs.readFileSync(name))));
+const [zk, analyser] = ['zikorape', 'analysis'].map(name => open(compile(fs.readFileSync(`${process.argv[2]}/${name}.wasm`))));
 const ARRIVALS = 3000;
 const json = answer => JSON.parse(new TextDecoder().decode(answer.output));
 const text = answer => new TextDecoder().decode(answer.output);
@@ -45,7 +45,7 @@ function different(machine, object, { address, size }) {
 
 function example({ name, files, input }) {
   const main = files[0][0], table = json(zk.functions(files, main)), halts = places(table), bytes = given(input);
-  const events = text(why.trace(files, main, bytes, 0, 50000, 0)).split('\n').filter(Boolean).map(line => JSON.parse(line));
+  const events = text(analyser.trace(files, main, bytes, 0, 50000, 0)).split('\n').filter(Boolean).map(line => JSON.parse(line));
   const story = new Story(events, describe(json(zk.form(files, main, 1)), json(zk.form(files, main, 2))));
   const machine = zk.machine(zk.build(files, main).output), met = [];
   machine.input(bytes);
