@@ -385,6 +385,16 @@ def check_edits():
         session.change('main.c', (2, 4), (2, 5), 'caf')
         asked.ask(session.of('documentSymbol', 'main.c'), expected(f'edits {encodings}', ['c', 'main', 'caf'], lambda it: [each['name'] for each in it.get('result') or []]))
         verdict.expect(f'edits {encodings}: no fault', shown(asked.end(), session.uri('main.c')), [])
+    # a position inside of a code point is its beginning; a range whose end stands before its beginning is empty
+    for encodings, inside, name in ((None, 4, 'utf-16'), (['utf-8'], 5, 'utf-8')):
+        asked = Asked({'main.c': '/* \U00010400 */ int a;\n\nint b;\nint main(void) { return 0; }\n'}, {'main': 'main.c'}, encodings)
+        session = asked.session
+        session.change('main.c', (2, 3), (0, 0), ' ')
+        session.change('main.c', (0, inside), (0, inside), ' */ int d; /* ')
+        asked.ask(session.of('documentSymbol', 'main.c'), expected(f'inside {name}', [('d', 11), ('a', 29 if encodings else 27), ('b', 5), ('main', 4)],
+                                                                   lambda it: [(each['name'], each['selectionRange']['start']['character']) for each in it.get('result') or []]))
+        asked.ask(1, expected(f'inside {name}: the encoding', name, lambda it: it['result']['capabilities']['positionEncoding']))
+        asked.end()
     # the whole text, and several changes in one message, in their order
     asked = Asked({'main.c': 'int x\n'})
     session = asked.session
@@ -404,12 +414,14 @@ def check_frames():
     session.send(b'Content-Length: many\r\n\r\n')
     session.send(b'Content-Length: 99999999\r\n\r\n' + b' ' * 99999999)
     session.send(frame({'jsonrpc': '2.0', 'id': 'a"', 'method': 'textDocument/unknown', 'params': {}}))
+    session.send(frame(request(-1, 'textDocument/unknown', {})))
     session.send(frame({'jsonrpc': '2.0', 'id': 8, 'method': 1}))
     session.send(frame({'jsonrpc': '2.0', 'id': 9, 'result': None}))
     status, answers, notices = session.run(cc)
     verdict.expect('frames: the status', status, 0)
     verdict.expect('frames: the header in small letters', code_of(answers.get(7)), -32601)
     verdict.expect('frames: an id of letters', code_of(answers.get('a"')), -32601)
+    verdict.expect('frames: a negative id', code_of(answers.get(-1)), -32601)
     verdict.expect('frames: a method that is none', code_of(answers.get(8)), -32600)
     verdict.expect('frames: a reply is not answered', 9 in answers, False)
     verdict.expect('frames: the last error without an id', code_of(answers.get(None)), -32700)
