@@ -1,12 +1,13 @@
 //! The declarators of automatic objects in a typed program.
 
+use srcset::Pos;
 use std::alloc::{AllocError, Global};
 use typed_ast::{Function, Initialiser, Statement, Value};
 
 /// The place of a declarator's name, the number of its object among those of its function, and its value, where the initialiser is a constant.
 #[derive(Clone, Copy)]
 pub(crate) struct Declarator {
-    pub(crate) at: srcset::Pos,
+    pub(crate) at: Pos,
     pub(crate) object: usize,
     pub(crate) value: Option<i64>,
 }
@@ -17,18 +18,7 @@ pub(crate) fn declarators(
     function: &Function,
 ) -> Result<Vec<Declarator>, AllocError> {
     let mut found = Vec::new(alloc);
-    let mut waiting = Vec::new(alloc);
-    waiting.extend_from_slice(&[&function.body])?;
-    // Each turn takes a statement, and a function has no more statements than nodes.
-    for _ in 0..function.nodes {
-        let Some(statement) = waiting.pop() else {
-            break;
-        };
-        if let Some(declarator) = declarator_of(statement) {
-            found.push(declarator)?;
-        }
-        put_inner(statement, &mut waiting)?;
-    }
+    put_statement(&function.body, &mut found)?;
     Ok(found)
 }
 
@@ -56,39 +46,34 @@ fn constant_of(initialiser: &Initialiser) -> Option<i64> {
     }
 }
 
-/// Puts the statements in a statement.
-fn put_inner<'s>(
-    statement: &'s Statement,
-    waiting: &mut Vec<&'s Statement>,
-) -> Result<(), AllocError> {
-    match statement {
-        Statement::Block(_, _, _, all) => put_all(all.as_slice(), waiting),
-        Statement::Switch(_, _, _, _, _, all) => put_all(all.as_slice(), waiting),
-        Statement::If(_, _, inner) => put_one(inner, waiting),
-        Statement::While(_, _, inner) => put_one(inner, waiting),
-        Statement::DoWhile(_, inner, _) => put_one(inner, waiting),
-        Statement::IfElse(_, _, first, second) => {
-            put_one(first, waiting)?;
-            put_one(second, waiting)
-        }
-        Statement::For(_, declared, _, inner) => {
-            put_all(declared.as_slice(), waiting)?;
-            put_one(inner, waiting)
-        }
-        _ => Ok(()),
-    }
-}
-
-fn put_all<'s>(all: &'s [Statement], waiting: &mut Vec<&'s Statement>) -> Result<(), AllocError> {
+/// Puts the declarators of statements. The compiler limits how deep these stand in one another.
+#[cycle(declared_statements)]
+fn put_statements(all: &[Statement], found: &mut Vec<Declarator>) -> Result<(), AllocError> {
     for statement in all {
-        put_one(statement, waiting)?;
+        put_statement(statement, found)?;
     }
     Ok(())
 }
 
-fn put_one<'s>(
-    statement: &'s Statement,
-    waiting: &mut Vec<&'s Statement>,
-) -> Result<(), AllocError> {
-    waiting.extend_from_slice(&[statement])
+#[cycle(declared_statements)]
+fn put_statement(statement: &Statement, found: &mut Vec<Declarator>) -> Result<(), AllocError> {
+    if let Some(declarator) = declarator_of(statement) {
+        found.extend_from_slice(&[declarator])?;
+    }
+    match statement {
+        Statement::Block(_, _, _, all) => put_statements(all.as_slice(), found),
+        Statement::Switch(_, _, _, _, _, all) => put_statements(all.as_slice(), found),
+        Statement::If(_, _, inner) => put_statement(inner, found),
+        Statement::While(_, _, inner) => put_statement(inner, found),
+        Statement::DoWhile(_, inner, _) => put_statement(inner, found),
+        Statement::IfElse(_, _, first, second) => {
+            put_statement(first, found)?;
+            put_statement(second, found)
+        }
+        Statement::For(_, declared, _, inner) => {
+            put_statements(declared.as_slice(), found)?;
+            put_statement(inner, found)
+        }
+        _ => Ok(()),
+    }
 }
