@@ -1,5 +1,6 @@
 -- Neovim 0.7 or later: put this file into ~/.config/nvim/plugin/. It starts `zkc lsp` for C files of a folder that has a file zikorape.json,
--- whose members are the options of the server: {"main": "src/main.c", "include": ["include"], "stack": 1048576, "verify": true}.
+-- whose members are the options of the server:
+-- {"main": "src/main.c", "include": ["include"], "define": ["NAME=1"], "undefine": [], "stack": 1048576, "verify": true}.
 local M = {}
 
 local function read_options(path)

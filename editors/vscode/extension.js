@@ -118,6 +118,10 @@ function toHover(it) {
 function toItem(it) {
   const item = new vscode.CompletionItem(it.label, it.kind - 1);
   item.detail = it.detail;
+  if (it.textEdit) {
+    item.range = toRange(it.textEdit.range);
+    item.insertText = it.textEdit.newText;
+  }
   return item;
 }
 
@@ -151,7 +155,16 @@ function providers(server, legend) {
     languages.registerReferenceProvider(SELECTOR, {
       provideReferences: async (d, p, context) => (await ask("references", { ...at(d, p), context })).map(toLocation),
     }),
+    languages.registerDocumentHighlightProvider(SELECTOR, {
+      provideDocumentHighlights: async (d, p) =>
+        (await ask("documentHighlight", at(d, p))).map((it) => new vscode.DocumentHighlight(toRange(it.range), it.kind - 1)),
+    }),
     languages.registerRenameProvider(SELECTOR, {
+      prepareRename: async (d, p) => {
+        const found = await ask("prepareRename", at(d, p));
+        if (!found) throw new Error("there is no name here that is known");
+        return { range: toRange(found.range), placeholder: found.placeholder };
+      },
       provideRenameEdits: async (d, p, newName) => toEdit(await ask("rename", { ...at(d, p), newName })),
     }),
     languages.registerHoverProvider(SELECTOR, {
@@ -170,7 +183,7 @@ function providers(server, legend) {
     }),
     languages.registerCompletionItemProvider(SELECTOR, {
       provideCompletionItems: async (d, p) => (await ask("completion", at(d, p))).items.map(toItem),
-    }, "#"),
+    }, "#", "\"", "<", "/"),
     languages.registerSignatureHelpProvider(SELECTOR, {
       provideSignatureHelp: async (d, p) => toSignature(await ask("signatureHelp", at(d, p))),
     }, "(", ","),
@@ -221,6 +234,7 @@ async function activate(context) {
   const shown = vscode.languages.createDiagnosticCollection("zikorape");
   client = new Connection(process, (method, params) => {
     if (method === "textDocument/publishDiagnostics") showDiagnostics(shown, params);
+    if (method === "window/showMessage") vscode.window.showWarningMessage(params.message);
   });
   const begun = await client.request("initialize", {
     processId: null,
@@ -229,6 +243,8 @@ async function activate(context) {
     initializationOptions: {
       main: settings.get("main") || undefined,
       include: settings.get("include"),
+      define: settings.get("define"),
+      undefine: settings.get("undefine"),
       stack: settings.get("stack"),
       verify: settings.get("verify"),
     },

@@ -7,10 +7,11 @@ use explain::Stage;
 use explain_cmd::{Bounds, Form, explain_faults};
 use lint_report::{Asked, Form as ReportForm};
 use lint_unit::warn_of_sources;
-use lsp_server::{Host, Question, Unit};
+use lsp_facts::{expansion_of, function_fact, object_fact, value_of};
+use lsp_server::{Declared, FunctionFact, Host, ObjectFact, Part, Question, Unit};
 use srcset::Code;
 use std::alloc::{AllocError, Global};
-use std::fs;
+use std::fs::{self, DirEntry};
 use verify_report::{Asked as Verified, verify_sources};
 
 /// How many faults of a program are told at most.
@@ -47,7 +48,82 @@ impl<'a> Host for Console<'a> {
             Question::Unverified => unverified(alloc, unit),
         }
     }
+
+    fn entries(&self, alloc: Global, folder: &str) -> Result<Vec<String>, AllocError> {
+        let mut names = Vec::new(alloc);
+        if !folder.starts_with("/") {
+            return Ok(names);
+        }
+        let Ok(entries) = fs::read_dir(self.rt, folder) else {
+            return Ok(names);
+        };
+        for entry in entries.take(MAX_ENTRIES) {
+            if let Ok(entry) = entry {
+                names.push(shown_entry(alloc, &entry)?)?;
+            }
+        }
+        Ok(names)
+    }
+
+    fn object(
+        &self,
+        alloc: Global,
+        unit: Unit<'_>,
+        declared: Declared<'_>,
+    ) -> Result<Option<ObjectFact>, AllocError> {
+        object_fact(alloc, unit, declared)
+    }
+
+    fn function(
+        &self,
+        alloc: Global,
+        unit: Unit<'_>,
+        name: &str,
+    ) -> Result<Option<FunctionFact>, AllocError> {
+        function_fact(alloc, unit, name)
+    }
+
+    fn expansion(
+        &self,
+        alloc: Global,
+        unit: Unit<'_>,
+        part: Part<'_>,
+    ) -> Result<Option<String>, AllocError> {
+        expansion_of(alloc, unit, part)
+    }
+
+    fn value(
+        &self,
+        alloc: Global,
+        unit: Unit<'_>,
+        expression: &str,
+    ) -> Result<Option<i64>, AllocError> {
+        value_of(alloc, unit, expression, false)
+    }
+
+    fn macro_value(
+        &self,
+        alloc: Global,
+        unit: Unit<'_>,
+        name: &str,
+    ) -> Result<Option<i64>, AllocError> {
+        value_of(alloc, unit, name, true)
+    }
 }
+
+/// The name of an entry of a folder, with `/` behind that of a folder.
+fn shown_entry(alloc: Global, entry: &DirEntry) -> Result<String, AllocError> {
+    let mut name = String::from_str(alloc, entry.file_name())?;
+    if let Ok(kind) = entry.file_type() {
+        if kind.is_dir() {
+            name.push_str("/")?;
+        }
+    }
+    Ok(name)
+}
+
+/// How many entries of a folder are read at most.
+const MAX_ENTRIES: usize = 10_000;
 
 /// Whether a path is absolute and leads to a file.
 fn is_file(rt: &HostRuntime, path: &str) -> bool {
@@ -79,7 +155,7 @@ fn faults(alloc: Global, unit: Unit<'_>) -> Result<String, AllocError> {
         unit.set,
         unit.names,
         unit.main,
-        unit.main,
+        unit.given,
         bounds,
         Form::Json,
     )?;
@@ -95,7 +171,7 @@ fn warnings(alloc: Global, unit: Unit<'_>) -> Result<String, AllocError> {
         Asked {
             names: unit.names,
             main: unit.main,
-            given: unit.main,
+            given: unit.given,
             stack: stack_of(unit).get(),
             words: "all",
             are_errors: false,
@@ -111,7 +187,7 @@ fn unverified(alloc: Global, unit: Unit<'_>) -> Result<String, AllocError> {
     let asked = Verified {
         names: unit.names,
         main: unit.main,
-        given: unit.main,
+        given: unit.given,
         stack: stack_of(unit),
         form: ReportForm::Json,
         version: plain_version(),

@@ -53,7 +53,7 @@ pub fn serve(rt: &HostRuntime) -> u8 {
     1
 }
 
-/// Takes bytes of the client; returns the exit status, where the session ends.
+/// Takes bytes of the client; returns the exit status, where the session ends. Changes are looked at when no whole message is left.
 fn feed(
     rt: &HostRuntime,
     server: &mut Server<Console<'_>>,
@@ -64,6 +64,7 @@ fn feed(
     // Each frame takes bytes of the inbox, so that there are no more frames than bytes.
     for _ in 0..u64::MAX {
         let Some(frame) = inbox.take()? else {
+            put_messages(rt, server.settle()?.as_slice())?;
             return Ok(None);
         };
         let messages = match frame {

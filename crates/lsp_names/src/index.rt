@@ -2,7 +2,7 @@
 
 use crate::folding::{Fold, folds};
 use crate::scanner::Scanner;
-use crate::symbols::{Mention, Parameter, Place, Symbol, SymbolKind, Unresolved};
+use crate::symbols::{Mention, Parameter, Place, Role, Symbol, SymbolKind, Unresolved};
 use crate::table::Table;
 use crate::walking::{File, walk_files, words_at};
 use crate::words::{Word, words_of};
@@ -83,10 +83,64 @@ impl Index {
 
     /// The mention of a symbol at an offset of a file.
     pub fn mention_at(&self, file: usize, offset: usize) -> Option<Mention> {
-        self.mentions
+        let past = self
+            .mentions
+            .partition_point(|mention| mention.place.begins_by(file, offset));
+        let last = self.mentions.get(past.checked_sub(1)?).copied()?;
+        if last.place.touches(file, offset) {
+            Some(last)
+        } else {
+            None
+        }
+    }
+
+    /// The symbol of a function that has a parameter declared at a place, and the number of that parameter.
+    pub fn function_with(&self, place: Place) -> Option<(&Symbol, usize)> {
+        for symbol in &self.symbols {
+            if symbol.kind == SymbolKind::Function {
+                if let Some(number) = self.parameter_at(symbol, place) {
+                    return Some((symbol, number));
+                }
+            }
+        }
+        None
+    }
+
+    /// The number of a function's parameter whose declaration has a place in it.
+    fn parameter_at(&self, symbol: &Symbol, place: Place) -> Option<usize> {
+        self.parameters(symbol)
             .iter()
-            .find(|mention| mention.place.touches(file, offset))
-            .copied()
+            .position(|parameter| parameter.whole.contains(place))
+    }
+
+    /// Whether each macro has one definition, and none is undefined, so that each means the same behind the whole program as where it is defined.
+    pub fn are_macros_fixed(&self) -> bool {
+        let mut defined: usize = 0;
+        for mention in &self.mentions {
+            if mention.role == Role::Declares && self.is_macro(mention.symbol) {
+                defined = defined.saturating_add(1);
+            }
+        }
+        let macros = self
+            .symbols
+            .iter()
+            .filter(|symbol| symbol.kind == SymbolKind::Macro)
+            .count();
+        defined == macros && !self.has_spelling("undef")
+    }
+
+    fn is_macro(&self, symbol: usize) -> bool {
+        match self.symbols.get(symbol) {
+            Some(symbol) => symbol.kind == SymbolKind::Macro,
+            None => false,
+        }
+    }
+
+    /// The number of the file that a header's name in quotes or brackets stands for.
+    pub fn file_of(&self, name: usize) -> Option<usize> {
+        self.files
+            .iter()
+            .position(|other| other.quoted == name || other.bracketed == name)
     }
 
     /// The parameters of a function or a macro.
@@ -125,11 +179,7 @@ impl Index {
         let word = self.words(file).iter().find(|word| word.in_directive
             && word.start <= offset
             && offset <= word.end)?;
-        let name = word.name;
-        let number = self
-            .files
-            .iter()
-            .position(|other| other.quoted == name || other.bracketed == name)?;
+        let number = self.file_of(word.name)?;
         let place = Place {
             file,
             start: word.start,

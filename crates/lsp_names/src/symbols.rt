@@ -86,4 +86,14 @@ impl Place {
     pub fn touches(self, file: usize, offset: usize) -> bool {
         self.file == file && self.start <= offset && offset <= self.end
     }
+
+    /// Whether this part begins before or at an offset in a file; files stand in the order of their numbers.
+    pub fn begins_by(self, file: usize, offset: usize) -> bool {
+        self.file < file || self.file == file && self.start <= offset
+    }
+
+    /// Whether another part lies in this one.
+    pub fn contains(self, other: Place) -> bool {
+        self.file == other.file && self.start <= other.start && other.end <= self.end
+    }
 }

@@ -11,7 +11,7 @@ use serde_json::Value;
 use std::alloc::{AllocError, Global};
 
 impl<H: Host + Drop> Server<H> {
-    /// `textDocument/codeAction`: a quick fix for each problem in the range that has one.
+    /// `textDocument/codeAction`: a quick fix for each problem that has one, where the problem or what mends it stands in the range.
     pub(crate) fn code_actions(&self, params: &Value) -> Result<Outcome, AllocError> {
         let uri = text_at(params, "/textDocument/uri");
         let span = params.pointer("/range").and_then(span_of);
@@ -20,8 +20,9 @@ impl<H: Host + Drop> Server<H> {
         };
         let mut out = String::from_str(self.alloc, "[")?;
         for problem in &self.problems {
-            if problem.uri.as_str() == uri && meet(problem.span, span) {
-                if let Some(fix) = &problem.fix {
+            if let Some(fix) = &problem.fix {
+                let is_wanted = meet(problem.span, span) || meet(fix.span, span);
+                if problem.uri.as_str() == uri && is_wanted {
                     put_action(self.alloc, problem, fix, &mut out)?;
                 }
             }

@@ -21,6 +21,7 @@ pub(crate) struct Spot {
 impl<H: Host + Drop> Server<H> {
     /// Answers a request.
     pub(crate) fn request(&mut self, id: &Id, call: &Call) -> Result<(), AllocError> {
+        self.look_at_changes()?;
         let outcome = match self.phase {
             Phase::Fresh if call.method.as_str() != "initialize" => {
                 Outcome::Refused(RpcError::NotInitialized, RpcError::NotInitialized.text())
@@ -63,7 +64,7 @@ impl<H: Host + Drop> Server<H> {
             return Ok(());
         };
         let path = path_of(self.alloc, uri)?;
-        self.look_at_saved(path.as_str())
+        self.note_change(path.as_str(), true)
     }
 
     /// What a request is answered.

@@ -1,39 +1,65 @@
 //! Diagnostics as the text changes.
 
 use crate::host::{Host, Question, Unit};
-use crate::problems::{Severity, published, read_problems};
-use crate::server::Server;
-use crate::unit_files::{Places, Program, UnitFile, gather, is_part, names_of, set_of};
+use crate::problems::{Problem, Severity, over_budget, published, read_problems};
+use crate::server::{Change, Server};
+use crate::unit_files::{Places, Program, UnitFile, gather, is_part, names_of, set_of, unit_of};
+use crate::view::View;
 use lsp_wire::notification;
 use std::alloc::{AllocError, Global};
 
 /// How many programs are looked at beside one another.
 const MAX_PROGRAMS: usize = 32;
 
+/// What is done with a program when a file changed.
+#[derive(Clone, Copy, PartialEq, Eq)]
+enum Plan {
+    /// It has the file.
+    Look,
+    /// Its main file is a part of another program.
+    Forget,
+    /// It does not have the file.
+    Leave,
+}
+
 impl<H: Host + Drop> Server<H> {
-    /// Looks again at each program that has the file at a path, and tells what is found.
-    pub(crate) fn look_again(&mut self, path: &str) -> Result<(), AllocError> {
-        self.look_at_all(path, false)?;
-        self.forget_closed()?;
-        self.publish()
+    /// Notes that the file at a path changed, or was saved.
+    pub(crate) fn note_change(&mut self, path: &str, is_saved: bool) -> Result<(), AllocError> {
+        self.view = None;
+        for change in self.changes.iter_mut() {
+            if change.path.as_str() == path {
+                change.is_saved = change.is_saved || is_saved;
+                return Ok(());
+            }
+        }
+        let path = String::from_str(self.alloc, path)?;
+        self.changes.push(Change { path, is_saved })?;
+        Ok(())
     }
 
-    /// Looks at the programs that have a file that was saved, and verifies them where that is wanted.
-    pub(crate) fn look_at_saved(&mut self, path: &str) -> Result<(), AllocError> {
-        let verifies = self.options.verifies;
-        self.look_at_all(path, verifies)?;
+    /// Looks at each program that has a file which changed, and tells what is found.
+    pub(crate) fn look_at_changes(&mut self) -> Result<(), AllocError> {
+        if self.changes.is_empty() {
+            return Ok(());
+        }
+        let changes = std::mem::replace(&mut self.changes, Vec::new(self.alloc));
+        for change in changes {
+            let verifies = change.is_saved && self.options.verifies;
+            self.look_at_all(change.path.as_str(), verifies)?;
+        }
+        self.forget_closed()?;
         self.publish()
     }
 
     /// Looks at each program that has the file at a path. One whose main file another includes is a part of that.
     fn look_at_all(&mut self, path: &str, verifies: bool) -> Result<(), AllocError> {
-        self.view = None;
         let programs = self.programs()?;
-        for (number, program) in programs.iter().enumerate() {
-            if is_part(programs.as_slice(), number) {
-                self.drop_problems_of(program.root())?;
-            } else if program.has_path(path) {
-                self.look_at(program.files.as_slice(), program.root(), verifies)?;
+        let plans = plans_of(self.alloc, programs.as_slice(), path)?;
+        for (program, plan) in programs.into_iter().zip(plans) {
+            match plan {
+                Plan::Look => self.look_at(program.files, verifies)?,
+                Plan::Forget => self.drop_problems_of(program.root())?,
+                Plan::Leave => {}
             }
         }
         Ok(())
@@ -75,20 +101,33 @@ impl<H: Host + Drop> Server<H> {
         Ok(roots)
     }
 
+    /// Looks at the program of these files, which is then the one whose names are known.
+    fn look_at(&mut self, files: Vec<UnitFile>, verifies: bool) -> Result<(), AllocError> {
+        let view = View::of(self.alloc, files, self.options.encoding)?;
+        self.drop_problems_of(view.root())?;
+        if view.is_within_budget() {
+            self.ask_all(view.files.as_slice(), verifies)?;
+        } else {
+            let problem = over_budget(self.alloc, view.files.as_slice(), view.work)?;
+            self.put_problem(problem)?;
+        }
+        self.view = Some(view);
+        Ok(())
+    }
+
     /// Asks for faults of a program, or else for warnings and, where that is wanted, for what is not verified.
-    fn look_at(
-        &mut self,
-        files: &[UnitFile],
-        root: &str,
-        verifies: bool,
-    ) -> Result<(), AllocError> {
-        self.drop_problems_of(root)?;
-        if self.ask(files, Question::Faults, Severity::Error)? {
+    fn ask_all(&mut self, files: &[UnitFile], verifies: bool) -> Result<(), AllocError> {
+        let set = set_of(self.alloc, files)?;
+        let names = names_of(self.alloc, files)?;
+        let Some(unit) = unit_of(files, &set, names.as_slice(), self.options.stack) else {
+            return Ok(());
+        };
+        if self.ask(files, unit, Question::Faults, Severity::Error)? {
             return Ok(());
         }
-        self.ask(files, Question::Warnings, Severity::Warning)?;
+        self.ask(files, unit, Question::Warnings, Severity::Warning)?;
         if verifies {
-            self.ask(files, Question::Unverified, Severity::Information)?;
+            self.ask(files, unit, Question::Unverified, Severity::Information)?;
         }
         Ok(())
     }
@@ -97,11 +136,12 @@ impl<H: Host + Drop> Server<H> {
     fn ask(
         &mut self,
         files: &[UnitFile],
+        unit: Unit<'_>,
         question: Question,
         severity: Severity,
     ) -> Result<bool, AllocError> {
         let alloc = self.alloc;
-        let lines = self.lines_of(files, question)?;
+        let lines = self.host.findings(alloc, question, unit)?;
         let encoding = self.options.encoding;
         let found = read_problems(alloc, lines.as_str(), severity, files, encoding)?;
         let is_found = !found.is_empty();
@@ -111,23 +151,11 @@ impl<H: Host + Drop> Server<H> {
         Ok(is_found)
     }
 
-    fn lines_of(&self, files: &[UnitFile], question: Question) -> Result<String, AllocError> {
-        let alloc = self.alloc;
-        let set = set_of(alloc, files)?;
-        let names = names_of(alloc, files)?;
-        let Some(main) = names.first().copied() else {
-            return Ok(String::new(alloc));
-        };
-        self.host.findings(
-            alloc,
-            question,
-            Unit {
-                set: &set,
-                names: names.as_slice(),
-                main,
-                stack: self.options.stack,
-            },
-        )
+    fn put_problem(&mut self, problem: Option<Problem>) -> Result<(), AllocError> {
+        if let Some(problem) = problem {
+            self.problems.push(problem)?;
+        }
+        Ok(())
     }
 
     /// Forgets what was found in a program.
@@ -182,6 +210,21 @@ impl<H: Host + Drop> Server<H> {
         }
         Ok(())
     }
+}
+
+/// What is done with each program where the file at a path changed.
+fn plans_of(alloc: Global, programs: &[Program], path: &str) -> Result<Vec<Plan>, AllocError> {
+    let mut plans = Vec::new(alloc);
+    for (number, program) in programs.iter().enumerate() {
+        plans.push(if is_part(programs, number) {
+            Plan::Forget
+        } else if program.has_path(path) {
+            Plan::Look
+        } else {
+            Plan::Leave
+        })?;
+    }
+    Ok(plans)
 }
 
 fn has_text(texts: &[String], text: &str) -> bool {

@@ -28,7 +28,7 @@ impl<H: Host + Drop> Server<H> {
             path,
             document,
         })?;
-        self.look_again(changed.as_str())
+        self.note_change(changed.as_str(), false)
     }
 
     /// `textDocument/didChange`: changes of ranges, or of the whole text, in their order.
@@ -50,7 +50,7 @@ impl<H: Host + Drop> Server<H> {
             }
         }
         let path = path_of(alloc, uri)?;
-        self.look_again(path.as_str())
+        self.note_change(path.as_str(), false)
     }
 
     /// `textDocument/didClose`: the file counts as it stands on the disk.
@@ -60,7 +60,7 @@ impl<H: Host + Drop> Server<H> {
         };
         self.remove(uri);
         let path = path_of(self.alloc, uri)?;
-        self.look_again(path.as_str())
+        self.note_change(path.as_str(), false)
     }
 
     /// The number of an open document.

@@ -4,13 +4,17 @@
 mod actions;
 mod answering;
 mod completion;
+mod definitions;
 mod diagnosing;
 mod edits;
+mod facts;
+mod headers;
 mod hints;
 mod host;
 mod hover;
 mod json;
 mod lifecycle;
+mod line_start;
 mod navigation;
 mod options;
 mod outline;
@@ -24,5 +28,5 @@ mod token_kinds;
 mod unit_files;
 mod view;
 
-pub use host::{Host, Question, Unit};
+pub use host::{Declared, FunctionFact, Host, ObjectFact, Part, Question, Unit};
 pub use server::Server;

@@ -1,10 +1,11 @@
 //! The beginning and the end of a session.
 
 use crate::host::Host;
+use crate::json::put_text_member;
 use crate::options::Options;
 use crate::server::{Outcome, Phase, Server};
 use crate::token_kinds::put_legend;
-use lsp_wire::RpcError;
+use lsp_wire::{RpcError, notification};
 use serde_json::Value;
 use std::alloc::AllocError;
 
@@ -19,6 +20,7 @@ impl<H: Host + Drop> Server<H> {
         }
         self.options = Options::of(self.alloc, params)?;
         self.phase = Phase::Running;
+        self.tell_wrong_options()?;
         let mut out = String::from_str(self.alloc, "{\"capabilities\":{\"positionEncoding\":\"")?;
         out.push_str(self.options.encoding.name())?;
         out.push_str(
@@ -26,13 +28,28 @@ impl<H: Host + Drop> Server<H> {
              \"codeActionProvider\":{\"codeActionKinds\":[\"quickfix\"]},\"documentSymbolProvider\":true,\
              \"definitionProvider\":true,\"referencesProvider\":true,\"documentHighlightProvider\":true,\
              \"renameProvider\":{\"prepareProvider\":true},\"hoverProvider\":true,\"foldingRangeProvider\":true,\
-             \"completionProvider\":{\"triggerCharacters\":[\"#\"]},\
+             \"completionProvider\":{\"triggerCharacters\":[\"#\",\"\\\"\",\"<\",\"/\"]},\
              \"signatureHelpProvider\":{\"triggerCharacters\":[\"(\",\",\"]},\"inlayHintProvider\":true,\
              \"semanticTokensProvider\":{\"legend\":",
         )?;
         put_legend(&mut out)?;
         out.push_str(",\"full\":true}},\"serverInfo\":{\"name\":\"zkc\"}}")?;
         Ok(Outcome::Answer(out))
+    }
+
+    /// Says which of the options `define` and `undefine` are no macros.
+    fn tell_wrong_options(&mut self) -> Result<(), AllocError> {
+        let wrong = std::mem::replace(&mut self.options.wrong, Vec::new(self.alloc));
+        for text in wrong {
+            let text = text.as_str();
+            let said = format!(in self.alloc; "zkc: no macro, and left out: {text}")?;
+            let mut params = String::from_str(self.alloc, "{\"type\":2")?;
+            put_text_member(self.alloc, "message", said.as_str(), &mut params)?;
+            params.push_str("}")?;
+            let message = notification(self.alloc, "window/showMessage", params.as_str())?;
+            self.send(message)?;
+        }
+        Ok(())
     }
 
     /// `shutdown`.

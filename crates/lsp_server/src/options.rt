@@ -1,5 +1,6 @@
 //! What a client says of itself and of the program when a session begins.
 
+use crate::definitions::{is_definition, is_macro_name};
 use crate::params::{flag_at, number_at, text_at};
 use crate::paths::{joined, path_of};
 use lsp_text::Encoding;
@@ -17,6 +18,11 @@ pub(crate) struct Options {
     pub(crate) folders: Vec<String>,
     /// The path of the main file; empty where each open file that no other includes is one.
     pub(crate) main: String,
+    /// The macros that are defined, as `NAME`, `NAME=VALUE` or `NAME(PARAMETERS)=VALUE`, and those that are left out.
+    pub(crate) defined: Vec<String>,
+    pub(crate) undefined: Vec<String>,
+    /// What the options have that is no macro.
+    pub(crate) wrong: Vec<String>,
     /// The bytes of the stack.
     pub(crate) stack: u32,
     /// Whether a file that is saved is verified.
@@ -30,6 +36,9 @@ impl Options {
             encoding: Encoding::Utf16,
             folders: Vec::new(alloc),
             main: String::new(alloc),
+            defined: Vec::new(alloc),
+            undefined: Vec::new(alloc),
+            wrong: Vec::new(alloc),
             stack: USUAL_STACK,
             verifies: true,
         }
@@ -44,9 +53,34 @@ impl Options {
         if let Some(main) = text_at(params, "/initializationOptions/main") {
             options.main = joined(alloc, root.as_str(), main)?;
         }
+        options.put_macros(alloc, params)?;
         options.stack = number_at(params, "/initializationOptions/stack").unwrap_or(USUAL_STACK);
         options.verifies = flag_at(params, "/initializationOptions/verify").unwrap_or(true);
         Ok(options)
+    }
+
+    /// Whether there are macros.
+    pub(crate) fn has_macros(&self) -> bool {
+        !self.defined.is_empty() || !self.undefined.is_empty()
+    }
+
+    /// Takes the options `define` and `undefine`.
+    fn put_macros(&mut self, alloc: Global, params: &Value) -> Result<(), AllocError> {
+        for text in texts_at(alloc, params, "/initializationOptions/define")? {
+            if is_definition(text.as_str()) {
+                self.defined.push(text)?;
+            } else {
+                self.wrong.push(text)?;
+            }
+        }
+        for text in texts_at(alloc, params, "/initializationOptions/undefine")? {
+            if is_macro_name(text.as_str()) {
+                self.undefined.push(text)?;
+            } else {
+                self.wrong.push(text)?;
+            }
+        }
+        Ok(())
     }
 }
 
@@ -80,15 +114,22 @@ fn encoding_of(params: &Value) -> Encoding {
 /// The folders of the option `include`.
 fn folders_of(alloc: Global, root: &str, params: &Value) -> Result<Vec<String>, AllocError> {
     let mut folders = Vec::new(alloc);
-    let listed = params
-        .pointer("/initializationOptions/include")
-        .and_then(Value::as_array);
-    if let Some(listed) = listed {
-        for folder in listed {
-            if let Some(folder) = folder.as_str() {
-                folders.push(joined(alloc, root, folder)?)?;
-            }
-        }
+    for folder in texts_at(alloc, params, "/initializationOptions/include")? {
+        folders.push(joined(alloc, root, folder.as_str())?)?;
     }
     Ok(folders)
+}
+
+/// The texts in the array at a pointer; what is no text is passed over.
+fn texts_at(alloc: Global, params: &Value, pointer: &str) -> Result<Vec<String>, AllocError> {
+    let mut texts = Vec::new(alloc);
+    let Some(listed) = params.pointer(pointer).and_then(Value::as_array) else {
+        return Ok(texts);
+    };
+    for text in listed {
+        if let Some(text) = text.as_str() {
+            texts.push(String::from_str(alloc, text)?)?;
+        }
+    }
+    Ok(texts)
 }

@@ -2,7 +2,8 @@
 
 use crate::json::{put_comma, put_span, put_text_member};
 use crate::params::{number_at, text_at};
-use crate::unit_files::UnitFile;
+use crate::unit_files::{Origin, UnitFile};
+use crate::view::{MAX_WORK, beginning};
 use lsp_text::{Encoding, Span};
 use lsp_wire::{put_number, put_string};
 use serde_json::Value;
@@ -34,11 +35,16 @@ pub(crate) struct Problem {
     pub(crate) severity: Severity,
     pub(crate) code: String,
     pub(crate) text: String,
+    /// The numbers that the analysis found possible there; empty where it tells none.
+    pub(crate) interval: String,
     /// What mends it, where that is sure.
     pub(crate) fix: Option<Fix>,
 }
 
-/// Reads findings, an object of JSON on each line; those about files that are not there are left out.
+/// How many findings of one kind are shown of a program.
+const MAX_PROBLEMS: usize = 500;
+
+/// Reads findings, an object of JSON on each line. One about a file that no person wrote stands at the beginning of the main file.
 pub(crate) fn read_problems(
     alloc: Global,
     lines: &str,
@@ -48,7 +54,7 @@ pub(crate) fn read_problems(
 ) -> Result<Vec<Problem>, AllocError> {
     let mut problems = Vec::new(alloc);
     for line in lines.split('\n') {
-        if !line.is_empty() {
+        if !line.is_empty() && problems.len() < MAX_PROBLEMS {
             if let Some(problem) = read_problem(alloc, line, severity, files, encoding)? {
                 problems.push(problem)?;
             }
@@ -74,28 +80,81 @@ fn read_problem(
         return Ok(None);
     }
     let name = text_at(&value, "/file").unwrap_or_default();
-    let (Some(file), Some(main)) = (file_named(files, name), files.first()) else {
+    let Some(main) = files.first() else {
         return Ok(None);
     };
-    Ok(Some(Problem {
-        uri: String::from_str(alloc, file.uri.as_str())?,
-        root: String::from_str(alloc, main.path.as_str())?,
-        span: place_in(file, &value, encoding),
-        severity,
-        code: String::from_str(alloc, code)?,
-        text: whole_text(alloc, &value)?,
-        fix: fix_of(alloc, file, &value, encoding)?,
-    }))
-}
-
-/// The file of a finding: the main one, where no file has the name.
-fn file_named<'f>(files: &'f [UnitFile], name: &str) -> Option<&'f UnitFile> {
-    for file in files {
-        if file.name.as_str() == name && !file.path.is_empty() {
-            return Some(file);
+    match file_named(files, name) {
+        Some(file) => Ok(Some(Problem {
+            uri: String::from_str(alloc, file.uri.as_str())?,
+            root: String::from_str(alloc, main.path.as_str())?,
+            span: place_in(file, &value, encoding),
+            severity,
+            code: String::from_str(alloc, code)?,
+            text: whole_text(alloc, &value)?,
+            interval: interval_of(alloc, &value)?,
+            fix: fix_of(alloc, file, &value, encoding)?,
+        })),
+        None => {
+            let said = whole_text(alloc, &value)?;
+            let said = said.as_str();
+            let text = format!(in alloc; "{name}: {said}")?;
+            Ok(Some(at_beginning(alloc, main, severity, code, text)?))
         }
     }
-    files.first()
+}
+
+/// A problem of a whole program, at the beginning of its main file.
+fn at_beginning(
+    alloc: Global,
+    main: &UnitFile,
+    severity: Severity,
+    code: &str,
+    text: String,
+) -> Result<Problem, AllocError> {
+    Ok(Problem {
+        uri: String::from_str(alloc, main.uri.as_str())?,
+        root: String::from_str(alloc, main.path.as_str())?,
+        span: beginning(),
+        severity,
+        code: String::from_str(alloc, code)?,
+        text,
+        interval: String::new(alloc),
+        fix: None,
+    })
+}
+
+/// The problem of a program that is not given to the compiler, since its preprocessing is too much work.
+pub(crate) fn over_budget(
+    alloc: Global,
+    files: &[UnitFile],
+    work: u64,
+) -> Result<Option<Problem>, AllocError> {
+    let Some(main) = files.first() else {
+        return Ok(None);
+    };
+    let text = format!(in alloc;
+        "not looked at: macros and includes make about {work} tokens of it, and at most {MAX_WORK} are looked at"
+    )?;
+    Ok(Some(at_beginning(alloc, main, Severity::Warning, "budget", text)?))
+}
+
+/// The file that has this name and was written by a person.
+fn file_named<'f>(files: &'f [UnitFile], name: &str) -> Option<&'f UnitFile> {
+    files.iter().find(|file| file.name.as_str() == name && file.origin == Origin::Written)
+}
+
+/// The numbers that a finding tells.
+fn interval_of(alloc: Global, value: &Value) -> Result<String, AllocError> {
+    let mut text = String::new(alloc);
+    let Some(notes) = value.pointer("/notes").and_then(Value::as_array) else {
+        return Ok(text);
+    };
+    for note in notes {
+        if text_at(note, "/topic") == Some("value") {
+            text.push_str(text_at(note, "/text").unwrap_or_default())?;
+        }
+    }
+    Ok(text)
 }
 
 /// The place of a finding: its token, or else its line.

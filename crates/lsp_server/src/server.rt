@@ -42,8 +42,18 @@ pub struct Server<H> {
     pub(crate) shown: Vec<String>,
     /// The program that was looked at last, while nothing changes.
     pub(crate) view: Option<View>,
+    /// What changed since programs were looked at.
+    pub(crate) changes: Vec<Change>,
     /// What is to be sent.
     pub(crate) outbox: Vec<String>,
+}
+
+/// That a file changed, whose programs are looked at before the next request is answered.
+#[derive(Drop)]
+pub(crate) struct Change {
+    pub(crate) path: String,
+    /// Whether it was saved.
+    pub(crate) is_saved: bool,
 }
 
 /// What a request is answered.
@@ -66,6 +76,7 @@ impl<H: Host + Drop> Server<H> {
             problems: Vec::new(alloc),
             shown: Vec::new(alloc),
             view: None,
+            changes: Vec::new(alloc),
             outbox: Vec::new(alloc),
         }
     }
@@ -79,6 +90,13 @@ impl<H: Host + Drop> Server<H> {
             Message::Reply => {}
             Message::Wrong(id, error) => self.refuse(&id, error, error.text())?,
         }
+        Ok(self.sent())
+    }
+
+    /// Looks at the programs that changed; returns the bodies of the messages that are to be sent. It is called where no message waits, so that of
+    /// several changes in a row only the last is looked at.
+    pub fn settle(&mut self) -> Result<Vec<String>, AllocError> {
+        self.look_at_changes()?;
         Ok(self.sent())
     }
 

@@ -1,6 +1,7 @@
 //! The files of a program: the main one, and those that it includes, as they stand in the editor or else on the disk.
 
-use crate::host::Host;
+use crate::definitions::{MADE_FILE, made_text};
+use crate::host::{Host, Unit};
 use crate::options::Options;
 use crate::paths::{base_of, folder_of, joined, uri_of};
 use crate::server::OpenDocument;
@@ -10,12 +11,24 @@ use phases::Kind;
 use srcset::{Code, FileSet, MAX_FILES, builtin};
 use std::alloc::{AllocError, Global};
 
+/// Who wrote a file.
+#[derive(Clone, Copy, PartialEq, Eq)]
+pub(crate) enum Origin {
+    /// A person: it lies on the disk, or is open in the editor.
+    Written,
+    /// It is a built-in header.
+    BuiltIn,
+    /// The server, for the macros of the options.
+    Made,
+}
+
 /// A file of a program.
 #[derive(Drop)]
 pub(crate) struct UnitFile {
+    pub(crate) origin: Origin,
     /// The name under which it is included.
     pub(crate) name: String,
-    /// Where it lies; empty for a built-in header.
+    /// Where it lies; empty where no person wrote it.
     pub(crate) path: String,
     pub(crate) uri: String,
     pub(crate) text: Vec<u8>,
@@ -64,7 +77,8 @@ pub(crate) struct Places<'a, H> {
     pub(crate) options: &'a Options,
 }
 
-/// Gathers the files of the program whose main file lies at a path, the main one first; none where it cannot be read.
+/// Gathers the files of the program whose main file lies at a path, the main one first, and last the one that has the macros of the options, where there are some; none where the main file
+/// cannot be read.
 pub(crate) fn gather<H: Host>(
     alloc: Global,
     places: &Places<'_, H>,
@@ -74,12 +88,16 @@ pub(crate) fn gather<H: Host>(
     let Some(text) = text_at_path(alloc, places, path)? else {
         return Ok(files);
     };
-    files.push(unit_file(alloc, base_of(path), path, text)?)?;
+    files.push(unit_file(alloc, Origin::Written, base_of(path), path, text)?)?;
     for number in 0..MAX_FILES {
         if number >= files.len() {
             break;
         }
         gather_included(alloc, places, number, &mut files)?;
+    }
+    if places.options.has_macros() {
+        let text = made_text(alloc, places.options, base_of(path))?;
+        files.push(unit_file(alloc, Origin::Made, MADE_FILE, "", text.into_bytes())?)?;
     }
     Ok(files)
 }
@@ -136,7 +154,7 @@ fn find<H: Host>(
     match builtin(name) {
         Some(text) => {
             let text = Vec::from_slice(alloc, text)?;
-            Ok(Some(unit_file(alloc, name, "", text)?))
+            Ok(Some(unit_file(alloc, Origin::BuiltIn, name, "", text)?))
         }
         None => Ok(None),
     }
@@ -150,7 +168,7 @@ fn find_in<H: Host>(
 ) -> Result<Option<UnitFile>, AllocError> {
     let path = joined(alloc, folder, name)?;
     match text_at_path(alloc, places, path.as_str())? {
-        Some(text) => Ok(Some(unit_file(alloc, name, path.as_str(), text)?)),
+        Some(text) => Ok(Some(unit_file(alloc, Origin::Written, name, path.as_str(), text)?)),
         None => Ok(None),
     }
 }
@@ -169,8 +187,15 @@ fn text_at_path<H: Host>(
     places.host.read(alloc, path)
 }
 
-fn unit_file(alloc: Global, name: &str, path: &str, text: Vec<u8>) -> Result<UnitFile, AllocError> {
+fn unit_file(
+    alloc: Global,
+    origin: Origin,
+    name: &str,
+    path: &str,
+    text: Vec<u8>,
+) -> Result<UnitFile, AllocError> {
     Ok(UnitFile {
+        origin,
         name: String::from_str(alloc, name)?,
         path: String::from_str(alloc, path)?,
         uri: uri_of(alloc, path)?,
@@ -210,7 +235,7 @@ fn plain_name(spelling: &[u8]) -> Option<&str> {
 pub(crate) fn set_of(alloc: Global, files: &[UnitFile]) -> Result<FileSet, AllocError> {
     let mut set = FileSet::new(alloc);
     for file in files {
-        if !file.path.is_empty() {
+        if file.origin != Origin::BuiltIn {
             let text = Vec::from_slice(alloc, file.text.as_slice())?;
             match set.add(file.name.as_str(), text) {
                 Ok(()) => {}
@@ -230,9 +255,32 @@ pub(crate) fn names_of<'f>(
 ) -> Result<Vec<&'f str>, AllocError> {
     let mut names = Vec::new(alloc);
     for file in files {
-        if !file.path.is_empty() {
+        if file.origin != Origin::BuiltIn {
             names.push(file.name.as_str())?;
         }
     }
     Ok(names)
+}
+
+/// The program of these files for the host; `None` where there is none.
+pub(crate) fn unit_of<'f>(
+    files: &'f [UnitFile],
+    set: &'f FileSet,
+    names: &'f [&'f str],
+    stack: u32,
+) -> Option<Unit<'f>> {
+    let given = files.first()?.name.as_str();
+    let last = files.last()?;
+    let main = if last.origin == Origin::Made {
+        last.name.as_str()
+    } else {
+        given
+    };
+    Some(Unit {
+        set,
+        names,
+        main,
+        given,
+        stack,
+    })
 }

@@ -1,7 +1,8 @@
 //! The names of a program, as requests look at them.
 
-use crate::unit_files::UnitFile;
-use lsp_names::{Index, Place, Source};
+use crate::unit_files::{Origin, UnitFile};
+use lsp_budget::work_of;
+use lsp_names::{Index, Place, Source, Symbol, SymbolKind};
 use lsp_text::{Encoding, Position, Span};
 use std::alloc::{AllocError, Global};
 
@@ -11,7 +12,12 @@ pub(crate) struct View {
     pub(crate) files: Vec<UnitFile>,
     pub(crate) index: Index,
     pub(crate) encoding: Encoding,
+    /// The work of its preprocessing, as `lsp_budget::work_of` estimates it.
+    pub(crate) work: u64,
 }
+
+/// The work up to which a program is given to the compiler: some seconds.
+pub(crate) const MAX_WORK: u64 = 16_000_000;
 
 impl View {
     /// Looks at the files of a program.
@@ -21,11 +27,34 @@ impl View {
         encoding: Encoding,
     ) -> Result<View, AllocError> {
         let index = index_of(alloc, files.as_slice())?;
+        let work = work_of(alloc, &index, files.len())?;
         Ok(View {
             files,
             index,
             encoding,
+            work,
         })
+    }
+
+    /// Whether the program is given to the compiler.
+    pub(crate) fn is_within_budget(&self) -> bool {
+        self.work <= MAX_WORK
+    }
+
+    /// The path of the main file; empty where there is none.
+    pub(crate) fn root(&self) -> &str {
+        match self.files.first() {
+            Some(file) => file.path.as_str(),
+            None => "",
+        }
+    }
+
+    /// The name under which a file is included.
+    pub(crate) fn file_name(&self, number: usize) -> &str {
+        match self.files.get(number) {
+            Some(file) => file.name.as_str(),
+            None => "",
+        }
     }
 
     /// The number of the file with this URI.
@@ -36,6 +65,16 @@ impl View {
         self.files
             .iter()
             .position(|file| file.path.as_str() == path)
+    }
+
+    /// Whether `(` stands directly behind the name of a macro where it is defined.
+    pub(crate) fn has_parameters(&self, symbol: &Symbol) -> bool {
+        let behind = Place {
+            file: symbol.at.file,
+            start: symbol.at.end,
+            end: symbol.at.end.saturating_add(1),
+        };
+        symbol.kind == SymbolKind::Macro && self.bytes(behind) == b"(".as_slice()
     }
 
     /// The offset of a position in a file.
@@ -54,17 +93,31 @@ impl View {
             Some(file) => {
                 file.lines.span(file.text.as_slice(), place.start, place.end, self.encoding)
             }
-            None => Span {
-                start: Position {
-                    line: 0,
-                    character: 0,
-                },
-                end: Position {
-                    line: 0,
-                    character: 0,
-                },
-            },
+            None => beginning(),
         }
+    }
+
+    /// The path of a file; empty where no person wrote it.
+    pub(crate) fn path(&self, number: usize) -> &str {
+        match self.files.get(number) {
+            Some(file) => file.path.as_str(),
+            None => "",
+        }
+    }
+
+    /// The bytes of a line before an offset in it.
+    pub(crate) fn line_before(&self, number: usize, offset: usize) -> &[u8] {
+        let Some(file) = self.files.get(number) else {
+            return &[];
+        };
+        let begin = Position {
+            line: u32::try_from(file.lines.line_of(offset)).unwrap_or(u32::MAX),
+            character: 0,
+        };
+        let start = file
+            .lines
+            .offset(file.text.as_slice(), begin, self.encoding);
+        file.text.as_slice().get(start..offset).unwrap_or_default()
     }
 
     /// The URI of a file; `None` for a built-in header.
@@ -89,6 +142,7 @@ impl View {
     }
 }
 
+/// The names, from the main file on, or from the one that has the macros of the options.
 fn index_of(alloc: Global, files: &[UnitFile]) -> Result<Index, AllocError> {
     let mut sources = Vec::new(alloc);
     for file in files {
@@ -97,5 +151,18 @@ fn index_of(alloc: Global, files: &[UnitFile]) -> Result<Index, AllocError> {
             text: file.text.as_slice(),
         })?;
     }
-    Index::of(alloc, sources.as_slice(), 0)
+    let main = match files.iter().position(|file| file.origin == Origin::Made) {
+        Some(number) => number,
+        None => 0,
+    };
+    Index::of(alloc, sources.as_slice(), main)
+}
+
+/// What stands before the first character of a file.
+pub(crate) fn beginning() -> Span {
+    let start = Position {
+        line: 0,
+        character: 0,
+    };
+    Span { start, end: start }
 }

@@ -3,8 +3,6 @@
 
 mod document;
 mod line_table;
-#[cfg(test)]
-mod tests;
 mod units;
 
 pub use document::Document;

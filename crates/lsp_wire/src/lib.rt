@@ -5,8 +5,6 @@ mod framing;
 mod json_text;
 mod message;
 mod reply;
-#[cfg(test)]
-mod tests;
 
 pub use framing::{Frame, Inbox, MAX_BODY_BYTES, MAX_HEADER_BYTES, framed};
 pub use json_text::{put_bool, put_number, put_string};

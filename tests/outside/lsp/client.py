@@ -39,7 +39,7 @@ class Session:
     """A recorded session: what a client sends, in its order."""
 
     def __init__(self, folder, options=None, encodings=None):
-        self.folder, self.sent, self.number = folder, [], 0
+        self.folder, self.options, self.sent, self.number = folder, options or {}, [], 0
         params = dict(INITIALIZE, rootUri=self.uri(''))
         if options:
             params['initializationOptions'] = options

@@ -1,0 +1,36 @@
+//! The typed program of a set of files.
+
+use cc::{StackSize, checked_program};
+use srcset::{Code, Fault, FileSet, Names};
+use std::alloc::{AllocError, Global};
+use typed_ast::Program;
+
+/// A typed program, with the names that it is told in.
+#[derive(Drop)]
+pub(crate) struct Checked {
+    pub(crate) names: Names,
+    pub(crate) program: Program,
+}
+
+/// The typed program of a set; `None` where the compiler refuses it.
+pub(crate) fn checked(
+    alloc: Global,
+    set: &FileSet,
+    main: &str,
+    stack: StackSize,
+) -> Result<Option<Checked>, AllocError> {
+    let mut names = Names::new(alloc);
+    match checked_program(alloc, set, main, &mut names, stack) {
+        Ok(program) => Ok(Some(Checked { names, program })),
+        Err(fault) => none_of(&fault),
+    }
+}
+
+/// What is known of files that the compiler refuses: nothing, but want of memory is told.
+pub(crate) fn none_of<T>(fault: &Fault) -> Result<Option<T>, AllocError> {
+    if fault.code == Code::OutOfMemory.number() {
+        Err(AllocError)
+    } else {
+        Ok(None)
+    }
+}

@@ -1,0 +1,132 @@
+//! The values of integer constant expressions (ISO/IEC 9899:2011 6.6), which the compiler computes as initialisers behind the program.
+
+use crate::checking::{Checked, checked};
+use crate::sources::stack_of;
+use lsp_server::Unit;
+use srcset::{Code, Fault, FileSet};
+use std::alloc::{AllocError, Global};
+
+/// The name of the file that has the initialisers, and that of the object.
+const FILE: &str = "values of constants";
+
+const OBJECT: &str = "zkc_value_of_constant";
+
+/// How many bytes an expression may have.
+const MAX_EXPRESSION: usize = 2_000;
+
+/// The values of a type of 32 bits.
+const WRAP: i64 = 0x1_0000_0000;
+
+/// The value of an expression, whose tokens have spaces between, behind the whole program. No name in it is a macro, unless `are_replaced`. `None` where the
+/// compiler takes it as no integer constant expression.
+pub fn value_of(
+    alloc: Global,
+    unit: Unit<'_>,
+    expression: &str,
+    are_replaced: bool,
+) -> Result<Option<i64>, AllocError> {
+    if expression.is_empty() || expression.len() > MAX_EXPRESSION || !is_closed(expression) {
+        return Ok(None);
+    }
+    let Some(set) = with_probe(alloc, unit, expression, are_replaced)? else {
+        return Ok(None);
+    };
+    match checked(alloc, &set, FILE, stack_of(unit))? {
+        Some(whole) => Ok(value_in(&whole)),
+        None => Ok(None),
+    }
+}
+
+/// Whether each `)` of a text closes a `(` of it, so that it stays one expression in parentheses.
+fn is_closed(text: &str) -> bool {
+    let mut depth: usize = 0;
+    for byte in text.as_bytes() {
+        if *byte == b'(' {
+            depth = depth.saturating_add(1);
+        } else if *byte == b')' {
+            if depth == 0 {
+                return false;
+            }
+            depth = depth.saturating_sub(1);
+        }
+    }
+    depth == 0
+}
+
+/// The files of the program, with one that includes it and has the expression; `None` where a set does not take one of them.
+fn with_probe(
+    alloc: Global,
+    unit: Unit<'_>,
+    expression: &str,
+    are_replaced: bool,
+) -> Result<Option<FileSet>, AllocError> {
+    let mut set = FileSet::new(alloc);
+    for name in unit.names {
+        let bytes = Vec::from_slice(alloc, unit.set.get(name).unwrap_or_default())?;
+        if !is_added(set.add(name, bytes))? {
+            return Ok(None);
+        }
+    }
+    let text = probe_text(alloc, unit.main, expression, are_replaced)?;
+    if is_added(set.add(FILE, text.into_bytes()))? {
+        Ok(Some(set))
+    } else {
+        Ok(None)
+    }
+}
+
+/// Whether a set took a file; want of memory is told.
+fn is_added(answer: Result<(), Fault>) -> Result<bool, AllocError> {
+    match answer {
+        Ok(()) => Ok(true),
+        Err(fault) => if fault.code == Code::OutOfMemory.number() {
+            Err(AllocError)
+        } else {
+            Ok(false)
+        },
+    }
+}
+
+/// The text of that file: two elements, whether the value is negative and its bits.
+fn probe_text(
+    alloc: Global,
+    main: &str,
+    expression: &str,
+    are_replaced: bool,
+) -> Result<String, AllocError> {
+    let mut text = format!(in alloc; "#include \"{main}\"\n")?;
+    for name in expression.split(' ') {
+        if !are_replaced && is_name(name) {
+            text.push_str(format!(in alloc; "#undef {name}\n")?.as_str())?;
+        }
+    }
+    text.push_str(format!(in alloc;
+        "static const unsigned long {OBJECT}[2] = {{ ({expression}) < 0, ({expression}) }};\n"
+    )?.as_str())?;
+    Ok(text)
+}
+
+/// Whether a token begins as an identifier does.
+fn is_name(token: &str) -> bool {
+    match token.chars().next() {
+        Some(first) => first.is_ascii_alphabetic() || first == '_',
+        None => false,
+    }
+}
+
+/// What the object says.
+fn value_in(whole: &Checked) -> Option<i64> {
+    let object = whole
+        .program
+        .statics
+        .iter()
+        .find(|object| whole.names.shown_text(object.name) == OBJECT)?;
+    // Elements behind the last that is written are zero.
+    let is_negative = object.values.first().copied().unwrap_or(0) != 0;
+    let bits = object.values.get(1).copied().unwrap_or(0);
+    if is_negative {
+        bits.checked_sub(WRAP)
+    } else {
+        Some(bits)
+    }
+}

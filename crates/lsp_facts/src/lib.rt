@@ -1,0 +1,16 @@
+//! What the compiler knows of the names of a program: types, values, expansions of macros, weights and frames.
+#![tactic(auto)]
+
+mod checking;
+mod constants;
+mod declarators;
+mod expansion;
+mod functions;
+mod objects;
+mod sources;
+mod types;
+
+pub use constants::value_of;
+pub use expansion::expansion_of;
+pub use functions::function_fact;
+pub use objects::object_fact;

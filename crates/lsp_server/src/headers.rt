@@ -1,0 +1,79 @@
+//! Names of headers: the built-in ones, and the files of the folders in which an `#include` looks.
+
+use crate::host::Host;
+use crate::paths::{folder_of, joined};
+use crate::server::Server;
+use srcset::builtin;
+use std::alloc::AllocError;
+
+/// The built-in headers.
+const BUILT_IN: [&str; 4] = ["iso646.h", "limits.h", "rvio.h", "stdbool.h"];
+
+/// How many names are offered at most.
+const MAX_NAMES: usize = 2_000;
+
+impl<H: Host + Drop> Server<H> {
+    /// The names that may stand in angle brackets.
+    pub(crate) fn bracketed_names(&self) -> Result<Vec<String>, AllocError> {
+        let mut names = Vec::new(self.alloc);
+        for name in BUILT_IN.as_slice() {
+            if builtin(name).is_some() {
+                names.push(String::from_str(self.alloc, name)?)?;
+            }
+        }
+        Ok(names)
+    }
+
+    /// The last parts of names that may stand in quotes in the file at a path, behind the folders that are written already: those of sources and of folders
+    /// with a `/` behind them.
+    pub(crate) fn quoted_names(
+        &self,
+        path: &str,
+        written: &str,
+    ) -> Result<Vec<String>, AllocError> {
+        let mut names = if written.contains('/') {
+            Vec::new(self.alloc)
+        } else {
+            self.bracketed_names()?
+        };
+        let below = folder_of(written);
+        self.put_entries(folder_of(path), below, &mut names)?;
+        for folder in &self.options.folders {
+            self.put_entries(folder.as_str(), below, &mut names)?;
+        }
+        Ok(names)
+    }
+
+    /// Puts what a folder below another one has, each name once.
+    fn put_entries(
+        &self,
+        folder: &str,
+        below: &str,
+        names: &mut Vec<String>,
+    ) -> Result<(), AllocError> {
+        let path = if below.is_empty() {
+            String::from_str(self.alloc, folder)?
+        } else {
+            joined(self.alloc, folder, below)?
+        };
+        for entry in self.host.entries(self.alloc, path.as_str())? {
+            if is_offered(entry.as_str()) && names.len() < MAX_NAMES {
+                put_once(entry, names)?;
+            }
+        }
+        Ok(())
+    }
+}
+
+/// Whether a name is that of a source or a folder, and not hidden.
+fn is_offered(entry: &str) -> bool {
+    let is_source = entry.ends_with(".h") || entry.ends_with(".c") || entry.ends_with(".inc");
+    !entry.starts_with(".") && (is_source || entry.ends_with("/"))
+}
+
+fn put_once(entry: String, names: &mut Vec<String>) -> Result<(), AllocError> {
+    if !names.iter().any(|name| name.as_str() == entry.as_str()) {
+        names.push(entry)?;
+    }
+    Ok(())
+}
