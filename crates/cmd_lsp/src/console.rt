@@ -17,6 +17,9 @@ use verify_report::{Asked as Verified, verify_sources};
 /// How many faults of a program are told at most.
 const MAX_FAULTS: usize = 10;
 
+/// How many steps an analysis of a program that is saved takes at most: a second or two.
+const VERIFY_EFFORT: u64 = 3_000_000;
+
 /// The process in which a server runs.
 #[derive(Drop)]
 pub(crate) struct Console<'a> {
@@ -189,6 +192,7 @@ fn unverified(alloc: Global, unit: Unit<'_>) -> Result<String, AllocError> {
         main: unit.main,
         given: unit.given,
         stack: stack_of(unit),
+        effort: VERIFY_EFFORT,
         form: ReportForm::Json,
         version: plain_version(),
     };
