@@ -1,7 +1,5 @@
 -- The laws of a built file, joined.
-use Rattle.std.proofs.Common.{◌≡◌, ◌<◌, ◌≤◌, ℕ, List, length, Ok, refl, sym, ap, ◌∙◌, subst}
-use Rattle.srcset.specs.Files.{Files}
-use Rattle.srcset.specs.declared.refusal.Pos.{Pos}
+use Rattle.std.proofs.Common.{◌≡◌, ℕ, List, Ok, sym, ◌∙◌, subst}
 use Rattle.srcset.specs.NameTable.{Texts}
 use Rattle.tree.specs.Tree.{ExternalTree}
 use Rattle.loader.specs.File.{Image, file_image}
@@ -9,9 +7,7 @@ use Rattle.typing_spec.specs.Program.{Program}
 use Rattle.typing_spec.specs.Verdict.{fine}
 use Rattle.cc_backend.specs.Runs.{RunsAs, IsInput}
 use Rattle.cc_backend.specs.Made.{IsFileOf}
-use Rattle.cc.specs.declared.compiling.Built.{Built}
 use Rattle.cc.specs.Compiled.{typed_at}
-use Rattle.cc.specs.Made.{IsMade}
 use Rattle.cc_laws.specs.Laws.{StaysDefined, HasImage, HasMain, CallsAreKept, MainIsKept}
 use Rattle.cc_laws.proofs.Instants.{Serves, by_weights, by_frames}
 use Rattle.cc_laws.proofs.Whole as whole
@@ -22,7 +18,7 @@ use Rattle.cc_laws.proofs.Overflowing.{files_go_up_to_overflow}
 use Rattle.cc_laws.proofs.ByFrames.{files_run_within_frames, files_keep_convention_within_frames}
 use Rattle.cc_laws.proofs.Inputs.{does_all_so_far}
 use Rattle.cc_laws.proofs.Reserved.{files_leave_reserved}
-use Rattle.cc_theorem.specs.Theorem.{DoesTheSame, OnInput, TheTheorem}
+use Rattle.cc_theorem.specs.Theorem.{DoesTheSame, TheTheorem}
 
 -- a file has one image
 of_one : (file : List ℕ) (Promise : Image → Type 0) → (has : HasImage file Promise) → (image : Image) → file_image file ≡ Ok image → Promise image

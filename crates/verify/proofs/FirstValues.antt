@@ -1,12 +1,11 @@
 -- An object with static storage that has a value for each element has these values alone (6.7.9p10, p21).
-use Rattle.std.proofs.Common.{◌≡◌, ◌≤◌, ◌+◌, ◌*◌, ℕ, zero, suc, ℤ, List, [], ◌∷◌, length, refl, sym, ap, subst, arith}
+use Rattle.std.proofs.Common.{◌≡◌, ◌≤◌, ◌+◌, ◌*◌, ℕ, zero, suc, ℤ, List, [], ◌∷◌, length, refl, sym, ap, ◌∙◌, subst, mul_assoc, arith}
 use Rattle.std.specs.Prelude.{drop, true}
 use Rattle.std.proofs.Math.Nat.{suc-mul}
 use Rattle.typing_spec.specs.Types.{elements_in}
-use Rattle.typing_spec.specs.Program.{Static}
 use Rattle.typed_ast.specs.declared.units.Static as held
 use Rattle.typed_ast.specs.View.{static_of}
-use Rattle.csem.specs.Store.{Tree, Row, parts, first_or_zero, row_of, laid_out, static_object}
+use Rattle.csem.specs.Store.{Tree, parts, first_or_zero, row_of, laid_out, static_object}
 use Rattle.verify_logic.specs.declared.abstract_values.Interval.{Interval}
 use Rattle.verify_logic.specs.declared.abstract_values.AbsValue.{AbsValue}
 use Rattle.verify_logic.specs.States.{In, EachPart, TreeIs}
@@ -49,3 +48,8 @@ known_whole k i o values ev ek le h =
     let P : AbsValue → Type 0 = λ k. TreeIs k (static_of o).type.lengths (static_object (static_of o)) in
     let Q : List ℤ → Type 0 = EachIn i in
     subst P (sym ek) (laid_out_whole (record { initialised = true; interval = i }) (static_of o).type.lengths (static_of o).values le (subst Q ev h))
+
+-- one more length is counted
+pub counted : (rows n product : ℕ) (rest more lengths : List ℕ) → rest ≡ n ∷ more → product ≡ rows * n → rows * elements_in rest ≡ elements_in lengths → product * elements_in more ≡ elements_in lengths
+counted rows n product rest more lengths er ep h =
+    ap (λ k. k * elements_in more) ep ∙ (mul_assoc rows n (elements_in more) ∙ (ap (λ xs. rows * elements_in xs) (sym er) ∙ h))
