@@ -110,9 +110,9 @@ function breakAt(address) {
 
 // A run that ended may have been undefined: then it is said, and where.
 async function whenEnded() {
-  const turn = session.turn, given = input(), got = await ask('interpret', ...program(), given, TICKS);
+  const turn = session.turn, got = await ask('interpret', ...program(), input(), TICKS);
   if (turn !== session.turn || got.answer?.status !== 123 || got.answer.message === '') return;
-  await why.undefinedAct(got.answer.message, given);
+  await why.undefinedAct(got.answer.message);
   say(`The file ended, but its meaning is undefined: ${got.answer.message.trim()}.`);
 }
 

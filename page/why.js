@@ -1,4 +1,4 @@
-// What the second module says of a program: why it is refused, its warnings, and which operators are shown to be defined on every input.
+// What the other modules say of a program: why it is refused, its warnings, and which operators are shown to be defined on every input.
 import { $, text } from './dom.js';
 import { ask, askWhy } from './asking.js';
 import { STACK, program, session } from './session.js';
@@ -8,7 +8,7 @@ import { lineOf } from './sources.js';
 const CHECKED = { binary: ['+', '-', '*', '/', '%', '<<', '>>'], compound: ['+', '-', '*', '/', '%', '<<', '>>'], unary: ['-'], prefix: ['++', '--'], postfix: ['++', '--'] };
 const key = ({ file, line }) => `${file}:${line}`;
 
-// What a call of the second module answers, as objects, with its status; nothing where it is old or not to be had.
+// What a call of theirs answers, as objects, with its status; nothing where it is old or not to be had.
 async function told(what, ...more) {
   const turn = session.turn, got = await askWhy(what, ...program(), ...more);
   if (turn !== session.turn || got.stopped) return undefined;
@@ -94,14 +94,12 @@ export async function verify() {
 
 // ---- the undefined act of a run
 
-// The act that `zk_interpret` told, with the operator and its values where the second module knows them.
-export async function undefinedAct(message, input) {
+// The act that `zk_interpret` told, at the operator and with the values of the one such place that verifying has in its line, if it has one.
+export async function undefinedAct(message) {
   const found = /^(.*):(\d+): undefined (U\d)\n$/.exec(message);
   if (!found) return;
   const [, file, line, code] = found, plain = { file, line: Number(line), column: null, end: null, code, text: 'undefined: what the file does from here on is promised to nobody', token: '', notes: [] };
   findings.set('run', [plain]);
-  const exact = await told('explainRun', STACK, input);
-  if (exact?.list.length > 0) return findings.set('run', exact.list);
   const places = (await told('verify', STACK))?.list.filter(one => one.file === file && one.line === plain.line && one.code === code) ?? [];
-  if (places.length === 1) findings.set('run', [{ ...places[0], text: plain.text, notes: places[0].notes }]);
+  if (places.length === 1) findings.set('run', [{ ...places[0], text: plain.text }]);
 }
