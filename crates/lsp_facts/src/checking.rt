@@ -13,7 +13,7 @@ pub(crate) struct Checked {
 }
 
 /// The typed program of a set; `None` where the compiler refuses it.
-pub(crate) fn checked(
+pub(crate) fn check_program(
     alloc: Global,
     set: &FileSet,
     main: &str,

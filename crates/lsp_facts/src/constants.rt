@@ -1,6 +1,6 @@
 //! The values of integer constant expressions (ISO/IEC 9899:2011 6.6), which the compiler computes as initialisers behind the program.
 
-use crate::checking::{Checked, checked};
+use crate::checking::{Checked, check_program};
 use crate::sources::stack_of;
 use lsp_server::Unit;
 use srcset::{Code, Fault, FileSet};
@@ -31,7 +31,7 @@ pub fn value_of(
     let Some(set) = with_probe(alloc, unit, expression, are_replaced)? else {
         return Ok(None);
     };
-    match checked(alloc, &set, FILE, stack_of(unit))? {
+    match check_program(alloc, &set, FILE, stack_of(unit))? {
         Some(whole) => Ok(value_in(&whole)),
         None => Ok(None),
     }

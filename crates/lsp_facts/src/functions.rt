@@ -1,6 +1,6 @@
 //! Functions: their types, and what they take of the stack.
 
-use crate::checking::{Checked, checked, none_of};
+use crate::checking::{Checked, check_program, none_of};
 use crate::sources::stack_of;
 use crate::types::function_text;
 use cc::compile_with;
@@ -34,7 +34,7 @@ pub fn function_fact(
 }
 
 fn type_of(alloc: Global, unit: Unit<'_>, name: &str) -> Result<Option<String>, AllocError> {
-    let Some(whole) = checked(alloc, unit.set, unit.main, stack_of(unit))? else {
+    let Some(whole) = check_program(alloc, unit.set, unit.main, stack_of(unit))? else {
         return Ok(None);
     };
     match whole.function(name) {

@@ -1,6 +1,6 @@
 //! Objects and parameters: their types, and the values of those that are constant.
 
-use crate::checking::{Checked, checked};
+use crate::checking::{Checked, check_program};
 use crate::declarators::declarators;
 use crate::sources::{files_of, stack_of};
 use crate::types::{object_text, parameter_text};
@@ -21,7 +21,7 @@ pub fn object_fact(
     let Some(set) = files.laid_set(alloc)? else {
         return Ok(None);
     };
-    let Some(whole) = checked(alloc, &set, unit.main, stack_of(unit))? else {
+    let Some(whole) = check_program(alloc, &set, unit.main, stack_of(unit))? else {
         return Ok(None);
     };
     match declared.parameter {
