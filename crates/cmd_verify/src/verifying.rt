@@ -16,11 +16,7 @@ const NO_STREAM: &str = "the verdict goes to standard output: -o OUT wants a pat
 
 /// Tells whether a program does anything undefined, on any input, and how much of its stack it takes, and where it is defined and its stack suffices writes its executable
 /// file at the path that is given; answers the exit status: 0 where it is defined and the stack suffices, 3 where that was not shown, 1 where the program is refused.
-pub fn verify_program(
-    rt: &HostRuntime,
-    program: &Program<'_>,
-    words: &VerifyWords<'_>,
-) -> u8 {
+pub fn verify_program(rt: &HostRuntime, program: &Program<'_>, words: &VerifyWords<'_>) -> u8 {
     let telling = words.telling;
     let path = words.out.unwrap_or_default();
     if path == "-" {

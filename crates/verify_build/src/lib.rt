@@ -110,10 +110,7 @@ fn within(bound: &Bound, built: Built, stack: StackSize) -> Option<Verified>
 {
     match bound {
         Bound::AtMost(most) => if *most <= u64::from(stack.get()) {
-            Some(Verified {
-                built,
-                most: *most,
-            })
+            Some(Verified { built, most: *most })
         } else {
             None
         },

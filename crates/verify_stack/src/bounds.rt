@@ -90,11 +90,7 @@ fn tested_recursion(
 /// recursion, the greatest sum of sizes along calls from main.
 ///
 /// Errors: memory ran out.
-pub fn stack_bound_by(
-    alloc: Global,
-    program: &Program,
-    sizes: &[u64],
-) -> Result<Bound, AllocError>
+pub fn stack_bound_by(alloc: Global, program: &Program, sizes: &[u64]) -> Result<Bound, AllocError>
     ensures { IfOk result (λ b. Says (size_in sizes.now) (program_of program.now) b) }
 {
     match find_usages(alloc, program, sizes)? {

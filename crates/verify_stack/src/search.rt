@@ -177,11 +177,7 @@ fn nothing(alloc: Global, count: usize) -> Result<Progress, AllocError> {
 /// Searches a program from main on. It takes a turn for each function, and two for each call.
 ///
 /// Errors: memory ran out.
-pub fn find_usages(
-    alloc: Global,
-    program: &Program,
-    sizes: &[u64],
-) -> Result<Found, AllocError> {
+pub fn find_usages(alloc: Global, program: &Program, sizes: &[u64]) -> Result<Found, AllocError> {
     let mut progress = nothing(alloc, program.functions.len())?;
     begin(alloc, program, sizes, &mut progress, program.main)?;
     // The search ends long before so many turns: that it ends at all is plain from the range.
