@@ -24,6 +24,9 @@ passed = failed = 0
 
 # Defined on every input by C, and by means that an analysis of intervals has.
 DEFINED = {
+    'a static that is not 0': 'static int scale = 7;\nint main(void) { return 100 / scale; }',
+    'a table without 0': 'int rv_getbyte(void);\nstatic const int table[4] = { 1, 2, 4, 8 };\nint main(void) { return 100 / table[rv_getbyte() & 3]; }',
+    'rows without 0': 'int rv_getbyte(void);\nstatic int m[2][2] = { { 1, 2 }, { 3, 4 } };\nint main(void) { return 100 / m[rv_getbyte() & 1][1]; }',
     'constant': 'int main(void) { return 1 + 2 * 3; }',
     'loop': 'int main(void) { int i = 0; while (i < 10) i = i + 1; return 100 / i; }',
     'for': 'int main(void) { unsigned s = 0; for (int i = 0; i < 100; i++) s += i; return s & 127; }',
@@ -62,6 +65,8 @@ DEFINED = {
 }
 # The line of an act that some input meets.
 UNDEFINED = {
+    'a table whose last element is left out': ('static int t[3] = { 1, 2 };\nint main(void) {\n  return 1 / t[2]; }', 3),
+    'rows of which one is short': ('static int m[2][2] = { { 1, 2 }, { 3 } };\nint main(void) {\n  return 1 / m[1][1]; }', 3),
     'overflow': ('int rv_getbyte(void);\nint main(void) { int s = 2147483600;\n  s += rv_getbyte();\n  return s; }', 3),
     'division': ('int rv_getbyte(void);\nint main(void) {\n  return 10 / (rv_getbyte() - 65);\n}', 3),
     'unset': ('int main(void) { int x;\n  return x; }', 2),
