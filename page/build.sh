@@ -28,7 +28,7 @@ clang=$KIT/toolchain/bin/clang
 flags='--target=wasm64-unknown-unknown -mbulk-memory -msign-ext'
 features='--enable-memory64 --enable-bulk-memory --enable-sign-ext --enable-mutable-globals --enable-multivalue'
 layout='e-m:e-p:64:64-p10:8:8-p20:8:8-i64:64-i128:128-n32:64-S128-ni:1:10:20'
-compiler='build build_with functions image frames preprocess list form interpret run step machine_size machine_place machine_ask machine_clear message version malloc free'
+compiler='build build_with functions image frames preprocess list form interpret run step trace machine_size machine_place machine_ask machine_clear message version malloc free'
 explainer='explain warn message version malloc free'
 analyser='verify trace message version malloc free'
 
