@@ -396,7 +396,7 @@ def notebook(work):
     if call([sys.executable, '-c', 'import IPython'], work)[0] != 0:
         return leave_out('the magic: no IPython')
     status, out, err = call([sys.executable, '-c', NOTEBOOK % (os.path.join(ROOT, 'bindings', 'python'), os.path.join(OUT, 'libzikorape.so'))], work, IPYTHONDIR=work)
-    wanted = ['AB\0Cstatus 42', 'cell.c:1:25: 528 undeclared name', 'cell.c:1: undefined U6', 'cell.c: verdict defined on every input; stack at most 128 of 1048576 bytes']
+    wanted = ['AB\0Cstatus 42', 'cell.c:1:25: 528 undeclared name', 'cell.c:1: undefined U6', 'cell.c: verdict defined on every input; stack at most 16 of 1048576 bytes']
     lines = out.split('\n')
     check('the magic', status == 0 and lines[:4] == wanted and lines[4].startswith('cell.c:2:27: U2 may be undefined: division by zero'), out, err)
 
