@@ -91,6 +91,7 @@ complete -c zkc -n '__fish_seen_subcommand_from verify' -s o -r -d 'Builds the p
 complete -c zkc -n '__fish_seen_subcommand_from verify' -l json -d 'One JSON object a fault, on standard output'
 complete -c zkc -n '__fish_seen_subcommand_from verify' -l sarif -d 'A SARIF 2.1.0 log, on standard output'
 complete -c zkc -n '__fish_seen_subcommand_from verify' -l stack -x -d 'The bytes of the stack, a multiple of 4096, as 65536, 64K or 1M [default: 1048576]'
+complete -c zkc -n '__fish_seen_subcommand_from verify' -l effort -x -d 'At most this many steps of the analysis [default: 15000000]'
 complete -c zkc -n '__fish_seen_subcommand_from verify' -s I -r -d 'Reads what is included too: beside the including file, or in this folder'
 complete -c zkc -n '__fish_seen_subcommand_from verify' -s D -r -d 'Defines a macro, as 1 where there is no value'
 complete -c zkc -n '__fish_seen_subcommand_from verify' -s U -r -d 'Leaves the definition of a macro out'
