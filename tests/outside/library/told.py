@@ -207,9 +207,10 @@ def in_c(counted, runs, out, work):
         path = os.path.join(work, 'main.c')
         with open(path, 'wb') as file:
             file.write(files[0][1])
+        as_main = lines.replace(b'"file":"%s"' % files[0][0].encode(), b'"file":"main.c"')
         for slice in (7, 5000):
             done = subprocess.run([traced, path, str(slice), str(MAX)], input=input, capture_output=True, timeout=300)
-            counted.holds('%s told from C by %d' % (name, slice), (done.returncode, done.stdout, done.stderr.decode()) == (status, lines, message.replace(files[0][0], 'main.c')), done.stderr)
+            counted.holds('%s told from C by %d' % (name, slice), (done.returncode, done.stdout, done.stderr.decode()) == (status, as_main, message.replace(files[0][0], 'main.c')), done.stderr)
         built = zk.build(files, files[0][0])
         ran = zk.run(built.output, input) if built.status == 0 else None
         if ran is None or ran.message:
