@@ -263,6 +263,9 @@ def packages():
     if not os.path.exists(os.path.join(ROOT, 'release', 'cc')):
         counted.skip(1, 'release/cc is missing')
         return
+    if not (shutil.which('tar') and shutil.which('gzip')):
+        counted.skip(3, 'tar or gzip is missing')
+        return
     with tempfile.TemporaryDirectory() as work:
         done = subprocess.run(['sh', os.path.join(ROOT, 'release', 'pack.sh'), work], capture_output=True, check=False)
         made = sorted(os.listdir(work))
