@@ -243,7 +243,7 @@ LINES = [
     ('#include "', {'rvio.h', 'table.h', 'table.c', 'more/'}, {'main', 'notes.txt', '.hidden.h'}),
     ('#include "ta', {'table.h', 'table.c'}, {'main'}),
     ('#include "more/', {'deep.h'}, {'rvio.h', 'table.h', 'more/'}),
-    ('#include "table.h" ', {'while'}, {'rvio.h'}),
+    ('#include "table.h" ', {'main', 'while'}, {'rvio.h'}),
     # main is declared behind this line, so it is not in scope (6.2.1p7)
     ('flat[0] = ', {'flat', 'CELL', 'while'}, {'include', 'rvio.h'}),
 ]
