@@ -18,8 +18,8 @@
    STATUS, as of the program zkc:
      0    done; zk_interpret and zk_run: the program's own status, 0 to 255
      1    a fault, which the message tells: FILE:LINE: CODE TEXT (docs/DIAGNOSTICS.md), or cc: 801 out of memory
-     123  zk_interpret, zk_trace: an undefined act; the message tells which, and where
-     124  zk_interpret, zk_trace, zk_run: the program goes on after so many ticks or instructions
+     123  zk_interpret, zk_trace, zk_explain_run: an undefined act; the message tells which, and where
+     124  zk_interpret, zk_trace, zk_explain_run, zk_run: the program goes on after so many ticks or instructions
      125  zk_run: a trap; the message tells which, and where
      126  zk_interpret, zk_trace, zk_run: memory ran out for the output
      256  the lengths of `files` do not add up to that of `texts`; zk_form: there is no such form
@@ -79,6 +79,13 @@ uint32_t zk_explain(const uint8_t *texts, size_t texts_length, const struct zk_f
                     const uint8_t *main, size_t main_length, uint32_t stack,
                     uint8_t *out, size_t out_length, uint8_t *message, size_t message_length, struct zk_sizes *sizes);
 
+/* What the program does undefined over this input, within at most `max` ticks of the abstract machine, as JSON: the object that `zkc explain interp --json` tells,
+   with the values that make the act undefined, and the calls that are active there. The status and the message are those of zk_interpret; the output is empty
+   where the run does nothing undefined, and so is the message where it does. */
+uint32_t zk_explain_run(const uint8_t *texts, size_t texts_length, const struct zk_file *files, size_t files_length,
+                        const uint8_t *main, size_t main_length, const uint8_t *input, size_t input_length, uint64_t max,
+                        uint8_t *out, size_t out_length, uint8_t *message, size_t message_length, struct zk_sizes *sizes);
+
 /* The bytes that an executable file, which a message calls by this name, loads: `form` 0 as they are from the first to the last, 1 as Intel's
    hexadecimal records, 2 as Verilog's $readmemh reads them; with another number the status is 256. */
 uint32_t zk_image(const uint8_t *file, size_t file_length, const uint8_t *name, size_t name_length, uint32_t form,
@@ -102,7 +109,7 @@ uint32_t zk_list(const uint8_t *texts, size_t texts_length, const struct zk_file
 
 /* A form that the compiler makes of the program between its phases, as JSON: a node is an object with `node` (its kind), attributes, `file` and `line`
    where it has a place, and `parts`. `form`: 0 the tokens after preprocessing, 1 the syntax tree, 2 the typed program, 3 three-address code,
-   4 flat code; with another number the status is 256. */
+   4 flat code, 5 the items that the file is assembled from; with another number the status is 256. */
 uint32_t zk_form(const uint8_t *texts, size_t texts_length, const struct zk_file *files, size_t files_length,
                  const uint8_t *main, size_t main_length, uint32_t form,
                  uint8_t *out, size_t out_length, uint8_t *message, size_t message_length, struct zk_sizes *sizes);

@@ -71,7 +71,7 @@ class Caller {
 }
 
 const compiler = new Caller('zikorape.wasm'), explainer = new Caller('diagnostics.wasm'), analyser = new Caller('analysis.wasm');
-const BY = { explain: explainer, warn: explainer, verify: analyser, trace: analyser };
+const BY = { explain: explainer, warn: explainer, verify: analyser, trace: analyser, explainRun: analyser };
 
 // Fetches the compiler's module, and starts its worker; `whether` is told whether something is under way.
 export function load(whether) {
@@ -87,7 +87,7 @@ async function call(caller, what, args) {
 // { answer }, with `here` where the page did it; { stopped } after `stop`; or { failed } where the engine has no stack for it at all.
 export const ask = (what, ...args) => call(compiler, what, args);
 
-// The same of the modules that explain, warn, verify and trace; { failed } too where they cannot be loaded.
+// The same of the modules that explain, warn, verify, trace and explain runs; { failed } too where they cannot be loaded.
 export async function askWhy(what, ...args) {
   try {
     await BY[what].load();

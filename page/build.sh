@@ -7,7 +7,7 @@
 #   WASM_OPT  wasm-opt of binaryen 108 (Debian's package binaryen): by default that on the PATH
 # The module is for x86-64; it is compiled for wasm64, linked with the page's own heap, and lowered to 32-bit addresses, which every
 # browser has. Three files are made of it: zikorape.wasm compiles, shows, runs and interprets; diagnostics.wasm explains and warns, analysis.wasm
-# verifies and traces, and these are fetched when that is first wanted: one with all would be too large. Of the first wasm-opt lowers the
+# verifies, traces and explains runs, and these are fetched when that is first wanted: one with all would be too large. Of the first wasm-opt lowers the
 # addresses and does nothing else: its -O2 makes code that is slower here and takes more of the engine's stack. The others are made for
 # their size.
 # shellcheck disable=SC2086 # flags, features and names are words
@@ -30,7 +30,7 @@ features='--enable-memory64 --enable-bulk-memory --enable-sign-ext --enable-muta
 layout='e-m:e-p:64:64-p10:8:8-p20:8:8-i64:64-i128:128-n32:64-S128-ni:1:10:20'
 compiler='build build_with functions image frames preprocess list form interpret run step trace machine_size machine_place machine_ask machine_clear message version malloc free'
 explainer='explain warn message version malloc free'
-analyser='verify trace message version malloc free'
+analyser='verify trace explain_run message version malloc free'
 
 # The same module for another target.
 "$clang" --target=x86_64-unknown-linux-gnu -x ir "$module" -S -emit-llvm -O0 -o native.ll

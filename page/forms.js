@@ -4,10 +4,10 @@ import { ask } from './asking.js';
 import { program, session } from './session.js';
 import * as joined from './joined.js';
 
-export const FORMS = { tokens: 0, tree: 1, typed: 2, tac: 3, flat: 4 };
+export const FORMS = { tokens: 0, tree: 1, typed: 2, tac: 3, flat: 4, items: 5 };
 const SHOWN = 4000;      // nodes; more are the program's to show
 const OPEN = 3;          // levels that begin open
-const PLAIN = new Set(['type', 'op', 'name', 'specifier', 'function', 'value', 'number', 'code', 'text', 'static']);
+const PLAIN = new Set(['type', 'op', 'name', 'specifier', 'function', 'value', 'number', 'at', 'code', 'text', 'static']);
 const HIDDEN = new Set(['node', 'parts', 'file', 'line']);
 
 let turn = -1, form = '', left = 0, trees = new Map();
@@ -88,7 +88,7 @@ function count(node) {
   return all;
 }
 
-// ---- the places of three-address code and of flat code
+// ---- the places of three-address code, of flat code and of items
 
 // An instruction without a place is of the statement that began last before it.
 function placeCode(tree) {
@@ -117,9 +117,9 @@ function placeFlat(flat, tac) {
 async function placed(number) {
   const got = await treeOf(number);
   if (!got?.tree || number < FORMS.tac) return got;
-  const tac = structuredClone((number === FORMS.tac ? got : await treeOf(FORMS.tac))?.tree ?? { parts: [] });
+  const tac = structuredClone((number === FORMS.flat ? await treeOf(FORMS.tac) : got)?.tree ?? { parts: [] });
   placeCode(tac);
-  if (number === FORMS.tac) return { tree: tac };
+  if (number !== FORMS.flat) return { tree: tac };
   const flat = structuredClone(got.tree);
   placeFlat(flat, tac);
   return { tree: flat };

@@ -112,7 +112,7 @@ function breakAt(address) {
 async function whenEnded() {
   const turn = session.turn, got = await ask('interpret', ...program(), input(), TICKS);
   if (turn !== session.turn || got.answer?.status !== 123 || got.answer.message === '') return;
-  await why.undefinedAct(got.answer.message);
+  await why.undefinedAct(got.answer.message, input(), TICKS);
   say(`The file ended, but its meaning is undefined: ${got.answer.message.trim()}.`);
 }
 

@@ -94,12 +94,12 @@ export async function verify() {
 
 // ---- the undefined act of a run
 
-// The act that `zk_interpret` told, at the operator and with the values of the one such place that verifying has in its line, if it has one.
-export async function undefinedAct(message) {
+// The act that `zk_interpret` told of a run over this input: at its operator, with the values that make it undefined and the calls that are active there.
+export async function undefinedAct(message, given, ticks) {
   const found = /^(.*):(\d+): undefined (U\d)\n$/.exec(message);
   if (!found) return;
-  const [, file, line, code] = found, plain = { file, line: Number(line), column: null, end: null, code, text: 'undefined: what the file does from here on is promised to nobody', token: '', notes: [] };
-  findings.set('run', [plain]);
-  const places = (await told('verify', STACK))?.list.filter(one => one.file === file && one.line === plain.line && one.code === code) ?? [];
-  if (places.length === 1) findings.set('run', [{ ...places[0], text: plain.text }]);
+  const [, file, line, code] = found, text = 'undefined: what the file does from here on is promised to nobody';
+  findings.set('run', [{ file, line: Number(line), column: null, end: null, code, text, token: '', notes: [] }]);
+  const [act] = (await told('explainRun', given, ticks))?.list ?? [];
+  if (act) findings.set('run', [act]);
 }

@@ -145,6 +145,7 @@ export function open(module) {
     warn: (files, main, stack = 1 << 20) => over(c.zk_warn, files, main, stack),
     verify: (files, main, stack = 1 << 20) => over(c.zk_verify, files, main, stack),
     explain: (files, main, stack = 1 << 20) => over(c.zk_explain, files, main, stack),
+    explainRun: (files, main, input = '', max = 1e9) => over(c.zk_explain_run, files, main, input, BigInt(max)),
     trace: (files, main, input = '', isOpen = 0, max = 1e9, from = 0) => over(c.zk_trace, files, main, input, isOpen, BigInt(max), BigInt(from)),
     interpret: (files, main, input = '', max = 1e9) => over(c.zk_interpret, files, main, input, BigInt(max)),
     run: (file, name, input = '', max = 1e9) =>

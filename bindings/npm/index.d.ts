@@ -62,7 +62,7 @@ export interface Library {
   frames(files: Files, main: string): Answer;
   preprocess(files: Files, main: string): Answer;
   list(files: Files, main: string): Answer;
-  /** JSON: 0 tokens, 1 syntax tree, 2 typed program, 3 three-address code, 4 flat code. */
+  /** JSON: 0 tokens, 1 syntax tree, 2 typed program, 3 three-address code, 4 flat code, 5 the items that the file is assembled from. */
   form(files: Files, main: string, form: number): Answer;
   interpret(files: Files, main: string, input?: Text, max?: number): Answer;
   /** The same run as JSON lines, from the tick `from` on; where the input is open (1), a read behind it is answered by the status 257. */
@@ -111,8 +111,45 @@ export class Interpreter {
   closeInput(): void;
   /** Goes on to the tick `until`, counted from the start. */
   run(until?: number): Event[];
+  /** The same with input and output by functions, as `serve` of a machine; `observe` is called with each event. */
+  serve(service?: { get?: () => Text | null; put?: (bytes: Uint8Array) => void; observe?: (event: Event) => void; until?: number }): number;
+  snapshot(): Place;
+  restore(place: Place): void;
+}
+
+/** Where a run of the interpreter stood. */
+export interface Place {
+  readonly from: number;
+  readonly least: number;
+  readonly told: number;
+  readonly given: readonly number[];
+  readonly closed: boolean;
+  readonly outcome: number;
+  readonly detail: number;
+  readonly message: string;
+}
+
+/** Why a program is refused, and its warnings, as JSON, an object a line. */
+export interface Diagnostics {
+  explain(files: Files, main: string, stack?: number): Answer;
+  warn(files: Files, main: string, stack?: number): Answer;
+  message(code: number): string;
+  version(): string;
+  memory(): number;
+}
+
+/** Whether a program does anything undefined, on any input (status 0 or 3) or in a run (123), with the places or the act as JSON. */
+export interface Analysis {
+  verify(files: Files, main: string, stack?: number): Answer;
+  explainRun(files: Files, main: string, input?: Text, max?: number): Answer;
+  trace(files: Files, main: string, input?: Text, isOpen?: 0 | 1, max?: number, from?: number): Answer;
+  message(code: number): string;
+  version(): string;
+  memory(): number;
 }
 
 export function load(at?: URL | string): Promise<Library>;
+export function loadDiagnostics(at?: URL | string): Promise<Diagnostics>;
+export function loadAnalysis(at?: URL | string): Promise<Analysis>;
 export function compile(bytes: BufferSource): WebAssembly.Module;
 export function open(module: WebAssembly.Module): Library;

@@ -13,6 +13,18 @@ export async function load(at = new URL('zikorape.wasm', import.meta.url)) {
   return open(await WebAssembly.compile(await bytesAt(at)));
 }
 
+// The calls of one of the other modules, which the first would be half as large again with.
+async function part(at, names) {
+  const zk = await load(at);
+  return Object.fromEntries([...names, 'message', 'version', 'memory'].map(name => [name, zk[name]]));
+}
+
+// Why programs are refused, and their warnings: `explain` and `warn`.
+export const loadDiagnostics = (at = new URL('diagnostics.wasm', import.meta.url)) => part(at, ['explain', 'warn']);
+
+// Whether programs do anything undefined, on any input or in a run: `verify`, `explainRun`, and `trace`.
+export const loadAnalysis = (at = new URL('analysis.wasm', import.meta.url)) => part(at, ['verify', 'explainRun', 'trace']);
+
 // At most `max` instructions more of a machine, with input and output by functions. `get` is called where input is wanted, and answers a text, an empty one at the end of the
 // input, or null where there is none yet, which ends the call with 5; `put` takes bytes, before input is asked for and at the latest after `slice` instructions.
 export function serve(machine, { get = () => '', put = () => {}, max = 1e9, slice = 65536 } = {}) {
@@ -60,6 +72,32 @@ export class Interpreter {
     if (this.outcome === 1) this.detail = answer.status;
     if (this.outcome >= 2 && this.outcome <= 4) this.message = answer.message.trim();
     return lines.map(line => JSON.parse(line));
+  }
+
+  // Goes on to the tick `until` with input and output by functions, as `serve` does of a machine, in slices that double; `observe` is called with each event.
+  serve({ get = () => '', put = () => {}, observe = () => {}, until = 1e9 } = {}) {
+    for (let slice = 4096; ; ) {
+      const events = this.run(Math.min(this.#from + slice, until)), found = events.filter(one => one.event === 'put').map(one => one.byte);
+      events.forEach(one => observe(one));
+      if (found.length) put(Uint8Array.from(found));
+      if (this.outcome === 5) {
+        const given = get();
+        if (given === null) return this.outcome;
+        if (given.length) this.input(given); else this.closeInput();
+      } else if (this.outcome !== 0 || this.#from > until) return this.outcome;
+      else slice *= 2;
+    }
+  }
+
+  // Where it stands; it may be restored more than once.
+  snapshot() {
+    return { from: this.#from, least: this.#least, told: this.#told, given: [...this.#given], closed: this.#closed,
+      outcome: this.outcome, detail: this.detail, message: this.message };
+  }
+
+  restore(place) {
+    [this.#from, this.#least, this.#told, this.#given, this.#closed] = [place.from, place.least, place.told, [...place.given], place.closed];
+    [this.outcome, this.detail, this.message] = [place.outcome, place.detail, place.message];
   }
 }
 

@@ -1,4 +1,4 @@
-"""Zikorape from Python, by ctypes: `build`, `functions`, `frames`, `warnings`, `verify`, `explain`, `preprocess`, `listing`, `form`, `interpret`,
+"""Zikorape from Python, by ctypes: `build`, `functions`, `frames`, `warnings`, `verify`, `explain`, `explain_run`, `preprocess`, `listing`, `form`, `interpret`,
 `trace`, `interpreter`, `run`, `step`, `machine`, `image`, `message`, `version`.
 
     import zikorape
@@ -34,7 +34,7 @@ Putter = Union[Callable[[bytes], Any], BinaryIO, None]
 Event = Dict[str, Any]
 
 MAX = 1_000_000_000
-FORMS = ('tokens', 'tree', 'typed', 'tac', 'flat')
+FORMS = ('tokens', 'tree', 'typed', 'tac', 'flat', 'items')
 IMAGES = ('binary', 'intel', 'verilog')
 STACK = 1 << 20
 GOES_ON, ENDED, TRAPPED, OUT_OF_MEMORY, WANTS_INPUT = 0, 1, 2, 3, 5
@@ -398,7 +398,7 @@ def _beside() -> str:
 class Library:
     def __init__(self, path: Union[str, 'os.PathLike[str]', None] = None):
         self._c = ctypes.CDLL(os.fspath(path) if path is not None else _beside())
-        for name in ('build', 'build_with', 'functions', 'warn', 'verify', 'explain', 'image', 'frames', 'preprocess', 'list', 'form', 'interpret', 'trace', 'run', 'step'):
+        for name in ('build', 'build_with', 'functions', 'warn', 'verify', 'explain', 'explain_run', 'image', 'frames', 'preprocess', 'list', 'form', 'interpret', 'trace', 'run', 'step'):
             getattr(self._c, 'zk_' + name).restype = ctypes.c_uint32
         for name in ('message', 'version'):
             getattr(self._c, 'zk_' + name).restype = ctypes.c_uint64
@@ -430,6 +430,10 @@ class Library:
     def explain(self, files: Files, main: Name, stack: int = STACK) -> Answer:
         """Why the program is refused, as JSON, an object a fault; nothing where it is not."""
         return self._over(self._c.zk_explain, files, main, ctypes.c_uint32(stack))
+
+    def explain_run(self, files: Files, main: Name, input: Text = b'', max: int = MAX) -> Answer:
+        """What a run does undefined, as JSON: the values that make it undefined, and the calls that are active; nothing where it does nothing undefined."""
+        return self._over(self._c.zk_explain_run, files, main, *_slice(_bytes(input)), ctypes.c_uint64(max))
 
     def image(self, file: Text, form: str = 'binary', name: Name = 'a.out') -> Answer:
         """The bytes that a built file loads: one of IMAGES."""

@@ -75,6 +75,10 @@ extern "C" {
     fn zk_explain(
         texts: In, n: usize, files: *const File, k: usize, main: In, m: usize, stack: u32, out: Out, o: usize, message: Out, l: usize, sizes: *mut Sizes,
     ) -> u32;
+    fn zk_explain_run(
+        texts: In, n: usize, files: *const File, k: usize, main: In, m: usize, input: In, i: usize, max: u64,
+        out: Out, o: usize, message: Out, l: usize, sizes: *mut Sizes,
+    ) -> u32;
     fn zk_image(file: In, n: usize, name: In, m: usize, form: u32, out: Out, o: usize, message: Out, l: usize, sizes: *mut Sizes) -> u32;
     fn zk_machine_size() -> u64;
     fn zk_machine_place(at: *mut u8);
@@ -198,6 +202,16 @@ pub fn explain(files: &[(&str, &[u8])], main: &str, stack: u32) -> Answer {
     over_stack(zk_explain, files, main, stack)
 }
 
+/// What a run of that program does undefined, within at most `max` ticks, as JSON: the values that make it undefined, and the calls that are active there; nothing where it
+/// does nothing undefined.
+pub fn explain_run(files: &[(&str, &[u8])], main: &str, input: &[u8], max: u64) -> Answer {
+    let (texts, lengths) = given(files);
+    with_room(|out, message, sizes| unsafe {
+        zk_explain_run(texts.as_ptr(), texts.len(), lengths.as_ptr(), lengths.len(), main.as_ptr(), main.len(), input.as_ptr(), input.len(), max,
+            out.as_mut_ptr(), out.len(), message.as_mut_ptr(), message.len(), sizes)
+    })
+}
+
 /// How the bytes that a file loads are written.
 #[derive(Clone, Copy, Debug, PartialEq, Eq)]
 pub enum Image {
@@ -241,6 +255,7 @@ pub enum Form {
     Typed,
     Tac,
     Flat,
+    Items,
 }
 
 /// A form of the program as JSON.

@@ -309,6 +309,7 @@ fn show<'a>(inner: &ArgMatches<'a>) -> Command<'a> {
             Some("typed") => ShownForm::Typed,
             Some("tac") => ShownForm::Tac,
             Some("flat") => ShownForm::Flat,
+            Some("items") => ShownForm::Items,
             _ => ShownForm::Tokens,
         },
         is_json: inner.get_flag("json"),

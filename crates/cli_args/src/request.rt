@@ -87,6 +87,7 @@ pub enum ShownForm {
     Typed,
     Tac,
     Flat,
+    Items,
 }
 
 /// The form of an image.

@@ -56,9 +56,9 @@ pub const FORM: Row = Row {
     short: None,
     long: None,
     value: None,
-    kind: Kind::Choice(&["tokens", "tree", "typed", "tac", "flat"]),
+    kind: Kind::Choice(&["tokens", "tree", "typed", "tac", "flat", "items"]),
     default: None,
-    help: "Which form: the tokens after preprocessing, the syntax tree, the typed program, three-address code, or flat code",
+    help: "Which form: the tokens after preprocessing, the syntax tree, the typed program, three-address code, flat code, or the items that the file is assembled from",
     apart: &[],
 };
 

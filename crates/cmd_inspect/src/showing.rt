@@ -45,5 +45,6 @@ fn form_of(form: ShownForm) -> Form {
         ShownForm::Typed => Form::Typed,
         ShownForm::Tac => Form::Tac,
         ShownForm::Flat => Form::Flat,
+        ShownForm::Items => Form::Items,
     }
 }

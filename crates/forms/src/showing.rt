@@ -2,6 +2,7 @@
 
 ghost use Rattle.std.specs.Prelude.{◌≡◌, []};
 
+use crate::items_form::items_text;
 use cc::{StackSize, checked_program};
 use cc_backend::flat_program;
 use forms_text::{Style, flat_text, tac_text, tokens_text, tree_text, typed_text};
@@ -24,6 +25,8 @@ pub enum Form {
     Tac,
     /// Flat code, with the words that are used most in front.
     Flat,
+    /// The items that the file is assembled from.
+    Items,
 }
 
 /// A form of the program in the file `main` of the set, as text or as JSON, with a newline behind it.
@@ -41,7 +44,9 @@ pub fn show(
     match form {
         Form::Tokens => show_tokens(alloc, set, main, style),
         Form::Tree => show_tree(alloc, set, main, style),
-        Form::Typed | Form::Tac | Form::Flat => show_typed(alloc, set, main, stack, form, style),
+        Form::Typed | Form::Tac | Form::Flat | Form::Items => {
+            show_typed(alloc, set, main, stack, form, style)
+        }
     }
 }
 
@@ -81,6 +86,7 @@ fn show_typed(
     let written = match form {
         Form::Typed => typed_text(alloc, &program, &names, style),
         Form::Tac => tac_text(alloc, &program, &names, style),
+        Form::Items => items_text(alloc, &program, &names, stack, style),
         _ => match flat_program(alloc, &program) {
             Ok(code) => flat_text(alloc, &program, &code, &names, style),
             Err(error) => Err(error),

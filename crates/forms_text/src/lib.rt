@@ -12,4 +12,4 @@ mod words;
 mod writer;
 
 pub use texts::{flat_text, tac_text, tokens_text, tree_text, typed_text};
-pub use writer::Style;
+pub use writer::{Style, Writer};

@@ -13,7 +13,7 @@ pub enum Style {
 }
 
 /// What stands in a text without its key, since what it is can be seen.
-const PLAIN: [&str; 10] = [
+const PLAIN: [&str; 11] = [
     "type",
     "op",
     "name",
@@ -21,6 +21,7 @@ const PLAIN: [&str; 10] = [
     "function",
     "value",
     "number",
+    "at",
     "code",
     "text",
     "static",
@@ -28,7 +29,7 @@ const PLAIN: [&str; 10] = [
 
 /// Nodes that are being written, from the outermost on.
 #[derive(Drop)]
-pub(crate) struct Writer<'n> {
+pub struct Writer<'n> {
     pub(crate) alloc: Global,
     names: &'n Names,
     style: Style,
@@ -38,7 +39,7 @@ pub(crate) struct Writer<'n> {
 }
 
 impl<'n> Writer<'n> {
-    pub(crate) fn new(alloc: Global, names: &'n Names, style: Style) -> Writer<'n> {
+    pub fn new(alloc: Global, names: &'n Names, style: Style) -> Writer<'n> {
         Writer {
             alloc,
             names,
@@ -49,13 +50,13 @@ impl<'n> Writer<'n> {
     }
 
     /// What was written, with a newline behind it.
-    pub(crate) fn into_text(mut self) -> Result<String, AllocError> {
+    pub fn into_text(mut self) -> Result<String, AllocError> {
         self.text.push_str("\n")?;
         Ok(self.text)
     }
 
     /// Begins a node.
-    pub(crate) fn begin(&mut self, node: &str) -> Result<(), AllocError> {
+    pub fn begin(&mut self, node: &str) -> Result<(), AllocError> {
         match self.style {
             Style::Text => self.put_indent()?,
             Style::Json => self.put_comma()?,
@@ -78,7 +79,7 @@ impl<'n> Writer<'n> {
     }
 
     /// Ends the node that was begun last.
-    pub(crate) fn end(&mut self) -> Result<(), AllocError> {
+    pub fn end(&mut self) -> Result<(), AllocError> {
         let had_parts = self.open.pop().unwrap_or(false);
         if self.style == Style::Text {
             return Ok(());
@@ -114,7 +115,7 @@ impl<'n> Writer<'n> {
     }
 
     /// A word that the node has.
-    pub(crate) fn word(&mut self, key: &str, value: &str) -> Result<(), AllocError> {
+    pub fn word(&mut self, key: &str, value: &str) -> Result<(), AllocError> {
         self.put_key(key)?;
         match self.style {
             Style::Text => self.text.push_str(value),
@@ -123,7 +124,7 @@ impl<'n> Writer<'n> {
     }
 
     /// A name that the node has, by its number.
-    pub(crate) fn name(&mut self, key: &str, number: usize) -> Result<(), AllocError> {
+    pub fn name(&mut self, key: &str, number: usize) -> Result<(), AllocError> {
         let names = self.names;
         self.word(key, names.shown_text(number))
     }
@@ -147,7 +148,7 @@ impl<'n> Writer<'n> {
     }
 
     /// Where the node stands.
-    pub(crate) fn place(&mut self, at: Pos) -> Result<(), AllocError> {
+    pub fn place(&mut self, at: Pos) -> Result<(), AllocError> {
         let names = self.names;
         let file = names.file_name(at.file);
         let line = at.line;

@@ -31,6 +31,7 @@ ghost use types.Logic.{sem};
 ghost use base.Fml.{fex, fsep, ftrue};
 
 use cc::{Cmd, StackSize};
+use explain::Run;
 use files::{FileLengths, text_or_empty};
 use functions::tell_functions;
 use giving::{OUT_OF_MEMORY, Sizes, give, hand_out};
@@ -42,7 +43,7 @@ use stacking::build_stacked;
 use standing::{Standing, stand};
 use std::alloc::Global;
 use std::{mem, ptr};
-use telling::{names_of, tell_faults, tell_image, tell_verdict, tell_warnings};
+use telling::{names_of, tell_act, tell_faults, tell_image, tell_verdict, tell_warnings};
 use trace_json::Asked;
 use tracing::tell_trace;
 
@@ -225,6 +226,46 @@ pub extern "C" fn zk_explain(
     }
 }
 
+/// What the program in the file `main` does undefined over this input, within at most `max` ticks, explained, as JSON: the values that make it undefined, and the calls
+/// that are active there. An empty text, and the line of why the program stopped, where it does nothing undefined. It has no clause but that it is safe.
+#[unsafe(no_mangle)]
+pub extern "C" fn zk_explain_run(
+    alloc: Global,
+    texts: &[u8],
+    files: &[FileLengths],
+    main: &[u8],
+    input: &[u8],
+    max: u64,
+    out: &mut [u8],
+    message: &mut [u8],
+    sizes: &mut Sizes,
+) -> u32 {
+    let run = Run {
+        input,
+        max,
+        stack: StackSize::usual(),
+    };
+    match given(alloc, texts, files) {
+        Ok(set) => match names_of(alloc, texts, files) {
+            Ok(names) => tell_act(
+                alloc,
+                &set,
+                names.as_slice(),
+                text_or_empty(main),
+                &run,
+                out,
+                message,
+                sizes,
+            ),
+            Err(_) => {
+                hand_out(b"", OUT_OF_MEMORY, out, message, sizes);
+                1
+            }
+        },
+        Err(refusal) => refuse(alloc, &refusal, out, message, sizes),
+    }
+}
+
 /// The bytes that an executable file loads: 0 as they are, 1 as Intel's hexadecimal records, 2 as Verilog's `$readmemh` reads them. For
 /// another number it answers 256. It has no clause but that it is safe.
 #[unsafe(no_mangle)]
@@ -320,7 +361,7 @@ pub extern "C" fn zk_list(
 }
 
 /// A form of the program in the file `main`, as JSON: 0 its tokens after preprocessing, 1 its syntax tree, 2 its typed program, 3 its
-/// three-address code, 4 its flat code. For another number it answers 256. It has no clause but that it is safe.
+/// three-address code, 4 its flat code, 5 the items that its file is assembled from. For another number it answers 256. It has no clause but that it is safe.
 #[unsafe(no_mangle)]
 pub extern "C" fn zk_form(
     alloc: Global,

@@ -14,6 +14,7 @@ pub fn form_of(number: u32) -> Option<Form> {
         2 => Some(Form::Typed),
         3 => Some(Form::Tac),
         4 => Some(Form::Flat),
+        5 => Some(Form::Items),
         _ => None,
     }
 }

@@ -4,7 +4,8 @@
 use crate::files::{FileLengths, text_or_empty};
 use crate::giving::{OUT_OF_MEMORY, Sizes, hand_fault, hand_out};
 use cc::{StackSize, compile_with};
-use explain::{Stage, USUAL_FAULTS, explain};
+use explain::{Run, Stage, USUAL_FAULTS, explain};
+use explain_cmd::{Form as Told, explain_run};
 use explain_render::put_json;
 use image_export::{Piece, binary, entry, intel_hex, pieces, verilog_memory};
 use lint_report::{Asked, Form};
@@ -58,6 +59,36 @@ pub fn tell_faults(
 ) -> u32 {
     let faults = faults_of(alloc, set, names, main, stack);
     hand_text(faults, out, message, sizes)
+}
+
+/// What a run of that program does undefined, explained, as JSON; nothing, and the line of why the program stopped, where it does not. The status is that of
+/// the run.
+pub fn tell_act(
+    alloc: Global,
+    set: &FileSet,
+    names: &[&str],
+    main: &str,
+    run: &Run<'_>,
+    out: &mut [u8],
+    message: &mut [u8],
+    sizes: &mut Sizes,
+) -> u32 {
+    match explain_run(alloc, set, names, main, run, Told::Json) {
+        Ok(said) => {
+            hand_out(
+                said.out.as_slice(),
+                said.err.as_slice(),
+                out,
+                message,
+                sizes,
+            );
+            u32::from(said.status)
+        }
+        Err(_) => {
+            hand_out(b"", OUT_OF_MEMORY, out, message, sizes);
+            1
+        }
+    }
 }
 
 /// Whether that program does anything undefined, on any input, and how much of its stack it takes, as JSON; 0 where it is defined and the stack suffices, 3 where that was not shown.

@@ -1,7 +1,7 @@
 #!/usr/bin/env python3
 """Holds `CC show` against forms that were written by hand: `check.py CC`. Tokens by 6.4, trees by the grammar of 6.5 to 6.9, typed programs by the
-conversions that 6.3 and 6.5 want; each form as JSON against the same as text; three-address code against the places of statements. The last line
-counts what passed and failed.
+conversions that 6.3 and 6.5 want; each form as JSON against the same as text; three-address code against the places of statements; items against the
+listing, by what each pseudoinstruction comes to. The last line counts what passed and failed.
 """
 import json
 import os
@@ -13,7 +13,7 @@ sys.path.insert(0, os.path.dirname(os.path.dirname(os.path.dirname(os.path.abspa
 import harness
 
 CC = os.path.abspath(sys.argv[1])
-FORMS = ('tokens', 'tree', 'typed', 'tac', 'flat')
+FORMS = ('tokens', 'tree', 'typed', 'tac', 'flat', 'items')
 checks = harness.Current()
 
 SMALL = '''#define TWO 2
@@ -218,6 +218,73 @@ def places(work):
     check('flat', status == 0 and 'GetByte' not in out and 'Return' in out, out[:200])
 
 
+OPPOSITE = {'beq': 'bne', 'bne': 'beq', 'blt': 'bge', 'bge': 'blt', 'bltu': 'bgeu', 'bgeu': 'bltu'}
+
+
+def items_of(node):
+    """Each item of a program as (address, text), and where its labels and functions are."""
+    found, labels, functions = [], {}, {}
+    for part in node['parts']:
+        if part['node'] == 'function':
+            functions[part['name']] = int(part['parts'][0]['at'], 16)
+        for item in part['parts']:
+            at, text = int(item['at'], 16), item['code']
+            if text.endswith(':'):
+                labels[text[:-1]] = at
+            else:
+                found.append((at, text))
+    return found, labels, functions
+
+
+def loaded(first, second):
+    """What LUI and ADDI load into a register, and which."""
+    register, upper = first.removeprefix('lui ').split(',')
+    low = second.removeprefix('addi %s,%s,' % (register, register))
+    return register, (int(upper, 16) * 4096 + int(low)) % 2 ** 32
+
+
+def holds(at, text, words, labels, functions):
+    """Whether the words at an address are those that an item comes to (RISC-V unprivileged ISA manual, its pseudoinstructions)."""
+    name, _, rest = text.partition(' ')
+    first, second = words.get(at, ''), words.get(at + 4, '')
+    if name == 'j':
+        return first.startswith('jal x0,') and at + int(first.split(',')[1]) == labels[rest]
+    if name in OPPOSITE and rest.split(',')[-1] in labels:
+        start, to = rest.rpartition(',')[0], labels[rest.rpartition(',')[2]]
+        near = first == '%s %s,%d' % (name, start, to - at)
+        return near or first == '%s %s,8' % (OPPOSITE[name], start) and second == 'jal x0,%d' % (to - at - 4)
+    if name == 'call':
+        upper, low = int(first.removeprefix('auipc x1,'), 16), int(second.removeprefix('jalr x1,').removesuffix('(x1)'))
+        return (at + upper * 4096 + low) % 2 ** 32 == functions[rest]
+    if name in ('li', 'la'):
+        register, value = rest.split(',')
+        wanted = labels[value] if value in labels else int(value) % 2 ** 32 if name == 'li' else None
+        data = -(-(max(words) + 4) // 4096) * 4096      # the first multiple of 4096 not below the code's end
+        return loaded(first, second) == (register, wanted if wanted is not None else data + int(value.removeprefix('data+')))
+    return first == text
+
+
+def items(work, files):
+    for name, text in files:
+        put(work, name, text)
+    names = [name for name, _ in files]
+    status, out, err = cc(work, 'show', 'items', *names, '--json')
+    check('items %s' % names[0], (status, err) == (0, ''), err)
+    if status != 0:
+        return
+    words = {int(line[:8], 16): line[19:] for line in cc(work, 'list', *names)[1].splitlines()}
+    found, labels, functions = items_of(json.loads(out))
+    wrong = [one for one in found if not holds(*one, words, labels, functions)]
+    check('items %s: each is what stands at its address' % names[0], not wrong, wrong[:3])
+    ends = [at for at, _ in found[1:]] + [max(words) + 4]
+    check('items %s: nothing is left out' % names[0], found[0][0] == min(words) and all(end - at in (4, 8) for (at, _), end in zip(found, ends)), found[:3])
+    check('items %s: functions' % names[0], [name for name in functions] == [line.split()[0] for line in cc(work, 'frames', *names)[1].splitlines()], functions)
+
+
+# A branch that goes further than its 4,096 bytes.
+FAR = 'int main(void) {\n    int a = 1;\n    while (a < 1000) {\n' + '        a = a * 3 + a / 7;\n' * 400 + '    }\n    return a & 127;\n}\n'
+
+
 def both_styles(work, files):
     for name, text in files:
         put(work, name, text)
@@ -235,7 +302,7 @@ def both_styles(work, files):
 def refused(work):
     put(work, 'bad.c', 'int main(void) { return x; }\n')
     line = 'bad.c:1: 528 undeclared name: x\n' if cc(work, 'build', 'bad.c', '-o', 'none')[2].endswith('x\n') else cc(work, 'build', 'bad.c', '-o', 'none')[2]
-    for form, wanted in (('tokens', 0), ('tree', 0), ('typed', 1), ('tac', 1), ('flat', 1)):
+    for form, wanted in (('tokens', 0), ('tree', 0), ('typed', 1), ('tac', 1), ('flat', 1), ('items', 1)):
         status, out, err = cc(work, 'show', form, 'bad.c')
         check('refused: ' + form, status == wanted and err == (line if wanted else '') and (out == '') == (wanted == 1), status, err)
     put(work, 'wrong.c', 'int main(void) { return 1 }\n')
@@ -254,7 +321,11 @@ def examples(work):
     for name in sorted(os.listdir(folder)):
         if name.endswith('.c') and name != 'library.c':
             with open(os.path.join(folder, name)) as file:
-                both_styles(work, [(name, file.read())])
+                files = [(name, file.read())]
+            both_styles(work, files)
+            items(work, files)
+    items(work, [('s.c', SMALL)])
+    items(work, [('far.c', FAR)])
 
 
 def two_files(work):

@@ -133,8 +133,32 @@ if (wrong.outcome !== 2 || wrong.message !== 'w.c:1: undefined U6') throw new Er
 const refused = new Interpreter(zk, [['w.c', 'int main(void) { return x; }\\n']], 'w.c');
 refused.run(100);
 if (refused.outcome !== 4 || !refused.message.startsWith('w.c:1: 528')) throw new Error(refused.message);
+const there = new Interpreter(zk, files, 'main.c');
+if (there.run(100000).length === 0 || there.outcome !== 5) throw new Error('it waits');
+const place = there.snapshot();
+for (const given of ['a', 'bc']) {
+  const put = [], rest = [given, ''], seen = [];
+  if (there.serve({ get: () => rest.shift(), put: part => put.push(...part), observe: one => seen.push(one) }) !== 1) throw new Error('served: ' + there.outcome);
+  if (new TextDecoder().decode(Uint8Array.from(put)) !== [...given].map(c => c + c).join('')) throw new Error('put: ' + put);
+  if (seen.filter(one => one.event === 'get' && one.byte !== null).length !== given.length) throw new Error('got');
+  there.restore(place);
+}
+if (there.outcome !== 5) throw new Error('it stands there again');
 console.log('told');
 """ % repr(ECHO)
+
+
+PARTS = """
+import { loadAnalysis, loadDiagnostics } from 'zikorape';
+const text = answer => new TextDecoder().decode(answer.output), right = [['main.c', %s]], wrong = [['w.c', %s]], unset = [['u.c', 'int main(void) { int a; return a; }\\n']];
+const diagnostics = await loadDiagnostics(), analysis = await loadAnalysis();
+const fault = JSON.parse(text(diagnostics.explain(wrong, 'w.c')));
+console.log(fault.code, fault.line, diagnostics.explain(right, 'main.c').output.length, diagnostics.warn(right, 'main.c').status);
+const act = analysis.explainRun(unset, 'u.c'), told = JSON.parse(text(act));
+console.log(act.status, act.message === '', told.code, told.line, told.notes[0].text);
+console.log(analysis.explainRun(right, 'main.c').status, analysis.verify(right, 'main.c').status, analysis.verify(unset, 'u.c').status);
+""" % (repr(RIGHT), repr(WRONG))
+PARTS_SAY = '528 3 0 0\n123 true U6 1 `a` has no value\n42 0 3\n'
 
 
 def node(work):
@@ -164,6 +188,10 @@ def node(work):
     else:
         status, kept, said = call(['node', 'kept.mjs'], work)
         check('node: a run that is kept', (status, kept) == (0, 'told\n'), kept, said)
+    with open(os.path.join(work, 'parts.mjs'), 'w') as file:
+        file.write(PARTS)
+    status, out, err = call(['node', 'parts.mjs'], work)
+    check('node: the modules that explain and verify', (status, out) == (0, PARTS_SAY), out, err)
     check('node: the lines of docs/LIBRARY.md', (status, out, err) == (0, '1 42 b\n', ''), out, err)
 
 

@@ -12,7 +12,7 @@ import sources  # noqa: E402
 
 EVERY = 8            # each eighth of the kept sources
 TICKS = 5000
-FORMS = ['tokens', 'tree', 'typed', 'tac', 'flat']
+FORMS = ['tokens', 'tree', 'typed', 'tac', 'flat', 'items']
 CC = os.path.abspath(sys.argv[1])
 
 
