@@ -221,6 +221,26 @@ def in_c(counted, runs, out, work):
         counted.holds('%s served from C' % name, (done.returncode, done.stdout) == (ran.status, ran.output), done)
 
 
+def acts(counted, cc, zk, runs):
+    """What a run does undefined, explained, as the program tells it as JSON; and by hand, of one whose values the input decides."""
+    undefined = [run for run in runs if run[3] == 123]
+    for name, files, input, status, *_ in undefined + [run for run in runs if run[3] != 123][:60]:
+        with tempfile.TemporaryDirectory() as work:
+            for file, text in files:
+                with open(os.path.join(work, file), 'wb') as out:
+                    out.write(text)
+            done = subprocess.run([cc.path, 'explain', 'interp', *[file for file, _ in files], '--json', '--max', str(MAX)], cwd=work, input=input, capture_output=True, timeout=300)
+        answer = zk.explain_run(files, files[0][0], input, MAX)
+        counted.holds('%s: what is undefined' % name, (answer.status, answer.output, answer.message) == (done.returncode, done.stdout, done.stderr.decode(errors='replace')), (answer, done))
+        counted.holds('%s: told where there is something' % name, (answer.output != b'') == (status == 123), answer.output)
+    text = b'int rv_getbyte(void);\nint at(int a[3], int i) { return a[i]; }\nint main(void) {\n    int a[3] = { 1, 2, 3 };\n    return at(a, rv_getbyte());\n}\n'
+    told = zk.explain_run({'main.c': text}, 'main.c', b'b')
+    act = json.loads(told.output)
+    counted.holds('an index by the input', told.status == 123 and (act['code'], act['line'], act['column']) == ('U5', 2, 35), act)
+    counted.holds('its value, and the calls', [note['text'] for note in act['notes'] if note['topic'] != 'hint'] == ['index 98 of 3 elements of `a`', 'in `at`', 'in `main`'], act)
+    counted.holds('another input', (lambda one: (one.status, one.output, one.message))(zk.explain_run({'main.c': text}, 'main.c', b'\x01')) == (2, b'', ''))
+
+
 PLACES = b'#include "far.h"\nint g;\n\nint f(int a)\n{\n    int b = a + 1;\n    return b;\n}\n\nint main(void)\n{\n    g = f(2);\n    return far(g);\n}\n'
 FAR = b'#line 7 "made.y"\nint far(int x) { return x + 1; }\n'
 
@@ -267,6 +287,7 @@ def main():
             in_threads(counted, zk, right)
             in_c(counted, right, out, work)
             lines(counted, zk, cc, work)
+            acts(counted, cc, zk, runs)
     print('%d passed, %d failed%s' % (counted.passed, counted.failed, ', %d skipped' % counted.skipped if counted.skipped else ''))
     return counted.failed
 

@@ -35,14 +35,23 @@ async function warnings(reader) {
   reader.check('and they go', await reader.until(`$('findings').textContent === ''`));
 }
 
+// On the input `b`.
+const TWICE = 'int rv_getbyte(void);\nstatic int at(int a[3], int i) {\n    return a[0] + a[i];\n}\nint main(void) {\n    int a[3] = { 1, 2, 3 };\n    return at(a, rv_getbyte());\n}\n';
+
 async function acts(reader) {
   const { page } = reader;
   await reader.example('An undefined act');
   await page.click('run');
   reader.check('a run whose meaning is undefined says so', await page.tells('status', '/The file ended, but its meaning is undefined: main.c:5: undefined U1/'), await page.told('status'));
   reader.check('at its operator', await reader.until(`${marked('run')} === '+'`), await reader.at(marked('run')));
-  reader.check('with values', /^U1 .*2147483647/.test(await page.told('fault')), await page.told('fault'));
+  reader.check('with values', await page.tells('fault', '/^U1 .*2147483647/'), await page.told('fault'));
   await reader.shot('undefined');
+  await page.type(TWICE);
+  await reader.built();
+  await page.set('input', 'b');
+  await page.click('run');
+  reader.check('of two subscripts of a line the one that is outside', await page.tells('fault', '/^U5 .*index 98 of 3 elements of `a`/'), await page.told('fault'));
+  reader.check('and the calls that are active there', await reader.until(`/in \`at\`/.test($('findings').textContent) && /main.c:7: in \`main\`/.test($('findings').textContent)`), await page.told('findings'));
   await reader.example('hello');
   await page.click('run');
   reader.check('and a run that is defined does not', await page.tells('status', '/ended with status 0/') && await reader.at(`$('fault').hidden`), await page.told('status'));

@@ -4,7 +4,7 @@
 async function sameBytes(reader) {
   const files = await reader.at(`(async () => (await import('./examples.js')).examples.filter(one => one.name !== 'backwards').map(one => [one.name, one.files]))()`);
   for (const [name, given] of files) {
-    const main = given[0][0], calls = ['tokens', 'tree', 'typed', 'tac', 'flat'].map((form, k) => [form, `zk.form(files, main, ${k})`, ['show', form, main, '--json']]);
+    const main = given[0][0], calls = ['tokens', 'tree', 'typed', 'tac', 'flat', 'items'].map((form, k) => [form, `zk.form(files, main, ${k})`, ['show', form, main, '--json']]);
     calls.push(['list', 'zk.list(files, main)', ['list', main]]);
     for (const [form, call, words] of calls) {
       const found = await reader.at(`(async () => {
@@ -26,7 +26,7 @@ async function shown(reader) {
   reader.check('tokens are shown line by line', (await reader.at(`all('#token-text .line').map(one => one.textContent).join('|')`)) === 'void rv_putbyte ( int c ) ;|int main ( void ) {|rv_putbyte ( 70 + 2 ) ;|return 44 - 2 ;|}', await page.told('token-text'));
   reader.check('each with its kind and line', (await reader.at(`all('#token-text .token').find(one => one.textContent === '70').title`)) === 'number, tour.c:4');
   await page.click('tab-forms');
-  for (const [form, root] of [['2', 'program'], ['3', 'program'], ['4', 'program'], ['0', 'tokens'], ['1', 'unit']]) {
+  for (const [form, root] of [['2', 'program'], ['3', 'program'], ['4', 'program'], ['5', 'program'], ['0', 'tokens'], ['1', 'unit']]) {
     await page.set('form', form);
     reader.check(`form ${form} begins with ${root}`, await reader.until(`$('form-nodes').querySelector('b')?.textContent === '${root}'`));
   }
@@ -56,10 +56,10 @@ async function joined(reader) {
   reader.check('and among the tokens', (await reader.at(`all('#token-text .joined').map(one => one.textContent).join(' ')`)) === 'rv_putbyte ( 70 + 2 ) ;');
   for (let k = 0; k < 4; k++) await page.key('ArrowRight', 39);
   reader.check('arrow keys go on to the next line', (await reader.at(`all('#marks .joined').map(one => one.textContent.trim()).join()`)) === 'return 44 - 2;' || await reader.at(`document.activeElement.textContent`) === ';', await reader.at(`document.activeElement.textContent`));
-  for (const [form, code] of [['3', /Call|Put|Compute/], ['4', /Put|Compute|Move/]]) {
+  for (const [form, code] of [['3', /Call|Put|Compute/], ['4', /Put|Compute|Move/], ['5', /addi x17,x0,64/]]) {
     await page.click('tab-forms');
     await page.set('form', form);
-    await reader.until(`/instruction/.test($('form-nodes').textContent)`);
+    await reader.until(`/instruction|item/.test($('form-nodes').textContent)`);
     await reader.at(`$('source').focus(); $('source').setSelectionRange(50, 50); $('source').dispatchEvent(new Event('click'))`);
     const marked = await reader.at(`all('#form-nodes .joined').map(one => one.textContent).join('|')`);
     reader.check(`the cursor's line is marked in form ${form}`, code.test(marked), marked);

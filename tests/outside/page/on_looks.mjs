@@ -74,10 +74,9 @@ async function access(reader) {
   await reader.tick('verify', false);
 }
 
-// The tab key goes to each control once, in the order of the page, and each shows that it has the focus.
-async function focus(reader) {
+// Where the tab key goes: whether that is the order of the page, which controls it misses, and which do not show that they have the focus.
+async function walked(reader) {
   const { page } = reader;
-  await page.click('tab-machine');
   await reader.at(`document.activeElement.blur(); getSelection().removeAllRanges(); scrollTo(0, 0); document.body.tabIndex = -1; document.body.focus(); document.body.removeAttribute('tabindex')`);
   const met = [], faint = [];
   for (let k = 0; k < 200; k++) {
@@ -88,9 +87,53 @@ async function focus(reader) {
     if (!/solid[2-9]/.test(outline)) faint.push(`${id} ${outline}`);
   }
   const wanted = await reader.at(`all('button, input, select, textarea, [tabindex="0"], summary').filter(one => one.getClientRects().length > 0 && !one.disabled && one.tabIndex >= 0).map(one => one.id || one.tagName)`);
-  reader.check('the tab key goes in the order of the page', met.length > 25 && met.every((one, k) => k === 0 || one.at > met[k - 1].at), met.map(one => one.id).join(' '));
-  reader.check('and to each control', wanted.every(id => met.some(one => one.id === id)), wanted.filter(id => !met.some(one => one.id === id)).join(' '));
+  return { met: met.map(one => one.id), isInOrder: met.every((one, k) => k === 0 || one.at > met[k - 1].at), missed: wanted.filter(id => !met.some(one => one.id === id)), faint };
+}
+
+async function focus(reader) {
+  await reader.page.click('tab-machine');
+  const { met, isInOrder, missed, faint } = await walked(reader);
+  reader.check('the tab key goes in the order of the page', met.length > 25 && isInOrder, met.join(' '));
+  reader.check('and to each control', missed.length === 0, missed.join(' '));
   reader.check('each of which shows that it has the focus', faint.length === 0, faint.join('; '));
+}
+
+const found = script => async ({ page }) => { const got = await page.run(script); return (got.failed ?? got).join('; '); };
+const wide = ({ page }) => page.run(`document.documentElement.scrollWidth > 360 ? 'wide' : ''`);
+const style = text => `{ const one = document.createElement('style'); one.className = 'planted'; one.textContent = ${JSON.stringify(text)}; document.head.append(one); }`;
+const put = (tag, set, where = 'main') => `{ const one = document.createElement('${tag}'); one.classList.add('planted'); ${set}; document.querySelector('${where}').append(one); }`;
+
+// Faults that are put into the page, each with what undoes it, the check that has to find it, and what that then says.
+const PLANTED = {
+  'a pale text': [style('#status { color: #8a8a8a !important; background: #ffffff !important; }'), '', found(CONTRAST), /#status/],
+  'a dark mark': [put('span', `one.classList.add('mark'); one.textContent = 'x'; one.style.background = 'rgb(70, 70, 70)'`, '#marks'), '', found(CONTRAST), /mark .*planted/],
+  'a control without an edge': [style('#count { border-color: #fafafa !important; background: #ffffff !important; }'), '', found(CONTRAST), /edge of INPUT#count/],
+  'an id that is twice': [put('p', `one.id = 'status'`), '', found(STRUCTURE), /twice status/],
+  'a label for nothing': [put('label', `one.setAttribute('for', 'nothing')`), '', found(STRUCTURE), /for nothing/],
+  'a small button': [style('#run { width: 12px !important; min-width: 0 !important; padding: 0 !important; overflow: hidden; }'), '', found(STRUCTURE), /small run/],
+  'a page without a language': [`document.documentElement.lang = ''`, `document.documentElement.lang = 'en'`, found(STRUCTURE), /landmarks/],
+  'a focus that is not seen': [style(':focus, :focus-visible { outline: none !important; }'), '', async reader => (await walked(reader)).faint.join(' '), /run/],
+  'an order of its own': [`document.getElementById('run').tabIndex = 7`, `document.getElementById('run').removeAttribute('tabindex')`, async reader => `in order: ${(await walked(reader)).isInOrder}`, /false/],
+  'a control that is not reached': [`document.getElementById('count').onfocus = event => event.target.blur()`, `document.getElementById('count').onfocus = null`, async reader => (await walked(reader)).missed.join(' '), /./],
+  'a button without a name': [put('button', ''), '', async reader => (await nameless(reader)).join(' '), /button/],
+  'a line that is too long': [put('div', `one.style.width = '900px'; one.textContent = 'x'`), '', wide, /wide/],
+};
+
+// Each check of how the page looks finds the fault that it is for.
+async function planted(reader) {
+  const { page } = reader;
+  await page.scheme('light');
+  await reader.example('sum');
+  await page.click('tab-machine');
+  await page.width(360);
+  for (const [name, [put, undo, look, says]] of Object.entries(PLANTED)) {
+    const before = await look(reader);
+    await page.run(`{ ${put} }`);
+    const after = await look(reader);
+    await page.run(`{ ${undo}; for (const one of document.querySelectorAll('.planted')) one.remove(); }`);
+    reader.check(`${name} is found`, !says.test(before) && says.test(after), `${before} | ${after}`);
+  }
+  await page.width(0);
 }
 
 async function tabKeys(reader) {
@@ -136,12 +179,17 @@ async function narrow(reader) {
   await page.scheme('light');
 }
 
+async function controls({ page }) {
+  const { nodes } = await page.send('Accessibility.getFullAXTree');
+  return nodes.filter(n => !n.ignored && ['button', 'textbox', 'combobox', 'slider', 'tab', 'tabpanel', 'checkbox', 'meter', 'region', 'list'].includes(n.role?.value) && !(n.role.value === 'list' && !n.focusable));
+}
+
+const nameless = async reader => (await controls(reader)).filter(n => !n.name?.value && n.role.value !== 'list').map(n => n.role.value);
+
 async function names(reader) {
-  const { page } = reader, { nodes } = await page.send('Accessibility.getFullAXTree');
-  const controls = nodes.filter(n => !n.ignored && ['button', 'textbox', 'combobox', 'slider', 'tab', 'tabpanel', 'checkbox', 'meter', 'region', 'list'].includes(n.role?.value) && !(n.role.value === 'list' && !n.focusable));
-  const nameless = controls.filter(n => !n.name?.value && n.role.value !== 'list');
-  reader.check('there are controls for a screen reader', controls.length > 30, controls.length);
-  reader.check('each has a name', nameless.length === 0, JSON.stringify(nameless.map(n => n.role.value)));
+  const { page } = reader, all = await controls(reader), without = await nameless(reader);
+  reader.check('there are controls for a screen reader', all.length > 30, all.length);
+  reader.check('each has a name', without.length === 0, without.join(' '));
   const elsewhere = page.fetched.filter(at => new URL(at).origin !== new URL(reader.url).origin && !/^(data|blob|about|chrome)/.test(at));
   reader.check('nothing is fetched from elsewhere', page.fetched.length > 3 && elsewhere.length === 0, elsewhere.join(' '));
   reader.check('nothing is thrown', page.thrown.length === 0, page.thrown.join('; '));
@@ -194,4 +242,4 @@ async function speed(reader) {
   reader.check('a run takes less than twice as long as in the library', own * 2 > library, own / library);
 }
 
-export const parts = { tabKeys, access, focus, narrow, first, speed, names };
+export const parts = { tabKeys, access, focus, planted, narrow, first, speed, names };

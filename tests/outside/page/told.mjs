@@ -12,6 +12,7 @@ const plain = answer => JSON.stringify([answer.status, Buffer.from(answer.output
 
 function answered(call, files, main, row) {
   if (call.startsWith('form')) return zk.form(files, main, Number(call.slice(5)));
+  if (call === 'explain interp') return analyser.explainRun(files, main, latin(row.input), row.ticks);
   if (call === 'trace') return analyser.trace(files, main, latin(row.input), 0, row.ticks, 0);
   return (call === 'verify' ? analyser : explainer)[call](files, main);
 }

@@ -42,6 +42,7 @@ def answers(files, given):
             found['form %d' % number] = call(folder, 'show', form, *names, '--json')
         found['warn'] = call(folder, 'check', *names, '--json')
         found['verify'] = call(folder, 'verify', *names, '--json')
+        found['explain interp'] = call(folder, 'explain', 'interp', *names, '--json', '--max', str(TICKS), given=given)
         found['trace'] = traced(folder, names, given)
         return found
 
