@@ -111,6 +111,7 @@ mistakes     | python3                                  | python3 tests/outside/
 warnings     | python3                                  | python3 tests/outside/warnings/check.py "$cc"
 wanted       | python3                                  | python3 tests/outside/mistakes/wanted.py "$cc"
 verify       | python3                                  | python3 tests/outside/verify/check.py "$cc"
+mutants      | python3                                  | python3 tests/outside/verify/mutants.py "$cc"
 lsp          | python3                                  | python3 tests/outside/lsp/check.py "$cc"
 nvim         | nvim                                     | ZKC="$cc" nvim --clean --headless -c 'luafile tests/outside/lsp/nvim.lua'
 inspecting   | python3                                  | cases tests/outside/inspecting/check.py "$cc"
