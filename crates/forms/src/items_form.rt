@@ -109,7 +109,9 @@ fn rows_of(alloc: Global, map: &CodeMap) -> Result<Vec<CodeRow>, AllocError> {
 fn texts_of(alloc: Global, listing: &[u8]) -> Result<Vec<&str>, AllocError> {
     let mut texts = Vec::new(alloc);
     for line in listing.split(|byte| *byte == b'\n') {
-        texts.push(str::from_utf8(line.get(TEXT_COLUMN..).unwrap_or_default()).unwrap_or_default())?;
+        texts.push(str::from_utf8(
+            line.get(TEXT_COLUMN..).unwrap_or_default(),
+        ).unwrap_or_default())?;
     }
     Ok(texts)
 }
@@ -146,11 +148,7 @@ fn put_items(
 }
 
 /// Begins a function, behind the one before it, where the item marks its first instruction.
-fn begin_function(
-    out: &mut Writer<'_>,
-    program: &Program,
-    item: Item,
-) -> Result<(), AllocError> {
+fn begin_function(out: &mut Writer<'_>, program: &Program, item: Item) -> Result<(), AllocError> {
     if let Item::Mark(label) = item {
         if let Some(function) = program.functions.get(label.number()) {
             out.end()?;

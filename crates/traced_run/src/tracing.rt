@@ -1,5 +1,11 @@
 //! A run with a line for each instruction.
 
+ghost use Rattle.std.specs.Prelude.{◌≡◌, ℕ, List, Option, None, IfOk};
+ghost use Rattle.sim.specs.Runs.{World};
+ghost use Rattle.sim.specs.Meets.{At, RunMeets};
+ghost use Rattle.sim.specs.Machines.{machine_now, stopped_with};
+ghost use Rattle.traced_run.specs.Traced.{TraceMeets};
+
 use crate::instruction::instruction_line;
 use crate::shown::place_text;
 use io_ports::Port;
@@ -22,8 +28,17 @@ pub enum TraceEnd {
     Unwritten,
 }
 
+/// What a step came to, and whether its line was written.
+#[derive(Clone, Copy)]
+struct Told {
+    outcome: Outcome,
+    is_written: bool,
+}
+
 /// Takes at most `max` steps, and writes a line for each: the instruction, each register whose value changed, and the address that it
 /// loaded from or stored to; with a map a line `NAME+OFFSET:` wherever another function goes on.
+///
+/// The machine does what `Machine::run` does in as many steps.
 pub fn traced_run<P: Port, W: Write>(
     alloc: Global,
     machine: &mut Machine,
@@ -31,28 +46,53 @@ pub fn traced_run<P: Port, W: Write>(
     max: u64,
     map: Option<&SymbolTable>,
     out: &mut W,
-) -> Result<TraceEnd, AllocError> {
+) -> Result<TraceEnd, AllocError>
+    ensures meets { IfOk result (λ end. stopped_with machine.old ≡ None → (o : Option (List ℕ)) (w : World) → At o w (machine_now machine.old) (P.seen port.old) →
+        TraceMeets o w max end (machine_now machine.new) (P.seen port.new)) }
+{
     let mut start = 0;
-    for _ in 0..max {
-        let mut line = Vec::new(alloc);
-        if let Some(map) = map {
-            start = put_function(alloc, map, machine.state().pc, start, &mut line)?;
-        }
-        let text = instruction_text(alloc, machine.state())?;
-        let touched = touched(machine.state());
-        let before = machine.state().registers;
-        let outcome = machine.run(port, 1);
-        let effects = effects(alloc, touched, &before, &machine.state().registers)?;
-        put_columns(text.as_slice(), effects.as_slice(), &mut line)?;
-        line.push(b'\n')?;
-        if !write_text(out, line.as_slice()) {
+    let mut steps = 0;
+    while steps < max {
+        let told = told_step(alloc, machine, port, map, &mut start, out)?;
+        if !told.is_written {
             return Ok(TraceEnd::Unwritten);
         }
-        if outcome != Outcome::Budget {
-            return Ok(TraceEnd::Stopped(outcome));
+        match told.outcome {
+            Outcome::Budget => steps += 1,
+            outcome => return Ok(TraceEnd::Stopped(outcome)),
         }
     }
     Ok(TraceEnd::Stopped(Outcome::Budget))
+}
+
+/// Takes a step, and writes its line. `start` is where the function of the line before starts, and becomes that of this one's.
+fn told_step<P: Port, W: Write>(
+    alloc: Global,
+    machine: &mut Machine,
+    port: &mut P,
+    map: Option<&SymbolTable>,
+    start: &mut u32,
+    out: &mut W,
+) -> Result<Told, AllocError>
+    ensures meets { IfOk result (λ told. stopped_with machine.old ≡ None → (o : Option (List ℕ)) (w : World) → At o w (machine_now machine.old) (P.seen port.old) →
+        RunMeets o w 1 told.outcome (machine_now machine.new) (P.seen port.new)) }
+    ensures budget { IfOk result (λ told. told.outcome ≡ Outcome.Budget → stopped_with machine.old ≡ None → stopped_with machine.new ≡ None) }
+{
+    let mut line = Vec::new(alloc);
+    if let Some(map) = map {
+        *start = put_function(alloc, map, machine.state().pc, *start, &mut line)?;
+    }
+    let text = instruction_text(alloc, machine.state())?;
+    let touched = touched(machine.state());
+    let before = machine.state().registers;
+    let outcome = machine.run(port, 1);
+    let effects = effects(alloc, touched, &before, &machine.state().registers)?;
+    put_columns(text.as_slice(), effects.as_slice(), &mut line)?;
+    line.push(b'\n')?;
+    Ok(Told {
+        outcome,
+        is_written: write_text(out, line.as_slice()),
+    })
 }
 
 /// Puts where the run is, where its function is another than that which starts at `start`; answers where its function starts.

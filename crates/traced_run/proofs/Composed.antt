@@ -1,0 +1,38 @@
+-- A run, and one step more.
+use Rattle.std.proofs.Common.{ℕ, List, Option, ◌≡◌, ◌≢◌, ◌<◌, ◌≤◌, ◌+◌, ◌-◌, ap, ◌∙◌, refl, subst, arith}
+use Rattle.io_ports.specs.Port.{PortView}
+use Rattle.rv32.specs.Step.{Machine}
+use Rattle.sim.proofs.Composing.{rvrun-add, rvrun_on}
+use Rattle.sim.specs.Runs.{World, Running, Ended, Trapped, rvrun, goes_on}
+use Rattle.sim.specs.Meets.{At, RunMeets}
+use Rattle.sim.specs.declared.machine.Outcome.{Outcome}
+use Rattle.sim.specs.declared.machine.Outcome.TheVariants as outcome
+
+-- what a run of n steps from v came to, that of k + n steps came to from where k lead to v
+pub behind : (o : Option (List ℕ)) (w v : World) (k n : ℕ) (x : Outcome) (m : Machine) (port : PortView) → rvrun k w ≡ Running v
+    → RunMeets o v n x m port → RunMeets o w (k + n) x m port
+behind o w v k n outcome.Budget m port r t = (t.0, rvrun_on k n (k + n) w v r refl ∙ t.1, t.2)
+behind o w v k n (outcome.Ended s) m port r t = (t.0, rvrun_on k n (k + n) w v r refl ∙ t.1, t.2)
+behind o w v k n (outcome.Trapped pc c) m port r t = (t.0, rvrun_on k n (k + n) w v r refl ∙ t.1, t.2, t.3)
+behind o w v k n (outcome.Port x) m port r t =
+    let lt = t.1.1 in
+    (k + t.0, (t.1.0, omega arith, rvrun_on k t.0 (k + t.0) w v r refl ∙ t.1.2, t.1.3))
+
+-- where it does not go on, each longer one comes to the same
+pub stays : (o : Option (List ℕ)) (w : World) (n max : ℕ) (x : Outcome) (m : Machine) (port : PortView) → n ≤ max → x ≢ outcome.Budget
+    → RunMeets o w n x m port → RunMeets o w max x m port
+stays o w n max outcome.Budget m port le ends t = absurd (ends refl)
+stays o w n max (outcome.Ended s) m port le ends t =
+    (t.0, ap (λ i. rvrun i w) (omega arith) ∙ rvrun-add n (max - n) w ∙ ap (λ p. goes_on p (rvrun (max - n))) t.1, t.2)
+stays o w n max (outcome.Trapped pc c) m port le ends t =
+    (t.0, ap (λ i. rvrun i w) (omega arith) ∙ rvrun-add n (max - n) w ∙ ap (λ p. goes_on p (rvrun (max - n))) t.1, t.2, t.3)
+stays o w n max (outcome.Port x) m port le ends t =
+    let lt = t.1.1 in
+    (t.0, (t.1.0, omega arith, t.1.2, t.1.3))
+
+-- a step that goes on, behind k that went on
+pub goes : (o : Option (List ℕ)) (w v : World) (k : ℕ) (x : Outcome) (m : Machine) (port : PortView) → rvrun k w ≡ Running v → x ≡ outcome.Budget
+    → RunMeets o v 1 x m port → (u : World) × (rvrun (k + 1) w ≡ Running u) × At o u m port
+goes o w v k x m port r e t =
+    let P : Outcome → Type 0 = λ y. RunMeets o w (k + 1) y m port in
+    subst P e (behind o w v k 1 x m port r t)

@@ -1,0 +1,3 @@
+pub use Rattle.sim.specs.Meets
+pub use Rattle.sim.specs.Machines
+pub mod Traced
