@@ -204,7 +204,7 @@ pub fn verify<'a>(alloc: Global) -> Result<Command<'a>, AllocError> {
     form(
         alloc,
         "verify",
-        "Tells whether a program does anything undefined, on any input",
+        "Tries to show that a program does nothing undefined, on any input",
         VERIFY_ROWS,
     )
 }
