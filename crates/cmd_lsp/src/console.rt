@@ -7,8 +7,8 @@ use explain::Stage;
 use explain_cmd::{Bounds, Form, explain_faults};
 use lint_report::{Asked, Form as ReportForm};
 use lint_unit::warn_of_sources;
-use lsp_facts::{expansion_of, function_fact, object_fact, value_of};
-use lsp_server::{Declared, FunctionFact, Host, ObjectFact, Part, Question, Unit};
+use lsp_facts::{enumerator_value, expansion_of, function_fact, object_fact, value_of};
+use lsp_program::{Declared, Enumerated, FunctionFact, Host, ObjectFact, Part, Question, Unit};
 use srcset::Code;
 use std::alloc::{AllocError, Global};
 use std::fs::{self, DirEntry};
@@ -102,6 +102,15 @@ impl<'a> Host for Console<'a> {
         expression: &str,
     ) -> Result<Option<i64>, AllocError> {
         value_of(alloc, unit, expression, false)
+    }
+
+    fn enumerator(
+        &self,
+        alloc: Global,
+        unit: Unit<'_>,
+        declared: Enumerated<'_>,
+    ) -> Result<Option<i64>, AllocError> {
+        enumerator_value(alloc, unit, declared)
     }
 
     fn macro_value(

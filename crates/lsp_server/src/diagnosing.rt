@@ -1,10 +1,11 @@
 //! Diagnostics as the text changes.
 
-use crate::host::{Host, Question, Unit};
 use crate::problems::{Problem, Severity, over_budget, published, read_problems};
 use crate::server::{Change, Server};
-use crate::unit_files::{Places, Program, UnitFile, gather, is_part, names_of, set_of, unit_of};
-use crate::view::View;
+use lsp_program::{
+    Host, Places, Program, Question, Unit, UnitFile, View, gather, is_part, names_of, set_of,
+    unit_of,
+};
 use lsp_wire::notification;
 use std::alloc::{AllocError, Global};
 
@@ -23,17 +24,17 @@ enum Plan {
 }
 
 impl<H: Host + Drop> Server<H> {
-    /// Notes that the file at a path changed, or was saved.
-    pub(crate) fn note_change(&mut self, path: &str, is_saved: bool) -> Result<(), AllocError> {
+    /// Notes that the file at a path changed, or is to be verified.
+    pub(crate) fn note_change(&mut self, path: &str, verifies: bool) -> Result<(), AllocError> {
         self.view = None;
         for change in self.changes.iter_mut() {
             if change.path.as_str() == path {
-                change.is_saved = change.is_saved || is_saved;
+                change.verifies = change.verifies || verifies;
                 return Ok(());
             }
         }
         let path = String::from_str(self.alloc, path)?;
-        self.changes.push(Change { path, is_saved })?;
+        self.changes.push(Change { path, verifies })?;
         Ok(())
     }
 
@@ -44,8 +45,7 @@ impl<H: Host + Drop> Server<H> {
         }
         let changes = std::mem::replace(&mut self.changes, Vec::new(self.alloc));
         for change in changes {
-            let verifies = change.is_saved && self.options.verifies;
-            self.look_at_all(change.path.as_str(), verifies)?;
+            self.look_at_all(change.path.as_str(), change.verifies)?;
         }
         self.forget_closed()?;
         self.publish()

@@ -1,9 +1,7 @@
 //! Documents that the client opens, changes and closes.
 
-use crate::host::Host;
-use crate::params::{span_of, text_at};
-use crate::paths::path_of;
-use crate::server::{OpenDocument, Server};
+use crate::server::Server;
+use lsp_program::{Host, OpenDocument, path_of, span_of, text_at};
 use lsp_text::{Document, Encoding};
 use serde_json::Value;
 use std::alloc::{AllocError, Global};
