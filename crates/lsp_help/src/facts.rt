@@ -2,18 +2,12 @@
 
 use crate::inquiry::Inquiry;
 use lsp_names::{Class, Mention, Place, Role, Symbol, SymbolKind, Word};
-use lsp_program::{
-    Declared, Enumerated, Host, Part, Spot, Unit, View, names_of, set_of, unit_of,
-};
+use lsp_program::{Declared, Enumerated, Host, Part, Spot, Unit, View, names_of, set_of, unit_of};
 use std::alloc::AllocError;
 
 impl<'a, H: Host> Inquiry<'a, H> {
     /// What is known of the symbol of a mention, in Markdown; empty where nothing is sure.
-    pub(crate) fn facts(
-        &self,
-        spot: Spot,
-        mention: Mention,
-    ) -> Result<String, AllocError> {
+    pub(crate) fn facts(&self, spot: Spot, mention: Mention) -> Result<String, AllocError> {
         let mut out = String::new(self.alloc);
         let view = self.view;
         let Some(symbol) = view.index.symbols.get(mention.symbol) else {
@@ -107,7 +101,8 @@ impl<'a, H: Host> Inquiry<'a, H> {
         let value = if symbol.is_global {
             self.host.value(self.alloc, unit, name)?
         } else {
-            self.host.enumerator(self.alloc, unit, enumerated(self.view, symbol))?
+            self.host
+                .enumerator(self.alloc, unit, enumerated(self.view, symbol))?
         };
         self.put_value(value, out)
     }

@@ -161,9 +161,7 @@ impl Index {
 
     /// An offset of a file, at which names are to be looked up.
     pub fn lookup(&self, file: usize, offset: usize) -> Lookup {
-        let count = self
-            .words(file)
-            .partition_point(|word| word.end <= offset);
+        let count = self.words(file).partition_point(|word| word.end <= offset);
         Lookup {
             file,
             offset,

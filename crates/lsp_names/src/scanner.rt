@@ -167,9 +167,8 @@ impl Scanner {
         self.frames.pop();
         let top = self.frames.top();
         if let Some(number) = top.symbol {
-            let read = self.table.read;
             self.table.end_head(number, top.at, at.word.end);
-            self.table.begin_scope(number, read);
+            self.table.begin_scope(number);
         }
         Ok(())
     }
@@ -192,10 +191,9 @@ impl Scanner {
             start: top.begin,
             end: self.last_end(),
         };
-        let before = self.read_before();
         let name = match top.symbol {
             Some(number) => {
-                self.table.begin_scope(number, before);
+                self.table.begin_scope(number);
                 self.table.end_whole(number, top.at, whole.end)
             }
             None => None,
@@ -325,17 +323,11 @@ impl Scanner {
         self.frames.set_top(top)
     }
 
-    /// How many tokens were read before this one.
-    fn read_before(&self) -> usize {
-        self.table.read.saturating_sub(1)
-    }
-
-    /// Notes where the declarator of the innermost part ends, if its scope did not begin before: the present token is the one behind it.
+    /// Notes where the declarator of the innermost part ends.
     fn end_declarator(&mut self, end: usize) {
         let top = self.frames.top();
-        let before = self.read_before();
         if let Some(number) = top.symbol {
-            self.table.begin_scope(number, before);
+            self.table.begin_scope(number);
             let _name = self.table.end_whole(number, top.at, end);
         }
     }
@@ -351,8 +343,7 @@ impl Scanner {
             self.table.define(number, top.at, top.begin);
             self.table.end_head(number, top.at, end);
             if top.inside != Inside::Enumerators {
-                let before = self.read_before();
-                self.table.begin_scope(number, before);
+                self.table.begin_scope(number);
             }
         }
         self.set_stage(Stage::Initialiser)

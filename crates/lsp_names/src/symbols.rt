@@ -35,10 +35,10 @@ pub struct Symbol {
     pub whole: Place,
     /// Whether its scope is the file, or the rest of the unit.
     pub is_global: bool,
-    /// How many tokens of the unit are read where its scope begins: behind its declarator, its enumerator, its tag, or the line of its macro
-    /// (ISO/IEC 9899:2011 6.2.1p7).
+    /// How many tokens of the unit were read where its scope began: behind its tag, the line of its macro, or the token with which its declarator or
+    /// its enumerator ended (ISO/IEC 9899:2011 6.2.1p7).
     pub(crate) scope_begin: usize,
-    /// Whether that is known; until then it is behind the name.
+    /// Whether it began; until then it counts from the name on.
     pub(crate) has_begun: bool,
     /// Where a scope ends that is not the file's: an offset in its file.
     pub scope_end: usize,

@@ -276,8 +276,9 @@ impl Table {
         Ok(())
     }
 
-    /// Notes that the first declarator of a symbol, or its enumerator, ended when so many tokens were read: there its scope begins.
-    pub(crate) fn begin_scope(&mut self, number: usize, read: usize) {
+    /// Notes that the first declarator of a symbol, or its enumerator, has ended.
+    pub(crate) fn begin_scope(&mut self, number: usize) {
+        let read = self.read;
         if let Some(symbol) = self.symbols.get_mut(number) {
             if !symbol.has_begun {
                 symbol.has_begun = true;

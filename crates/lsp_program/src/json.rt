@@ -4,11 +4,7 @@ use lsp_text::{Position, Span};
 use lsp_wire::put_string;
 use std::alloc::{AllocError, Global};
 
-pub fn put_position(
-    alloc: Global,
-    position: Position,
-    out: &mut String,
-) -> Result<(), AllocError> {
+pub fn put_position(alloc: Global, position: Position, out: &mut String) -> Result<(), AllocError> {
     let line = position.line;
     let character = position.character;
     let text = format!(in alloc; "{{\"line\":{line},\"character\":{character}}}")?;
@@ -38,12 +34,7 @@ pub fn put_location(
 }
 
 /// A `TextEdit`.
-pub fn put_edit(
-    alloc: Global,
-    span: Span,
-    text: &str,
-    out: &mut String,
-) -> Result<(), AllocError> {
+pub fn put_edit(alloc: Global, span: Span, text: &str, out: &mut String) -> Result<(), AllocError> {
     out.push_str("{\"range\":")?;
     put_span(alloc, span, out)?;
     out.push_str(",\"newText\":")?;

@@ -13,9 +13,7 @@ mod view;
 
 pub use documents::OpenDocument;
 pub use host::{Declared, Enumerated, FunctionFact, Host, ObjectFact, Part, Question, Unit};
-pub use json::{
-    put_comma, put_edit, put_location, put_position, put_span, put_text_member,
-};
+pub use json::{put_comma, put_edit, put_location, put_position, put_span, put_text_member};
 pub use options::Options;
 pub use params::{flag_at, number_at, place_of, position_of, span_of, text_at};
 pub use paths::{base_of, folder_of, joined, path_of, uri_of};

@@ -249,10 +249,7 @@ pub fn set_of(alloc: Global, files: &[UnitFile]) -> Result<FileSet, AllocError> 
 }
 
 /// The names of the files of such a set.
-pub fn names_of<'f>(
-    alloc: Global,
-    files: &'f [UnitFile],
-) -> Result<Vec<&'f str>, AllocError> {
+pub fn names_of<'f>(alloc: Global, files: &'f [UnitFile]) -> Result<Vec<&'f str>, AllocError> {
     let mut names = Vec::new(alloc);
     for file in files {
         if file.origin != Origin::BuiltIn {

@@ -108,12 +108,7 @@ impl<H: Host + Drop> Server<H> {
     }
 
     /// Requests for what is shown or offered at a place.
-    fn help<'a>(
-        &'a self,
-        view: &'a View,
-        method: &str,
-        spot: Spot,
-    ) -> Result<Outcome, AllocError> {
+    fn help<'a>(&'a self, view: &'a View, method: &str, spot: Spot) -> Result<Outcome, AllocError> {
         let inquiry = Inquiry {
             alloc: self.alloc,
             host: &self.host,

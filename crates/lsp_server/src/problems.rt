@@ -43,11 +43,7 @@ pub(crate) struct Problem {
 impl Problem {
     /// The first line of its text.
     pub(crate) fn title(&self) -> &str {
-        self.text
-            .as_str()
-            .split('\n')
-            .next()
-            .unwrap_or_default()
+        self.text.as_str().split('\n').next().unwrap_or_default()
     }
 }
 
