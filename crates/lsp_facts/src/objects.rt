@@ -11,12 +11,12 @@ use srcset::Pos;
 use std::alloc::{AllocError, Global};
 use typed_ast::{Function, ObjectType, ParameterType, Static};
 
-/// The name of an object like one of a block with static storage.
+/// The name of an object that is declared like another one.
 const OBJECT: &str = "zkc_like_object";
 
-/// What the compiler knows of an object or a parameter; `None` where it refuses the program, or where the declaration is not sure: that of an automatic
-/// object is found by its token, and one of the whole unit by its name, which must be the only one among all objects with static storage. For one of a block
-/// with static storage, another one is declared behind it.
+/// What the compiler knows of an object or a parameter; `None` where it refuses the program, or where the declaration is not sure. That of an automatic
+/// object is found by its token, and one of the whole unit by its name, if no other object with static storage has it. For another one, a like object is
+/// declared behind it.
 pub fn object_fact(
     alloc: Global,
     unit: Unit<'_>,
@@ -29,19 +29,23 @@ pub fn object_fact(
     let Some(whole) = check_program(alloc, &set, unit.main, stack_of(unit))? else {
         return Ok(None);
     };
-    match declared.parameter {
-        Some((function, number)) => parameter_fact(alloc, &whole, function, number),
-        None if declared.is_global => static_fact(alloc, &whole, declared.name),
-        None => match local_fact(alloc, &files, &whole, declared.at)? {
-            Some(fact) => Ok(Some(fact)),
-            None if files.is_laid => block_static_fact(alloc, unit, declared),
-            None => Ok(None),
-        },
+    if let Some((function, number)) = declared.parameter {
+        return parameter_fact(alloc, &whole, function, number);
     }
+    let found = if declared.is_global {
+        static_fact(alloc, &whole, declared.name)?
+    } else {
+        local_fact(alloc, &files, &whole, declared.at)?
+    };
+    if found.is_some() || !files.is_laid {
+        return Ok(found);
+    }
+    like_fact(alloc, unit, declared)
 }
 
-/// Of an object of a block with static storage: of another one with a like declarator and initialiser directly behind its own.
-fn block_static_fact(
+/// Of an object with static storage that is declared in a block, or has not its name alone: of one more with a like declarator and initialiser directly
+/// behind its own.
+fn like_fact(
     alloc: Global,
     unit: Unit<'_>,
     declared: Declared<'_>,

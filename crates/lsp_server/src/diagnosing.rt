@@ -12,14 +12,16 @@ use std::alloc::{AllocError, Global};
 /// How many programs are looked at beside one another.
 const MAX_PROGRAMS: usize = 32;
 
-/// What is done with a program when a file changed.
+/// What is done with a program when files changed.
 #[derive(Clone, Copy, PartialEq, Eq)]
 enum Plan {
-    /// It has the file.
+    /// It has a file that changed.
     Look,
+    /// It is to be verified, too.
+    Verify,
     /// Its main file is a part of another program.
     Forget,
-    /// It does not have the file.
+    /// It has none of the files.
     Leave,
 }
 
@@ -44,25 +46,18 @@ impl<H: Host + Drop> Server<H> {
             return Ok(());
         }
         let changes = std::mem::replace(&mut self.changes, Vec::new(self.alloc));
-        for change in changes {
-            self.look_at_all(change.path.as_str(), change.verifies)?;
-        }
-        self.forget_closed()?;
-        self.publish()
-    }
-
-    /// Looks at each program that has the file at a path. One whose main file another includes is a part of that.
-    fn look_at_all(&mut self, path: &str, verifies: bool) -> Result<(), AllocError> {
         let programs = self.programs()?;
-        let plans = plans_of(self.alloc, programs.as_slice(), path)?;
+        let plans = plans_of(self.alloc, programs.as_slice(), changes.as_slice())?;
         for (program, plan) in programs.into_iter().zip(plans) {
             match plan {
-                Plan::Look => self.look_at(program.files, verifies)?,
+                Plan::Look => self.look_at(program.files, false)?,
+                Plan::Verify => self.look_at(program.files, true)?,
                 Plan::Forget => self.drop_problems_of(program.root())?,
                 Plan::Leave => {}
             }
         }
-        Ok(())
+        self.forget_closed()?;
+        self.publish()
     }
 
     /// The programs that are looked at.
@@ -212,19 +207,34 @@ impl<H: Host + Drop> Server<H> {
     }
 }
 
-/// What is done with each program where the file at a path changed.
-fn plans_of(alloc: Global, programs: &[Program], path: &str) -> Result<Vec<Plan>, AllocError> {
+/// What is done with each program. One whose main file another includes is a part of that.
+fn plans_of(
+    alloc: Global,
+    programs: &[Program],
+    changes: &[Change],
+) -> Result<Vec<Plan>, AllocError> {
     let mut plans = Vec::new(alloc);
     for (number, program) in programs.iter().enumerate() {
         plans.push(if is_part(programs, number) {
             Plan::Forget
-        } else if program.has_path(path) {
-            Plan::Look
         } else {
-            Plan::Leave
+            plan_of(program, changes)
         })?;
     }
     Ok(plans)
+}
+
+fn plan_of(program: &Program, changes: &[Change]) -> Plan {
+    let mut plan = Plan::Leave;
+    for change in changes {
+        if program.has_path(change.path.as_str()) {
+            if change.verifies {
+                return Plan::Verify;
+            }
+            plan = Plan::Look;
+        }
+    }
+    plan
 }
 
 fn has_text(texts: &[String], text: &str) -> bool {

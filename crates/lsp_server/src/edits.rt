@@ -40,6 +40,9 @@ impl<H: Host + Drop> Server<H> {
         let Some(changes) = params.pointer("/contentChanges").and_then(Value::as_array) else {
             return Ok(());
         };
+        if changes.is_empty() {
+            return Ok(());
+        }
         let alloc = self.alloc;
         let encoding = self.options.encoding;
         if let Some(open) = self.documents.get_mut(number) {

@@ -16,7 +16,7 @@ import harness
 here = os.path.dirname(os.path.abspath(__file__))
 sys.path.insert(0, here)
 from client import Session, frame, places, request, shown, unframed
-from programs import FAULTS, FOLDS, FRAMES, HINTS, HOVERS, INCLUDES, LIGHT, NAMES, OFFERS, OPTIONS, RING, SIGNATURES, SYMBOLS, TABLE, TOKENS, place, program
+from programs import BLOCKS, FAULTS, FOLDS, FRAMES, HINTS, HOVERS, INCLUDES, LIGHT, NAMES, OFFERS, OPTIONS, RING, SCOPED, SIGNATURES, SYMBOLS, TABLE, TOKENS, UNSURE, place, program
 from replay import replay
 
 top = os.path.dirname(os.path.dirname(os.path.dirname(here)))
@@ -135,7 +135,7 @@ def in_file(answer):
 
 
 def check_hovers():
-    for files in PROGRAMS:
+    for files in (*PROGRAMS, BLOCKS):
         asked = Asked(files)
         for where, wanted in [(row[1], row[2]) for row in HOVERS if row[0] is files]:
             name, line, first, _ = place(files, where)
@@ -168,15 +168,20 @@ def check_unsure():
     """What is not sure is not shown: a name of a block in a macro's expansion, a macro that is defined twice, a branch that is skipped, a program with a fault."""
     text = ('#define TWO (A + B)\n#define N 1\n#undef N\n#define N 2\nenum { A = 1, B };\nint x;\n#if 0\nint f(void) { long x = 1; return x; }\n#endif\n'
             'int main(void) { enum { A = 7 }; int z = TWO; return z + A + x; }\n')
-    rows = [('main.c', 9, 41, 'value'), ('main.c', 1, 8, 'value'), ('main.c', 7, 20, 'type'), ('main.c', 9, 57, 'value')]
+    rows = [('main.c', 9, 41, 'value'), ('main.c', 1, 8, 'value'), ('main.c', 7, 20, 'type')]
     files = {'main.c': text}
     asked = Asked(files)
     for name, line, character, word in rows:
         asked.ask(asked.session.at('hover', name, line, character), no_line(f'hover {line}:{character}', word))
+    asked.ask(asked.session.at('hover', 'main.c', 9, 57), has_lines('hover of the enumerator of the block', ['value `7`']))
     asked.end()
     asked = Asked({'main.c': 'enum { A = 1 };\nint main(void) { return A }\n'})
     asked.ask(asked.session.at('hover', 'main.c', 0, 7), no_line('hover in a program with a fault', 'value'))
     asked.end()
+    for text, where, word in UNSURE:
+        asked = Asked({'main.c': text})
+        asked.ask(asked.session.at('hover', *place({'main.c': text}, where)[:3]), no_line(f'hover {where} of {text!r}', word))
+        asked.end()
 
 
 def no_line(what, word):
@@ -186,17 +191,61 @@ def no_line(what, word):
     return take
 
 
+# A quotient by what is read: rv_getbyte gives -1 to 255.
+QUOTIENT = '#include <rvio.h>\nint main(void)\n{\n    int a = rv_getbyte();\n    return 100 / (a - 7) & 1;\n}\n'
+
+
+def verify(session, name):
+    """Asks for a program to be verified as its texts stand."""
+    return session.ask('workspace/executeCommand', {'command': 'zikorape.verify', 'arguments': [session.uri(name)]})
+
+
+def told_at(notices, uri):
+    """What was told of a file, one time after another: the severities and the lines."""
+    told = [it['params']['diagnostics'] for it in notices if it.get('method') == 'textDocument/publishDiagnostics' and it['params']['uri'] == uri]
+    return [[(each['severity'], each['range']['start']['line']) for each in list_] for list_ in told]
+
+
 def check_interval():
-    """What `zkc verify` knows of a place is shown there, once the file is saved."""
-    asked = Asked({'main.c': '#include <rvio.h>\nint main(void)\n{\n    int a = rv_getbyte();\n    return 100 / (a - 7) & 1;\n}\n'})
+    """What `zkc verify` knows of a place is shown there, once the file is saved, or verified by the command."""
+    asked = Asked({'main.c': QUOTIENT})
     asked.session.tell('textDocument/didSave', {'textDocument': {'uri': asked.session.uri('main.c')}})
-    # rv_getbyte gives -1 to 255
     asked.ask(asked.session.at('hover', 'main.c', 4, 15), has_lines('hover /', ['may be undefined: division by zero: `-8 to 248`']))
     asked.end()
+    for options in ({'main': 'main.c'}, {'main': 'main.c', 'verify': False}):
+        asked = Asked({'main.c': QUOTIENT}, options)
+        session = asked.session
+        asked.ask(session.of('foldingRange', 'main.c'), lambda _: None)
+        # the text that is not saved counts
+        session.change('main.c', (4, 22), (4, 23), '9')
+        asked.ask(verify(session, 'main.c'), expected('the answer to the command', (True, None), lambda it: ('result' in it, it.get('result'))))
+        asked.ask(session.at('hover', 'main.c', 4, 15), has_lines('hover / behind the command', ['may be undefined: division by zero: `-10 to 246`']))
+        # a change withdraws the place, and a save tells it where the option has it so
+        session.change('main.c', (0, 0), (0, 0), '\n')
+        asked.ask(session.of('foldingRange', 'main.c'), lambda _: None)
+        session.tell('textDocument/didSave', {'textDocument': {'uri': session.uri('main.c')}})
+        asked.ask(session.of('foldingRange', 'main.c'), lambda _: None)
+        wanted = [[], [(3, 4)], [], [(3, 5)] if 'verify' not in options else []]
+        verdict.expect(f'{options}: what is told', told_at(asked.end(), session.uri('main.c')), wanted)
+    # a change without changes withdraws nothing
+    asked = Asked({'main.c': QUOTIENT})
+    session = asked.session
+    asked.ask(verify(session, 'main.c'), lambda _: None)
+    session.tell('textDocument/didChange', {'textDocument': {'uri': session.uri('main.c'), 'version': 2}, 'contentChanges': []})
+    asked.ask(session.of('foldingRange', 'main.c'), lambda _: None)
+    verdict.expect('a change without changes', told_at(asked.end(), session.uri('main.c')), [[(3, 4)]])
+    # an included file names its program, and a program with a fault is not verified: `int ;` declares nothing (6.7p2)
+    asked = Asked({'main.c': '#include "a.h"\n' + QUOTIENT, 'a.h': 'int b;\n'})
+    session = asked.session
+    asked.ask(verify(session, 'a.h'), lambda _: None)
+    session.change('a.h', (0, 4), (0, 5), '')
+    asked.ask(verify(session, 'a.h'), lambda _: None)
+    notices = asked.end()
+    verdict.expect('a command for an included file', [told_at(notices, session.uri(name)) for name in ('main.c', 'a.h')], [[[(3, 5)], []], [[], [(1, 0)]]])
 
 
 def check_others():
-    for files in PROGRAMS:
+    for files in (*PROGRAMS, BLOCKS):
         asked = Asked(files)
         session = asked.session
         for name, wanted in [row[1:] for row in SYMBOLS if row[0] is files]:
@@ -243,9 +292,9 @@ LINES = [
     ('#include "', {'rvio.h', 'table.h', 'table.c', 'more/'}, {'main', 'notes.txt', '.hidden.h'}),
     ('#include "ta', {'table.h', 'table.c'}, {'main'}),
     ('#include "more/', {'deep.h'}, {'rvio.h', 'table.h', 'more/'}),
-    ('#include "table.h" ', {'main', 'while'}, {'rvio.h'}),
     # main is declared behind this line, so it is not in scope (6.2.1p7)
-    ('flat[0] = ', {'flat', 'CELL', 'while'}, {'include', 'rvio.h'}),
+    ('#include "table.h" ', {'limit', 'while'}, {'main', 'rvio.h'}),
+    ('flat[0] = ', {'flat', 'CELL', 'while'}, {'main', 'include', 'rvio.h'}),
 ]
 
 
@@ -268,6 +317,16 @@ def check_lines():
                 span = it['textEdit']['range']
                 verdict.expect(f'{line!r}: {it["label"]} replaces', (span['start']['character'], span['end']['character']), (first, len(line)))
                 break
+
+
+def check_scopes():
+    """Where a name is in scope."""
+    for what, files, there, absent in SCOPED:
+        name = next(name for name, text in files.items() if '@' in text)
+        before = files[name].split('@')[0]
+        asked = Asked({each: text.replace('@', '') for each, text in files.items()})
+        asked.ask(asked.session.at('completion', name, before.count('\n'), len(before) - before.rfind('\n') - 1), offers(what, there, absent))
+        asked.end()
 
 
 def check_rename():
@@ -540,7 +599,7 @@ def check_sessions():
         replay(path, cc, verdict)
 
 
-CHECKS = (check_sessions, check_errors, check_frames, check_edits, check_faults, check_written, check_names, check_hovers, check_unsure, check_interval, check_others, check_lines, check_rename, check_options, check_bombs,
+CHECKS = (check_sessions, check_errors, check_frames, check_edits, check_faults, check_written, check_names, check_hovers, check_unsure, check_interval, check_others, check_lines, check_scopes, check_rename, check_options, check_bombs,
           check_mutated)
 for check in CHECKS:
     if len(sys.argv) < 3 or check.__name__.removeprefix('check_') in sys.argv[2:]:
