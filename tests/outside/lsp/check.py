@@ -15,7 +15,7 @@ import harness
 
 here = os.path.dirname(os.path.abspath(__file__))
 sys.path.insert(0, here)
-from client import Session, frame, places, request, shown, unframed
+from client import Session, frame, notice, places, request, shown, unframed
 from programs import BLOCKS, FAULTS, FOLDS, FRAMES, HINTS, HOVERS, INCLUDES, LIGHT, NAMES, OFFERS, OPTIONS, RING, SCOPED, SIGNATURES, SYMBOLS, TABLE, TOKENS, UNSURE, place, program
 from replay import replay
 
@@ -544,19 +544,106 @@ def code_of(answer):
     return ((answer or {}).get('error') or {}).get('code')
 
 
+# What a client may send that is wrong, and what it gets (JSON-RPC 2.0, sections 4, 5 and 5.1; LSP 3.17, ErrorCodes): the id and the code of the error, or None for no answer.
+WRONG = [
+    ('no JSON', b'{"jsonrpc": "2.0", "method": "foobar, "params": "bar", "baz]', (None, -32700)),
+    ('half of a message', b'{"jsonrpc": "2.0", "id": 1', (None, -32700)),
+    ('nothing', b'', (None, -32700)),
+    ('no UTF-8', b'{"jsonrpc": "2.0", "id": 1, "method": "\xff"}', (None, -32700)),
+    ('half of a surrogate pair', b'{"jsonrpc": "2.0", "id": 1, "method": "\\ud800"}', (None, -32700)),
+    ('two values', b'{} {}', (None, -32700)),
+    ('an empty array', [], (None, -32600)),
+    ('an array of numbers', [1, 2, 3], (None, -32600)),
+    # the protocol has no batches
+    ('an array of requests', [request(7, 'textDocument/hover', {})], (None, -32600)),
+    ('a number', 1, (None, -32600)),
+    ('null', b'null', (None, -32600)),
+    ('an empty object', {}, (None, -32600)),
+    ('no version', {'id': 7, 'method': 'textDocument/hover'}, (7, -32600)),
+    ('another version', {'jsonrpc': '1.0', 'id': 7, 'method': 'textDocument/hover'}, (7, -32600)),
+    ('a version that is a number', {'jsonrpc': 2.0, 'id': 7, 'method': 'textDocument/hover'}, (7, -32600)),
+    ('no method', {'jsonrpc': '2.0', 'id': 7, 'params': {}}, (7, -32600)),
+    ('a method that is a number', {'jsonrpc': '2.0', 'id': 7, 'method': 1, 'params': 'bar'}, (7, -32600)),
+    ('parameters that are a text', request(7, 'textDocument/hover', 'bar'), (7, -32600)),
+    ('parameters that are a number', request('a', 'textDocument/hover', 1), ('a', -32600)),
+    ('an id that is an object', request({}, 'textDocument/hover', {}), (None, -32600)),
+    ('an id that is a fraction', request(1.5, 'textDocument/hover', {}), (None, -32600)),
+    ('an id that is null', request(None, 'textDocument/hover', {}), (None, -32600)),
+    ('a notification without a method', {'jsonrpc': '2.0', 'params': {}}, (None, -32600)),
+    ('an unknown method', request(7, 'foobar', {}), (7, -32601)),
+    ('an unknown method of the protocol\'s own', request(7, '$/foobar', {}), (7, -32601)),
+    ('a method without a name', request(7, '', {}), (7, -32601)),
+    ('a request that is a notification', request(7, 'textDocument/didOpen', {}), (7, -32601)),
+    ('a notification that is not known', notice('foobar', {}), None),
+    ('a notification that is a request', notice('textDocument/hover', {}), None),
+    ('a reply to nothing', {'jsonrpc': '2.0', 'id': 7, 'result': None}, None),
+    ('an error to nothing', {'jsonrpc': '2.0', 'id': 7, 'error': {'code': 1, 'message': ''}}, None),
+    ('initialize again', request(7, 'initialize', {}), (7, -32600)),
+    ('no document', request(7, 'textDocument/hover', {}), (7, -32602)),
+    ('no parameters', request(7, 'textDocument/documentSymbol', None), (7, -32602)),
+    ('parameters in an array', request(7, 'textDocument/definition', [1]), (7, -32602)),
+    ('no position', request(7, 'textDocument/hover', {'textDocument': {'uri': '$URI'}}), (7, -32602)),
+    ('a position that is negative', request(7, 'textDocument/hover', {'textDocument': {'uri': '$URI'}, 'position': {'line': -1, 'character': 0}}), (7, -32602)),
+    ('a position that is a text', request(7, 'textDocument/completion', {'textDocument': {'uri': '$URI'}, 'position': {'line': '0', 'character': 0}}), (7, -32602)),
+    ('no range', request(7, 'textDocument/inlayHint', {'textDocument': {'uri': '$URI'}}), (7, -32602)),
+    ('no new name', request(7, 'textDocument/rename', {'textDocument': {'uri': '$URI'}, 'position': {'line': 0, 'character': 4}}), (7, -32602)),
+    ('a document that lies nowhere', request(7, 'textDocument/documentSymbol', {'textDocument': {'uri': 'file:///nowhere/at/all.c'}}), (7, -32602)),
+    ('no command', request(7, 'workspace/executeCommand', {'arguments': []}), (7, -32602)),
+    ('an unknown command', request(7, 'workspace/executeCommand', {'command': 'foobar', 'arguments': ['$URI']}), (7, -32602)),
+    ('a command without its argument', request(7, 'workspace/executeCommand', {'command': 'zikorape.verify'}), (7, -32602)),
+    ('a command with another argument', request(7, 'workspace/executeCommand', {'command': 'zikorape.verify', 'arguments': [1]}), (7, -32602)),
+    ('a document without a text', notice('textDocument/didOpen', {'textDocument': {'uri': '$URI'}}), None),
+    ('changes that are none', notice('textDocument/didChange', {'textDocument': {'uri': '$URI'}, 'contentChanges': 1}), None),
+    ('a change of a document that is not open', notice('textDocument/didChange', {'textDocument': {'uri': 'file:///a.c'}, 'contentChanges': [{'text': ''}]}), None),
+    ('a save of nothing', notice('textDocument/didSave', {}), None),
+]
+# What is said with a code, by hand: each names what the number means (JSON-RPC 2.0, 5.1; LSP 3.17).
+SAID = {
+    -32700: 'the message is not JSON',
+    -32600: 'the message is no request',
+    -32601: 'there is no such method',
+    -32602: 'the parameters are not those of the method',
+    -32002: 'the server is not initialized',
+}
+OTHERWISE_SAID = {
+    'initialize again': 'the server is initialized already',
+}
+
+
+def error_of(answer):
+    error = answer.get('error') or {}
+    return answer.get('id'), error.get('code'), error.get('message')
+
+
+def bare(messages):
+    """Plays messages as they are; returns the status and the bodies that are no notifications."""
+    done = subprocess.run([cc, 'lsp'], input=b''.join(frame(it) for it in messages), stdout=subprocess.PIPE, timeout=600, check=False)
+    bodies = unframed(done.stdout)
+    return done.returncode, bodies if isinstance(bodies, str) else [it for it in bodies if 'method' not in it]
+
+
 def check_errors():
-    session = Session(program({}))
-    unknown = session.ask('textDocument/unknown', {})
-    invalid = session.ask('textDocument/hover', {'textDocument': 1})
-    status, answers, _ = session.run(cc)
-    verdict.expect('errors: the status', status, 0)
-    verdict.expect('no such method', code_of(answers.get(unknown)), -32601)
-    verdict.expect('wrong parameters', code_of(answers.get(invalid)), -32602)
-    session = Session(program({}))
-    session.sent = [frame(request(9, 'shutdown', None)), frame(b'{'), frame([1])] + session.sent
-    status, answers, _ = session.run(cc)
-    verdict.expect('before initialize', code_of(answers.get(9)), -32002)
-    verdict.expect('early: the status', status, 0)
+    """A message that is wrong gets the error of the protocol, and the session goes on."""
+    for what, body, wanted in WRONG:
+        session = Session(program({'main.c': 'int a;\n'}), {'main': 'main.c'})
+        session.open('main.c', 'int a;\nint main(void) { return a; }\n')
+        body = body if isinstance(body, bytes) else json.dumps(body).encode()
+        session.send(frame(body.replace(b'$URI', session.uri('main.c').encode())))
+        session.send(frame(request(100, 'textDocument/documentSymbol', {'textDocument': {'uri': session.uri('main.c')}})))
+        done = subprocess.run([cc, 'lsp'], input=b''.join(session.sent) + frame(request(101, 'shutdown', None)) + frame(notice('exit', None)), stdout=subprocess.PIPE, timeout=600, check=False)
+        bodies = [it for it in unframed(done.stdout) if 'method' not in it]
+        text = OTHERWISE_SAID.get(what, SAID.get(wanted and wanted[1]))
+        verdict.expect(f'{what}: the answers', [error_of(it) for it in bodies[1:-2]], [(*wanted, text)] if wanted else [])
+        verdict.expect(f'{what}: the session goes on', ([it['id'] for it in bodies[-2:]], len(bodies[-2].get('result') or []), done.returncode), ([100, 101], 2, 0))
+    ask, end = request(1, 'initialize', {'processId': None, 'rootUri': None, 'capabilities': {}}), notice('exit', None)
+    hover, stop = request(2, 'textDocument/hover', {}), request(3, 'shutdown', None)
+    status, bodies = bare([hover, stop, notice('textDocument/didOpen', {}), b'{', ask, stop, hover, ask, stop, end])
+    verdict.expect('before initialize, and behind shutdown: the status', status, 0)
+    verdict.expect('before initialize, and behind shutdown', [error_of(it)[:2] for it in bodies],
+                   [(2, -32002), (3, -32002), (None, -32700), (1, None), (3, None), (2, -32600), (1, -32600), (3, -32600)])
+    verdict.expect('before initialize: the text', error_of(bodies[0])[2], SAID[-32002])
+    # exit without shutdown, and an input that ends (LSP 3.17, exit)
+    verdict.expect('exit without shutdown', [bare(it)[0] for it in ([ask, end], [end], [ask], [])], [1, 1, 1, 1])
 
 
 def mutated(random, body):
