@@ -20,8 +20,8 @@ pub struct Unit<'a> {
 /// What is asked of a program.
 #[derive(Clone, Copy, Debug, PartialEq, Eq)]
 pub enum Question {
-    /// Why it is refused.
-    Faults,
+    /// Why it is refused: at most so many faults.
+    Faults(usize),
     /// What it may have by mistake. It is asked of programs that are not refused.
     Warnings,
     /// Where undefined behaviour is not ruled out. It is asked of programs that are not refused.
