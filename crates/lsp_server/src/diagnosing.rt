@@ -12,6 +12,12 @@ use std::alloc::{AllocError, Global};
 /// How many programs are looked at beside one another.
 const MAX_PROGRAMS: usize = 32;
 
+/// How many faults of a program are asked for at most.
+const MAX_FAULTS: u64 = 10;
+
+/// How much work these may be. The compiler is asked several times for each.
+const FAULT_WORK: u64 = 1_000_000;
+
 /// What is done with a program when files changed.
 #[derive(Clone, Copy, PartialEq, Eq)]
 enum Plan {
@@ -101,7 +107,7 @@ impl<H: Host + Drop> Server<H> {
         let view = View::of(self.alloc, files, self.options.encoding)?;
         self.drop_problems_of(view.root())?;
         if view.is_within_budget() {
-            self.ask_all(view.files.as_slice(), verifies)?;
+            self.ask_all(view.files.as_slice(), faults_within(view.work), verifies)?;
         } else {
             let problem = over_budget(self.alloc, view.files.as_slice(), view.work)?;
             self.put_problem(problem)?;
@@ -111,13 +117,18 @@ impl<H: Host + Drop> Server<H> {
     }
 
     /// Asks for faults of a program, or else for warnings and, where that is wanted, for what is not verified.
-    fn ask_all(&mut self, files: &[UnitFile], verifies: bool) -> Result<(), AllocError> {
+    fn ask_all(
+        &mut self,
+        files: &[UnitFile],
+        most: usize,
+        verifies: bool,
+    ) -> Result<(), AllocError> {
         let set = set_of(self.alloc, files)?;
         let names = names_of(self.alloc, files)?;
         let Some(unit) = unit_of(files, &set, names.as_slice(), self.options.stack) else {
             return Ok(());
         };
-        if self.ask(files, unit, Question::Faults, Severity::Error)? {
+        if self.ask(files, unit, Question::Faults(most), Severity::Error)? {
             return Ok(());
         }
         self.ask(files, unit, Question::Warnings, Severity::Warning)?;
@@ -205,6 +216,14 @@ impl<H: Host + Drop> Server<H> {
         }
         Ok(())
     }
+}
+
+/// How many faults of a program are asked for, by the work that it is.
+fn faults_within(work: u64) -> usize {
+    let count = FAULT_WORK
+        .checked_div(work)
+        .unwrap_or(MAX_FAULTS);
+    usize::try_from(count.min(MAX_FAULTS).max(1)).unwrap_or(1)
 }
 
 /// What is done with each program. One whose main file another includes is a part of that.

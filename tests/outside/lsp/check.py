@@ -7,6 +7,7 @@ CHECK: only the checks of these names, as `written`. The last line is `N passed,
 import glob
 import json
 import os
+import resource
 import subprocess
 import sys
 
@@ -373,6 +374,23 @@ def check_bombs():
         verdict.expect(f'{name}: what is told', [[each['code'] for each in list_] for list_ in told], [['budget'], ['401']])
 
 
+def check_size():
+    """What a large program costs: a long line no more than short ones, and fewer faults of more tokens."""
+    times = []
+    for behind in '\n ':
+        asked = Asked({'main.c': f'int a;{behind}' * 12000 + 'int main(void) { return a; }\n'})
+        # int and a of each; int, main, void, return and a
+        asked.ask(asked.session.of('semanticTokens/full', 'main.c'), expected('tokens of a large file', 5 * (2 * 12000 + 5), lambda it: len((it.get('result') or {}).get('data') or [])))
+        before = resource.getrusage(resource.RUSAGE_CHILDREN).ru_utime
+        asked.end()
+        times.append(resource.getrusage(resource.RUSAGE_CHILDREN).ru_utime - before)
+    verdict.holds(f'lines of one declaration take {times[0]:.2f} s, and one line of all takes {times[1]:.2f} s', times[1] < 8 * times[0])
+    # 210,000 tokens and some: 1,000,000 by that is 4; with a tenth of them 10
+    for count, wanted in ((70000, 4), (7000, 10)):
+        asked = Asked({'main.c': 'int a;\n' * count + ''.join(f'int f{k}(void) {{ return q{k}; }}\n' for k in range(12)) + 'int main(void) { return a; }\n'})
+        verdict.expect(f'faults of {count} lines', len(shown(asked.end(), asked.session.uri('main.c')) or []), wanted)
+
+
 # A text with a fault: a missing semicolon. The line and the characters of the token behind it in UTF-16 and in UTF-8, by hand.
 PLACES = [
     ('plain', 'int main(void)\n{\n    int a = 1\n    return a;\n}\n', (3, 4, 10), (3, 4, 10)),
@@ -686,7 +704,7 @@ def check_sessions():
         replay(path, cc, verdict)
 
 
-CHECKS = (check_sessions, check_errors, check_frames, check_edits, check_faults, check_written, check_names, check_hovers, check_unsure, check_interval, check_others, check_lines, check_scopes, check_rename, check_options, check_bombs,
+CHECKS = (check_sessions, check_errors, check_frames, check_edits, check_faults, check_written, check_names, check_hovers, check_unsure, check_interval, check_others, check_lines, check_scopes, check_rename, check_options, check_bombs, check_size,
           check_mutated)
 for check in CHECKS:
     if len(sys.argv) < 3 or check.__name__.removeprefix('check_') in sys.argv[2:]:
