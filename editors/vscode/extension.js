@@ -198,8 +198,37 @@ function providers(server, legend) {
   ];
 }
 
+/** Has a document verified as it stands in the editor, once it has not changed for some milliseconds; never where these are 0. */
+class Verifier {
+  constructor(server, delay) {
+    this.server = server;
+    this.delay = delay;
+    this.timers = new Map();
+  }
+
+  /** Begins the time of a document anew. */
+  restart(uri) {
+    this.stop(uri);
+    if (this.delay > 0) this.timers.set(uri, setTimeout(() => this.verify(uri), this.delay));
+  }
+
+  stop(uri) {
+    clearTimeout(this.timers.get(uri));
+    this.timers.delete(uri);
+  }
+
+  verify(uri) {
+    this.timers.delete(uri);
+    this.server.request("workspace/executeCommand", { command: "zikorape.verify", arguments: [uri] }).catch(() => {});
+  }
+
+  dispose() {
+    for (const uri of [...this.timers.keys()]) this.stop(uri);
+  }
+}
+
 /** Tells the server of documents. */
-function watch(server) {
+function watch(server, verifier) {
   const isOurs = (document) => vscode.languages.match(SELECTOR, document) > 0;
   const open = (document) => {
     if (!isOurs(document)) return;
@@ -212,17 +241,22 @@ function watch(server) {
   return [
     vscode.workspace.onDidOpenTextDocument(open),
     vscode.workspace.onDidChangeTextDocument((event) => {
-      if (!isOurs(event.document)) return;
+      if (!isOurs(event.document) || event.contentChanges.length === 0) return;
+      verifier.restart(event.document.uri.toString());
       server.notify("textDocument/didChange", {
         textDocument: { uri: event.document.uri.toString(), version: event.document.version },
         contentChanges: event.contentChanges.map((it) => ({ range: fromRange(it.range), text: it.text })),
       });
     }),
     vscode.workspace.onDidSaveTextDocument((document) => {
-      if (isOurs(document)) server.notify("textDocument/didSave", about(document));
+      if (!isOurs(document)) return;
+      verifier.stop(document.uri.toString());
+      server.notify("textDocument/didSave", about(document));
     }),
     vscode.workspace.onDidCloseTextDocument((document) => {
-      if (isOurs(document)) server.notify("textDocument/didClose", about(document));
+      if (!isOurs(document)) return;
+      verifier.stop(document.uri.toString());
+      server.notify("textDocument/didClose", about(document));
     }),
   ];
 }
@@ -250,7 +284,8 @@ async function activate(context) {
     },
   });
   client.notify("initialized", {});
-  context.subscriptions.push(shown, ...watch(client));
+  const verifier = new Verifier(client, settings.get("verify") ? settings.get("verifyDelay") : 0);
+  context.subscriptions.push(shown, verifier, ...watch(client, verifier));
   context.subscriptions.push(...providers(client, begun.capabilities.semanticTokensProvider.legend));
 }
 

@@ -7,15 +7,12 @@ use explain::Stage;
 use explain_cmd::{Bounds, Form, explain_faults};
 use lint_report::{Asked, Form as ReportForm};
 use lint_unit::warn_of_sources;
-use lsp_facts::{expansion_of, function_fact, object_fact, value_of};
-use lsp_server::{Declared, FunctionFact, Host, ObjectFact, Part, Question, Unit};
+use lsp_facts::{enumerator_value, expansion_of, function_fact, object_fact, value_of};
+use lsp_program::{Declared, Enumerated, FunctionFact, Host, ObjectFact, Part, Question, Unit};
 use srcset::Code;
 use std::alloc::{AllocError, Global};
 use std::fs::{self, DirEntry};
 use verify_report::{Asked as Verified, verify_sources};
-
-/// How many faults of a program are told at most.
-const MAX_FAULTS: usize = 10;
 
 /// How many steps an analysis of a program that is saved takes at most: a second or two.
 const VERIFY_EFFORT: u64 = 3_000_000;
@@ -46,7 +43,7 @@ impl<'a> Host for Console<'a> {
         unit: Unit<'_>,
     ) -> Result<String, AllocError> {
         match question {
-            Question::Faults => faults(alloc, unit),
+            Question::Faults(most) => faults(alloc, unit, most),
             Question::Warnings => warnings(alloc, unit),
             Question::Unverified => unverified(alloc, unit),
         }
@@ -104,6 +101,15 @@ impl<'a> Host for Console<'a> {
         value_of(alloc, unit, expression, false)
     }
 
+    fn enumerator(
+        &self,
+        alloc: Global,
+        unit: Unit<'_>,
+        declared: Enumerated<'_>,
+    ) -> Result<Option<i64>, AllocError> {
+        enumerator_value(alloc, unit, declared)
+    }
+
     fn macro_value(
         &self,
         alloc: Global,
@@ -147,11 +153,11 @@ fn stack_of(unit: Unit<'_>) -> StackSize {
 }
 
 /// What `zkc explain --json` tells.
-fn faults(alloc: Global, unit: Unit<'_>) -> Result<String, AllocError> {
+fn faults(alloc: Global, unit: Unit<'_>, most: usize) -> Result<String, AllocError> {
     let bounds = Bounds {
         stage: Stage::Whole,
         stack: stack_of(unit),
-        most: MAX_FAULTS,
+        most,
     };
     let said = explain_faults(
         alloc,

@@ -3,13 +3,29 @@
 use cc::{StackSize, checked_program};
 use srcset::{Code, Fault, FileSet, Names};
 use std::alloc::{AllocError, Global};
-use typed_ast::Program;
+use typed_ast::{Program, Static};
 
 /// A typed program, with the names that it is told in.
 #[derive(Drop)]
 pub(crate) struct Checked {
     pub(crate) names: Names,
     pub(crate) program: Program,
+}
+
+impl Checked {
+    /// The object with static storage that has this name; `None` where there is none, or more than one.
+    pub(crate) fn only_static(&self, name: &str) -> Option<&Static> {
+        let mut found = None;
+        for object in &self.program.statics {
+            if self.names.shown_text(object.name) == name {
+                if found.is_some() {
+                    return None;
+                }
+                found = Some(object);
+            }
+        }
+        found
+    }
 }
 
 /// The typed program of a set; `None` where the compiler refuses it.

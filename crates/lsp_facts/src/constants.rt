@@ -1,15 +1,18 @@
 //! The values of integer constant expressions (ISO/IEC 9899:2011 6.6), which the compiler computes as initialisers behind the program.
 
 use crate::checking::{Checked, check_program};
+use crate::insertions::{Insertion, is_added, set_with};
 use crate::sources::stack_of;
-use lsp_server::Unit;
-use srcset::{Code, Fault, FileSet};
+use lsp_program::{Enumerated, Unit};
+use srcset::FileSet;
 use std::alloc::{AllocError, Global};
 
-/// The name of the file that has the initialisers, and that of the object.
+/// The name of the file that has the initialisers, that of the object, and that of an enumerator like the one of a block.
 const FILE: &str = "values of constants";
 
 const OBJECT: &str = "zkc_value_of_constant";
+
+const ENUMERATOR: &str = "zkc_like_enumerator";
 
 /// How many bytes an expression may have.
 const MAX_EXPRESSION: usize = 2_000;
@@ -35,6 +38,46 @@ pub fn value_of(
         Some(whole) => Ok(value_in(&whole)),
         None => Ok(None),
     }
+}
+
+/// The value of an enumerator of a block. Another one of the same value is declared directly behind it, so that it has a value nowhere but where the enumerator
+/// has one; it is the initialiser of an object at the end of the block. `None` where the compiler refuses that.
+pub fn enumerator_value(
+    alloc: Global,
+    unit: Unit<'_>,
+    declared: Enumerated<'_>,
+) -> Result<Option<i64>, AllocError> {
+    let file = declared.whole.file;
+    if !is_block_end(unit.set.get(file).unwrap_or_default(), declared.scope_end) {
+        return Ok(None);
+    }
+    let name = declared.name;
+    let like = format!(in alloc; ", {ENUMERATOR} = {name}")?;
+    let object = object_text(alloc, ENUMERATOR)?;
+    let mut insertions = Vec::new(alloc);
+    insertions.push(Insertion {
+        at: declared.whole.end,
+        bytes: like.into_bytes(),
+    })?;
+    insertions.push(Insertion {
+        at: declared.scope_end,
+        bytes: object.into_bytes(),
+    })?;
+    let Some(set) = set_with(alloc, unit, file, insertions.as_slice())? else {
+        return Ok(None);
+    };
+    match check_program(alloc, &set, unit.main, stack_of(unit))? {
+        Some(whole) => Ok(value_in(&whole)),
+        None => Ok(None),
+    }
+}
+
+/// Whether a brace that ends a block stands at an offset, however it is spelled (ISO/IEC 9899:2011 5.2.1.1, 6.4.6).
+fn is_block_end(bytes: &[u8], at: usize) -> bool {
+    let rest = bytes.get(at..).unwrap_or_default();
+    rest.starts_with(b"}".as_slice())
+        || rest.starts_with(b"%>".as_slice())
+        || rest.starts_with(b"??>".as_slice())
 }
 
 /// Whether each `)` of a text closes a `(` of it, so that it stays one expression in parentheses.
@@ -75,19 +118,7 @@ fn with_probe(
     }
 }
 
-/// Whether a set took a file; want of memory is told.
-fn is_added(answer: Result<(), Fault>) -> Result<bool, AllocError> {
-    match answer {
-        Ok(()) => Ok(true),
-        Err(fault) => if fault.code == Code::OutOfMemory.number() {
-            Err(AllocError)
-        } else {
-            Ok(false)
-        },
-    }
-}
-
-/// The text of that file: two elements, whether the value is negative and its bits.
+/// The text of that file.
 fn probe_text(
     alloc: Global,
     main: &str,
@@ -100,10 +131,15 @@ fn probe_text(
             text.push_str(format!(in alloc; "#undef {name}\n")?.as_str())?;
         }
     }
-    text.push_str(format!(in alloc;
-        "static const unsigned long {OBJECT}[2] = {{ ({expression}) < 0, ({expression}) }};\n"
-    )?.as_str())?;
+    text.push_str(object_text(alloc, expression)?.as_str())?;
     Ok(text)
+}
+
+/// The object that has the value of an expression: two elements, whether it is negative and its bits.
+fn object_text(alloc: Global, expression: &str) -> Result<String, AllocError> {
+    format!(in alloc;
+        " static const unsigned long {OBJECT}[2] = {{ ({expression}) < 0, ({expression}) }};\n"
+    )
 }
 
 /// Whether a token begins as an identifier does.
@@ -116,11 +152,7 @@ fn is_name(token: &str) -> bool {
 
 /// What the object says.
 fn value_in(whole: &Checked) -> Option<i64> {
-    let object = whole
-        .program
-        .statics
-        .iter()
-        .find(|object| whole.names.shown_text(object.name) == OBJECT)?;
+    let object = whole.only_static(OBJECT)?;
     // Elements behind the last that is written are zero.
     let is_negative = object.values.first().copied().unwrap_or(0) != 0;
     let bits = object.values.get(1).copied().unwrap_or(0);

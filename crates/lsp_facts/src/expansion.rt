@@ -3,7 +3,7 @@
 use crate::checking::none_of;
 use crate::sources::files_of;
 use lint_report::Files;
-use lsp_server::{Part, Unit};
+use lsp_program::{Part, Unit};
 use phases::PpToken;
 use pp::preprocess;
 use srcset::Names;

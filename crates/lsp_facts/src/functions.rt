@@ -4,7 +4,7 @@ use crate::checking::{Checked, check_program, none_of};
 use crate::sources::stack_of;
 use crate::types::function_text;
 use cc::compile_with;
-use lsp_server::{FunctionFact, Unit};
+use lsp_program::{FunctionFact, Unit};
 use std::alloc::{AllocError, Global};
 use typed_ast::Function;
 

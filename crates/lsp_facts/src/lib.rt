@@ -6,11 +6,12 @@ mod constants;
 mod declarators;
 mod expansion;
 mod functions;
+mod insertions;
 mod objects;
 mod sources;
 mod types;
 
-pub use constants::value_of;
+pub use constants::{enumerator_value, value_of};
 pub use expansion::expansion_of;
 pub use functions::function_fact;
 pub use objects::object_fact;

@@ -2,16 +2,21 @@
 
 use crate::checking::{Checked, check_program};
 use crate::declarators::declarators;
+use crate::insertions::{Insertion, set_with};
 use crate::sources::{files_of, stack_of};
 use crate::types::{object_text, parameter_text};
 use lint_report::Files;
-use lsp_server::{Declared, ObjectFact, Part, Unit};
+use lsp_program::{Declared, ObjectFact, Part, Unit};
 use srcset::Pos;
 use std::alloc::{AllocError, Global};
 use typed_ast::{Function, ObjectType, ParameterType, Static};
 
-/// What the compiler knows of an object or a parameter; `None` where it refuses the program, or where the declaration is not sure: that of an automatic
-/// object is found by its token, and one of the whole unit by its name, which must be the only one among all objects with static storage.
+/// The name of an object that is declared like another one.
+const OBJECT: &str = "zkc_like_object";
+
+/// What the compiler knows of an object or a parameter; `None` where it refuses the program, or where the declaration is not sure. That of an automatic
+/// object is found by its token, and one of the whole unit by its name, if no other object with static storage has it. For another one, a like object is
+/// declared behind it.
 pub fn object_fact(
     alloc: Global,
     unit: Unit<'_>,
@@ -24,10 +29,53 @@ pub fn object_fact(
     let Some(whole) = check_program(alloc, &set, unit.main, stack_of(unit))? else {
         return Ok(None);
     };
-    match declared.parameter {
-        Some((function, number)) => parameter_fact(alloc, &whole, function, number),
-        None if declared.is_global => static_fact(alloc, &whole, declared.name),
-        None => local_fact(alloc, &files, &whole, declared.at),
+    if let Some((function, number)) = declared.parameter {
+        return parameter_fact(alloc, &whole, function, number);
+    }
+    let found = if declared.is_global {
+        static_fact(alloc, &whole, declared.name)?
+    } else {
+        local_fact(alloc, &files, &whole, declared.at)?
+    };
+    if found.is_some() || !files.is_laid {
+        return Ok(found);
+    }
+    like_fact(alloc, unit, declared)
+}
+
+/// Of an object with static storage that is declared in a block, or has not its name alone: of one more with a like declarator and initialiser directly
+/// behind its own.
+fn like_fact(
+    alloc: Global,
+    unit: Unit<'_>,
+    declared: Declared<'_>,
+) -> Result<Option<ObjectFact>, AllocError> {
+    let file = declared.at.file;
+    let bytes = unit.set.get(file).unwrap_or_default();
+    let end = declarator_end(bytes, declared.end);
+    let mut like = format!(in alloc; ", {OBJECT}")?.into_bytes();
+    like.extend_from_slice(bytes.get(declared.at.end..end).unwrap_or_default())?;
+    let mut insertions = Vec::new(alloc);
+    insertions.push(Insertion {
+        at: end,
+        bytes: like,
+    })?;
+    let Some(set) = set_with(alloc, unit, file, insertions.as_slice())? else {
+        return Ok(None);
+    };
+    match check_program(alloc, &set, unit.main, stack_of(unit))? {
+        Some(whole) => static_fact(alloc, &whole, OBJECT),
+        None => Ok(None),
+    }
+}
+
+/// Where a declarator with its initialiser ends, where the `;` may stand behind it.
+fn declarator_end(bytes: &[u8], end: usize) -> usize {
+    let last = end.saturating_sub(1);
+    if bytes.get(last).copied() == Some(b';') {
+        last
+    } else {
+        end
     }
 }
 
@@ -89,19 +137,18 @@ fn static_fact(
     whole: &Checked,
     name: &str,
 ) -> Result<Option<ObjectFact>, AllocError> {
-    let mut found = None;
-    for object in &whole.program.statics {
-        if whole.names.shown_text(object.name) == name {
-            if found.is_some() {
-                return Ok(None);
-            }
-            found = Some(object);
+    match whole.only_static(name) {
+        Some(object) if is_sure(object) => {
+            Ok(Some(fact_of(alloc, &object.object_type, first_value(object))?))
         }
-    }
-    match found {
-        Some(object) => Ok(Some(fact_of(alloc, &object.object_type, first_value(object))?)),
+        Some(_) => Ok(None),
         None => Ok(None),
     }
+}
+
+/// Whether the type is that of the declarations: an array that is only declared, and without a size, has one element in a typed program.
+fn is_sure(object: &Static) -> bool {
+    object.defined || object.object_type.lengths.first().copied() != Some(1)
 }
 
 /// The value of the first element; 0 where none is written, but none of an object that is only declared.

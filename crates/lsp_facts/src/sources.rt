@@ -2,7 +2,7 @@
 
 use cc::StackSize;
 use lint_report::Files;
-use lsp_server::Unit;
+use lsp_program::Unit;
 use std::alloc::{AllocError, Global};
 
 /// The size of the stack; the usual one where the number is none.

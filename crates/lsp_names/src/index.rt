@@ -2,9 +2,9 @@
 
 use crate::folding::{Fold, folds};
 use crate::scanner::Scanner;
-use crate::symbols::{Mention, Parameter, Place, Role, Symbol, SymbolKind, Unresolved};
+use crate::symbols::{Lookup, Mention, Parameter, Place, Role, Symbol, SymbolKind, Unresolved};
 use crate::table::Table;
-use crate::walking::{File, walk_files, words_at};
+use crate::walking::{File, Stretch, walk_files, words_at};
 use crate::words::{Word, words_of};
 use srcset::Names;
 use std::alloc::{AllocError, Global};
@@ -21,6 +21,8 @@ pub struct Source<'a> {
 pub struct Index {
     names: Names,
     files: Vec<File>,
+    /// In which order the tokens of the files were read.
+    stretches: Vec<Stretch>,
     /// The symbols, in the order in which they were met.
     pub symbols: Vec<Symbol>,
     /// The mentions of symbols, by file and place.
@@ -38,19 +40,25 @@ impl Index {
         let files = files_of(alloc, sources, &mut names)?;
         let table = Table::new(alloc, names.len())?;
         let mut scanner = Scanner::new(alloc, table, names.find(b"void".as_slice()));
-        walk_files(alloc, &mut scanner, &names, files.as_slice(), main)?;
+        let stretches = walk_files(alloc, &mut scanner, &names, files.as_slice(), main)?;
         let mut table = scanner.table;
         table.resolve(alloc)?;
-        Index::made(names, files, table)
+        Index::made(names, files, stretches, table)
     }
 
-    fn made(names: Names, files: Vec<File>, table: Table) -> Result<Index, AllocError> {
+    fn made(
+        names: Names,
+        files: Vec<File>,
+        stretches: Vec<Stretch>,
+        table: Table,
+    ) -> Result<Index, AllocError> {
         let found = table.found();
         let mut mentions = found.mentions;
         mentions.sort_unstable_by_key(|mention| (mention.place.file, mention.place.start));
         Ok(Index {
             names,
             files,
+            stretches,
             symbols: found.symbols,
             mentions,
             unresolved: found.unresolved,
@@ -151,15 +159,35 @@ impl Index {
             .unwrap_or_default()
     }
 
-    /// Whether a symbol is in scope at an offset of a file.
-    pub fn is_visible(&self, symbol: &Symbol, file: usize, offset: usize) -> bool {
-        if symbol.is_global {
-            return true;
+    /// An offset of a file, at which names are to be looked up.
+    pub fn lookup(&self, file: usize, offset: usize) -> Lookup {
+        let count = self.words(file).partition_point(|word| word.end <= offset);
+        Lookup {
+            file,
+            offset,
+            read: self.read_before(file, count),
         }
-        symbol.kind != SymbolKind::MacroParameter
-            && symbol.at.file == file
-            && symbol.at.end <= offset
-            && offset <= symbol.scope_end
+    }
+
+    /// How many tokens of the unit were read before the one of this number.
+    fn read_before(&self, file: usize, number: usize) -> usize {
+        let mut read = 0;
+        for stretch in &self.stretches {
+            if stretch.file == file && stretch.first <= number {
+                read = stretch
+                    .before
+                    .saturating_add(number.saturating_sub(stretch.first));
+            }
+        }
+        read
+    }
+
+    /// Whether a symbol is in scope at a place.
+    pub fn is_visible(&self, symbol: &Symbol, at: Lookup) -> bool {
+        if symbol.kind == SymbolKind::MacroParameter || at.read < symbol.scope_begin {
+            return false;
+        }
+        symbol.is_global || symbol.at.file == at.file && at.offset <= symbol.scope_end
     }
 
     /// Whether the body of a macro has the name of a symbol that is not the whole unit's, so that it may or may not mean it.

@@ -16,5 +16,5 @@ mod words;
 pub use calls::{CallSite, call_at};
 pub use folding::Fold;
 pub use index::{Index, Source};
-pub use symbols::{Mention, Parameter, Place, Role, Symbol, SymbolKind, Unresolved};
+pub use symbols::{Lookup, Mention, Parameter, Place, Role, Symbol, SymbolKind, Unresolved};
 pub use words::{Class, OFFERED_KEYWORDS, Word, is_name};

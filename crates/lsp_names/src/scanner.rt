@@ -168,6 +168,7 @@ impl Scanner {
         let top = self.frames.top();
         if let Some(number) = top.symbol {
             self.table.end_head(number, top.at, at.word.end);
+            self.table.begin_scope(number);
         }
         Ok(())
     }
@@ -191,7 +192,10 @@ impl Scanner {
             end: self.last_end(),
         };
         let name = match top.symbol {
-            Some(number) => self.table.end_whole(number, top.at, whole.end),
+            Some(number) => {
+                self.table.begin_scope(number);
+                self.table.end_whole(number, top.at, whole.end)
+            }
             None => None,
         };
         self.table.add_parameter(Parameter { whole, name })
@@ -323,6 +327,7 @@ impl Scanner {
     fn end_declarator(&mut self, end: usize) {
         let top = self.frames.top();
         if let Some(number) = top.symbol {
+            self.table.begin_scope(number);
             let _name = self.table.end_whole(number, top.at, end);
         }
     }
@@ -337,6 +342,9 @@ impl Scanner {
             let end = self.last_end();
             self.table.define(number, top.at, top.begin);
             self.table.end_head(number, top.at, end);
+            if top.inside != Inside::Enumerators {
+                self.table.begin_scope(number);
+            }
         }
         self.set_stage(Stage::Initialiser)
     }

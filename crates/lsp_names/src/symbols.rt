@@ -35,6 +35,11 @@ pub struct Symbol {
     pub whole: Place,
     /// Whether its scope is the file, or the rest of the unit.
     pub is_global: bool,
+    /// How many tokens of the unit were read where its scope began: behind its tag, the line of its macro, or the token with which its declarator or
+    /// its enumerator ended (ISO/IEC 9899:2011 6.2.1p7).
+    pub(crate) scope_begin: usize,
+    /// Whether it began; until then it counts from the name on.
+    pub(crate) has_begun: bool,
     /// Where a scope ends that is not the file's: an offset in its file.
     pub scope_end: usize,
     /// Whether a function has its body, or a name its only declaration, at `at`.
@@ -70,6 +75,15 @@ pub struct Unresolved {
     pub name: usize,
     /// Whether it stands in a directive, as in the body of a macro.
     pub in_directive: bool,
+}
+
+/// A place in a file at which names are looked up.
+#[derive(Clone, Copy)]
+pub struct Lookup {
+    pub(crate) file: usize,
+    pub(crate) offset: usize,
+    /// How many tokens of the unit are read before it.
+    pub(crate) read: usize,
 }
 
 /// A parameter of a function.

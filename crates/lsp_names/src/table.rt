@@ -21,6 +21,8 @@ pub(crate) struct Table {
     bound: Vec<usize>,
     /// The function whose parameters were begun last.
     function: Option<usize>,
+    /// How many tokens were read.
+    pub(crate) read: usize,
 }
 
 /// What a declaration says of a name.
@@ -67,6 +69,7 @@ impl Table {
             types: Vec::new(alloc),
             bound: Vec::new(alloc),
             function: None,
+            read: 0,
         };
         table.ordinary.resize(names, None)?;
         table.tags.resize(names, None)?;
@@ -78,7 +81,21 @@ impl Table {
     /// What a name means where it is used, macros aside.
     pub(crate) fn meant(&self, name: usize, is_tag: bool) -> Option<usize> {
         let list = if is_tag { &self.tags } else { &self.ordinary };
-        list.get(name).copied().flatten()
+        let number = list.get(name).copied().flatten()?;
+        match self.meant_before(number) {
+            Some(before) => Some(before),
+            None => Some(number),
+        }
+    }
+
+    /// What the name of a symbol meant before, while its own scope has not begun.
+    fn meant_before(&self, number: usize) -> Option<usize> {
+        let symbol = self.symbols.get(number)?;
+        if symbol.has_begun {
+            None
+        } else {
+            symbol.shadowed
+        }
     }
 
     /// The macro of a name.
@@ -104,6 +121,11 @@ impl Table {
             Some(symbol) => symbol.kind == SymbolKind::MacroParameter,
             None => false,
         }
+    }
+
+    /// Notes that so many tokens were read.
+    pub(crate) fn count(&mut self, more: usize) {
+        self.read = self.read.saturating_add(more);
     }
 
     /// How many symbols have a scope that will end.
@@ -152,6 +174,8 @@ impl Table {
             head: whole,
             whole,
             is_global: declared.is_global,
+            scope_begin: self.read,
+            has_begun: has_no_declarator(declared.kind),
             scope_end: declared.at.end,
             is_defined: false,
             first_parameter: 0,
@@ -252,6 +276,17 @@ impl Table {
         Ok(())
     }
 
+    /// Notes that the first declarator of a symbol, or its enumerator, has ended.
+    pub(crate) fn begin_scope(&mut self, number: usize) {
+        let read = self.read;
+        if let Some(symbol) = self.symbols.get_mut(number) {
+            if !symbol.has_begun {
+                symbol.has_begun = true;
+                symbol.scope_begin = read;
+            }
+        }
+    }
+
     /// Notes where the declaration of a symbol ends, if that is the one that is shown; returns the name of the symbol.
     pub(crate) fn end_whole(&mut self, number: usize, at: Place, end: usize) -> Option<usize> {
         let symbol = self.symbols.get_mut(number)?;
@@ -320,6 +355,14 @@ impl Table {
         self.unresolved = left;
         Ok(())
     }
+}
+
+/// Whether the scope of such a symbol begins where it is declared.
+fn has_no_declarator(kind: SymbolKind) -> bool {
+    matches!(
+        kind,
+        SymbolKind::Tag | SymbolKind::Macro | SymbolKind::MacroParameter
+    )
 }
 
 /// Where a token stands.

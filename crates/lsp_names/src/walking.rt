@@ -27,19 +27,34 @@ struct Reader {
 struct Walk {
     readers: Vec<Reader>,
     seen: Vec<bool>,
+    /// The stretches that were begun, and the file of the last one.
+    stretches: Vec<Stretch>,
+    last: Option<usize>,
 }
 
-/// Walks over all files, from the main one on; files that nothing includes come last.
+/// Tokens of a file that are read in a row.
+#[derive(Clone, Copy)]
+pub(crate) struct Stretch {
+    pub(crate) file: usize,
+    /// The number of the first token.
+    pub(crate) first: usize,
+    /// How many tokens of all files were read before it.
+    pub(crate) before: usize,
+}
+
+/// Walks over all files, from the main one on; files that nothing includes come last. Returns the stretches in their order.
 pub(crate) fn walk_files(
     alloc: Global,
     scanner: &mut Scanner,
     names: &Names,
     files: &[File],
     main: usize,
-) -> Result<(), AllocError> {
+) -> Result<Vec<Stretch>, AllocError> {
     let mut walk = Walk {
         readers: Vec::new(alloc),
         seen: Vec::new(alloc),
+        stretches: Vec::new(alloc),
+        last: None,
     };
     walk.seen.resize(files.len(), false)?;
     walk.enter(main)?;
@@ -48,7 +63,7 @@ pub(crate) fn walk_files(
         walk.enter(number)?;
         walk.run(scanner, names, files)?;
     }
-    Ok(())
+    Ok(walk.stretches)
 }
 
 impl Walk {
@@ -93,12 +108,14 @@ impl Walk {
         reader: Reader,
     ) -> Result<(), AllocError> {
         let words = words_at(files, reader.file);
+        self.note_stretch(reader, scanner.table.read)?;
         let Some(word) = words.get(reader.next).copied() else {
             return Ok(());
         };
         if !word.in_directive {
             let next = reader.next.saturating_add(1);
             self.go_on(reader.file, next)?;
+            scanner.table.count(1);
             return scanner.step(At {
                 file: reader.file,
                 word,
@@ -107,10 +124,25 @@ impl Walk {
         }
         let line = directive_line(words.get(reader.next..).unwrap_or_default());
         self.go_on(reader.file, reader.next.saturating_add(line.len().max(1)))?;
+        scanner.table.count(line.len());
         match directive(&mut scanner.table, names, reader.file, line)? {
             Step::Pass => Ok(()),
             Step::Include(name) => self.include(files, name),
         }
+    }
+
+    /// Begins a stretch, unless the file of the last one goes on.
+    fn note_stretch(&mut self, reader: Reader, before: usize) -> Result<(), AllocError> {
+        if self.last == Some(reader.file) {
+            return Ok(());
+        }
+        self.last = Some(reader.file);
+        self.stretches.push(Stretch {
+            file: reader.file,
+            first: reader.next,
+            before,
+        })?;
+        Ok(())
     }
 
     fn go_on(&mut self, file: usize, next: usize) -> Result<(), AllocError> {

@@ -1,12 +1,10 @@
 //! Code actions: the changes that mend faults.
 
-use crate::host::Host;
-use crate::json::{put_comma, put_edit, put_text_member};
-use crate::params::{span_of, text_at};
 use crate::problems::{Fix, Problem, put_problem};
-use crate::server::{Outcome, Server};
+use crate::server::Server;
+use lsp_program::{Host, put_comma, put_edit, put_text_member, span_of, text_at};
 use lsp_text::{Position, Span};
-use lsp_wire::{RpcError, put_string};
+use lsp_wire::{Outcome, RpcError, put_string};
 use serde_json::Value;
 use std::alloc::{AllocError, Global};
 

@@ -1,26 +1,26 @@
 //! Which request and which notification is answered by what.
 
-use crate::host::Host;
-use crate::params::{place_of, text_at};
-use crate::paths::path_of;
-use crate::server::{Outcome, Phase, Server};
-use crate::unit_files::is_part;
-use crate::view::View;
-use lsp_text::Position;
-use lsp_wire::{Call, Id, RpcError, result_reply};
+use crate::server::{Phase, Server};
+use lsp_help::{Inquiry, Interval, completion, hover};
+use lsp_navigation::{
+    definition, document_symbols, folding_ranges, highlights, inlay_hints, prepare_rename,
+    references, rename, semantic_tokens, signature_help,
+};
+use lsp_program::{Host, Spot, View, is_part, path_of, place_of, text_at};
+use lsp_text::{Position, Span};
+use lsp_wire::{Call, Id, Outcome, RpcError, result_reply};
 use serde_json::Value;
-use std::alloc::AllocError;
+use std::alloc::{AllocError, Global};
 
-/// What a request about a document is about: the file of the program, and the offset in it.
-#[derive(Clone, Copy)]
-pub(crate) struct Spot {
-    pub(crate) file: usize,
-    pub(crate) offset: usize,
-}
+/// The request for a command.
+const COMMAND: &str = "workspace/executeCommand";
 
 impl<H: Host + Drop> Server<H> {
     /// Answers a request.
     pub(crate) fn request(&mut self, id: &Id, call: &Call) -> Result<(), AllocError> {
+        if self.phase == Phase::Running && call.method.as_str() == COMMAND {
+            self.note_command(&call.params)?;
+        }
         self.look_at_changes()?;
         let outcome = match self.phase {
             Phase::Fresh if call.method.as_str() != "initialize" => {
@@ -64,7 +64,7 @@ impl<H: Host + Drop> Server<H> {
             return Ok(());
         };
         let path = path_of(self.alloc, uri)?;
-        self.note_change(path.as_str(), true)
+        self.note_change(path.as_str(), self.options.verifies)
     }
 
     /// What a request is answered.
@@ -73,6 +73,7 @@ impl<H: Host + Drop> Server<H> {
             "initialize" => self.initialize(&call.params),
             "shutdown" => self.shut_down(),
             "textDocument/codeAction" => self.code_actions(&call.params),
+            COMMAND => self.command(&call.params),
             method => self.about_names(method, &call.params),
         }
     }
@@ -94,48 +95,43 @@ impl<H: Host + Drop> Server<H> {
             return Ok(invalid());
         };
         if is_about_a_file(method) {
-            return self.about_file(view, method, params, file);
+            return about_file(self.alloc, view, method, params, file);
         }
         let Some((_, position)) = place_of(params) else {
             return Ok(invalid());
         };
-        self.about_spot(view, method, params, spot_at(view, file, position))
+        let spot = spot_at(view, file, position);
+        if is_for_help(method) {
+            return self.help(view, method, spot);
+        }
+        about_spot(self.alloc, view, method, params, spot)
     }
 
-    /// Requests about a whole file.
-    fn about_file(
-        &self,
-        view: &View,
-        method: &str,
-        params: &Value,
-        file: usize,
-    ) -> Result<Outcome, AllocError> {
-        match method {
-            "textDocument/documentSymbol" => self.document_symbols(view, file),
-            "textDocument/foldingRange" => self.folding_ranges(view, file),
-            "textDocument/semanticTokens/full" => self.semantic_tokens(view, file),
-            _ => self.inlay_hints(view, file, params),
+    /// Requests for what is shown or offered at a place.
+    fn help<'a>(&'a self, view: &'a View, method: &str, spot: Spot) -> Result<Outcome, AllocError> {
+        let inquiry = Inquiry {
+            alloc: self.alloc,
+            host: &self.host,
+            options: &self.options,
+            view,
+        };
+        if method == "textDocument/hover" {
+            return hover(&inquiry, spot, self.interval_at(view, spot));
         }
+        completion(&inquiry, spot)
     }
 
-    /// Requests about a place.
-    fn about_spot(
-        &self,
-        view: &View,
-        method: &str,
-        params: &Value,
-        spot: Spot,
-    ) -> Result<Outcome, AllocError> {
-        match method {
-            "textDocument/definition" => self.definition(view, spot),
-            "textDocument/references" => self.references(view, spot, params),
-            "textDocument/documentHighlight" => self.highlights(view, spot),
-            "textDocument/prepareRename" => self.prepare_rename(view, spot),
-            "textDocument/rename" => self.rename(view, spot, params),
-            "textDocument/hover" => self.hover(view, spot),
-            "textDocument/completion" => self.completion(view, spot),
-            _ => self.signature_help(view, spot),
-        }
+    /// What the analysis tells of a place.
+    fn interval_at(&self, view: &View, spot: Spot) -> Option<Interval<'_>> {
+        let uri = view.uri(spot.file)?;
+        let problem = self.problems.iter().find(|problem| !problem.interval.is_empty()
+            && problem.uri.as_str() == uri
+            && is_at(view, problem.span, spot))?;
+        Some(Interval {
+            span: problem.span,
+            title: problem.title(),
+            numbers: problem.interval.as_str(),
+        })
     }
 
     /// Looks at the program that has the file at a path: one of those with a main file, or else that of the file alone.
@@ -161,6 +157,46 @@ impl<H: Host + Drop> Server<H> {
     }
 }
 
+/// Requests about a whole file.
+fn about_file(
+    alloc: Global,
+    view: &View,
+    method: &str,
+    params: &Value,
+    file: usize,
+) -> Result<Outcome, AllocError> {
+    match method {
+        "textDocument/documentSymbol" => document_symbols(alloc, view, file),
+        "textDocument/foldingRange" => folding_ranges(alloc, view, file),
+        "textDocument/semanticTokens/full" => semantic_tokens(alloc, view, file),
+        _ => inlay_hints(alloc, view, file, params),
+    }
+}
+
+/// Requests about what stands at a place.
+fn about_spot(
+    alloc: Global,
+    view: &View,
+    method: &str,
+    params: &Value,
+    spot: Spot,
+) -> Result<Outcome, AllocError> {
+    match method {
+        "textDocument/definition" => definition(alloc, view, spot),
+        "textDocument/references" => references(alloc, view, spot, params),
+        "textDocument/documentHighlight" => highlights(alloc, view, spot),
+        "textDocument/prepareRename" => prepare_rename(alloc, view, spot),
+        "textDocument/rename" => rename(alloc, view, spot, params),
+        _ => signature_help(alloc, view, spot),
+    }
+}
+
+/// Whether a place stands in a range, or directly behind it.
+fn is_at(view: &View, span: Span, spot: Spot) -> bool {
+    view.offset(spot.file, span.start) <= spot.offset
+        && spot.offset <= view.offset(spot.file, span.end)
+}
+
 fn invalid() -> Outcome {
     Outcome::Refused(RpcError::InvalidParams, RpcError::InvalidParams.text())
 }
@@ -182,8 +218,13 @@ fn is_about_a_file(method: &str) -> bool {
     )
 }
 
+fn is_for_help(method: &str) -> bool {
+    matches!(method, "textDocument/hover" | "textDocument/completion")
+}
+
 fn is_about_names(method: &str) -> bool {
     is_about_a_file(method)
+        || is_for_help(method)
         || matches!(
             method,
             "textDocument/definition"
@@ -191,8 +232,6 @@ fn is_about_names(method: &str) -> bool {
                 | "textDocument/documentHighlight"
                 | "textDocument/prepareRename"
                 | "textDocument/rename"
-                | "textDocument/hover"
-                | "textDocument/completion"
                 | "textDocument/signatureHelp"
         )
 }

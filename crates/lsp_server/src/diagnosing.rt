@@ -1,39 +1,48 @@
 //! Diagnostics as the text changes.
 
-use crate::host::{Host, Question, Unit};
 use crate::problems::{Problem, Severity, over_budget, published, read_problems};
 use crate::server::{Change, Server};
-use crate::unit_files::{Places, Program, UnitFile, gather, is_part, names_of, set_of, unit_of};
-use crate::view::View;
+use lsp_program::{
+    Host, Places, Program, Question, Unit, UnitFile, View, gather, is_part, names_of, set_of,
+    unit_of,
+};
 use lsp_wire::notification;
 use std::alloc::{AllocError, Global};
 
 /// How many programs are looked at beside one another.
 const MAX_PROGRAMS: usize = 32;
 
-/// What is done with a program when a file changed.
+/// How many faults of a program are asked for at most.
+const MAX_FAULTS: u64 = 10;
+
+/// How much work these may be. The compiler is asked several times for each.
+const FAULT_WORK: u64 = 1_000_000;
+
+/// What is done with a program when files changed.
 #[derive(Clone, Copy, PartialEq, Eq)]
 enum Plan {
-    /// It has the file.
+    /// It has a file that changed.
     Look,
+    /// It is to be verified, too.
+    Verify,
     /// Its main file is a part of another program.
     Forget,
-    /// It does not have the file.
+    /// It has none of the files.
     Leave,
 }
 
 impl<H: Host + Drop> Server<H> {
-    /// Notes that the file at a path changed, or was saved.
-    pub(crate) fn note_change(&mut self, path: &str, is_saved: bool) -> Result<(), AllocError> {
+    /// Notes that the file at a path changed, or is to be verified.
+    pub(crate) fn note_change(&mut self, path: &str, verifies: bool) -> Result<(), AllocError> {
         self.view = None;
         for change in self.changes.iter_mut() {
             if change.path.as_str() == path {
-                change.is_saved = change.is_saved || is_saved;
+                change.verifies = change.verifies || verifies;
                 return Ok(());
             }
         }
         let path = String::from_str(self.alloc, path)?;
-        self.changes.push(Change { path, is_saved })?;
+        self.changes.push(Change { path, verifies })?;
         Ok(())
     }
 
@@ -43,26 +52,18 @@ impl<H: Host + Drop> Server<H> {
             return Ok(());
         }
         let changes = std::mem::replace(&mut self.changes, Vec::new(self.alloc));
-        for change in changes {
-            let verifies = change.is_saved && self.options.verifies;
-            self.look_at_all(change.path.as_str(), verifies)?;
-        }
-        self.forget_closed()?;
-        self.publish()
-    }
-
-    /// Looks at each program that has the file at a path. One whose main file another includes is a part of that.
-    fn look_at_all(&mut self, path: &str, verifies: bool) -> Result<(), AllocError> {
         let programs = self.programs()?;
-        let plans = plans_of(self.alloc, programs.as_slice(), path)?;
+        let plans = plans_of(self.alloc, programs.as_slice(), changes.as_slice())?;
         for (program, plan) in programs.into_iter().zip(plans) {
             match plan {
-                Plan::Look => self.look_at(program.files, verifies)?,
+                Plan::Look => self.look_at(program.files, false)?,
+                Plan::Verify => self.look_at(program.files, true)?,
                 Plan::Forget => self.drop_problems_of(program.root())?,
                 Plan::Leave => {}
             }
         }
-        Ok(())
+        self.forget_closed()?;
+        self.publish()
     }
 
     /// The programs that are looked at.
@@ -106,7 +107,7 @@ impl<H: Host + Drop> Server<H> {
         let view = View::of(self.alloc, files, self.options.encoding)?;
         self.drop_problems_of(view.root())?;
         if view.is_within_budget() {
-            self.ask_all(view.files.as_slice(), verifies)?;
+            self.ask_all(view.files.as_slice(), faults_within(view.work), verifies)?;
         } else {
             let problem = over_budget(self.alloc, view.files.as_slice(), view.work)?;
             self.put_problem(problem)?;
@@ -116,13 +117,18 @@ impl<H: Host + Drop> Server<H> {
     }
 
     /// Asks for faults of a program, or else for warnings and, where that is wanted, for what is not verified.
-    fn ask_all(&mut self, files: &[UnitFile], verifies: bool) -> Result<(), AllocError> {
+    fn ask_all(
+        &mut self,
+        files: &[UnitFile],
+        most: usize,
+        verifies: bool,
+    ) -> Result<(), AllocError> {
         let set = set_of(self.alloc, files)?;
         let names = names_of(self.alloc, files)?;
         let Some(unit) = unit_of(files, &set, names.as_slice(), self.options.stack) else {
             return Ok(());
         };
-        if self.ask(files, unit, Question::Faults, Severity::Error)? {
+        if self.ask(files, unit, Question::Faults(most), Severity::Error)? {
             return Ok(());
         }
         self.ask(files, unit, Question::Warnings, Severity::Warning)?;
@@ -212,19 +218,42 @@ impl<H: Host + Drop> Server<H> {
     }
 }
 
-/// What is done with each program where the file at a path changed.
-fn plans_of(alloc: Global, programs: &[Program], path: &str) -> Result<Vec<Plan>, AllocError> {
+/// How many faults of a program are asked for, by the work that it is.
+fn faults_within(work: u64) -> usize {
+    let count = FAULT_WORK
+        .checked_div(work)
+        .unwrap_or(MAX_FAULTS);
+    usize::try_from(count.min(MAX_FAULTS).max(1)).unwrap_or(1)
+}
+
+/// What is done with each program. One whose main file another includes is a part of that.
+fn plans_of(
+    alloc: Global,
+    programs: &[Program],
+    changes: &[Change],
+) -> Result<Vec<Plan>, AllocError> {
     let mut plans = Vec::new(alloc);
     for (number, program) in programs.iter().enumerate() {
         plans.push(if is_part(programs, number) {
             Plan::Forget
-        } else if program.has_path(path) {
-            Plan::Look
         } else {
-            Plan::Leave
+            plan_of(program, changes)
         })?;
     }
     Ok(plans)
+}
+
+fn plan_of(program: &Program, changes: &[Change]) -> Plan {
+    let mut plan = Plan::Leave;
+    for change in changes {
+        if program.has_path(change.path.as_str()) {
+            if change.verifies {
+                return Plan::Verify;
+            }
+            plan = Plan::Look;
+        }
+    }
+    plan
 }
 
 fn has_text(texts: &[String], text: &str) -> bool {

@@ -1,9 +1,7 @@
 //! Documents that the client opens, changes and closes.
 
-use crate::host::Host;
-use crate::params::{span_of, text_at};
-use crate::paths::path_of;
-use crate::server::{OpenDocument, Server};
+use crate::server::Server;
+use lsp_program::{Host, OpenDocument, path_of, span_of, text_at};
 use lsp_text::{Document, Encoding};
 use serde_json::Value;
 use std::alloc::{AllocError, Global};
@@ -42,6 +40,9 @@ impl<H: Host + Drop> Server<H> {
         let Some(changes) = params.pointer("/contentChanges").and_then(Value::as_array) else {
             return Ok(());
         };
+        if changes.is_empty() {
+            return Ok(());
+        }
         let alloc = self.alloc;
         let encoding = self.options.encoding;
         if let Some(open) = self.documents.get_mut(number) {

@@ -3,30 +3,11 @@
 
 mod actions;
 mod answering;
-mod completion;
-mod definitions;
+mod commands;
 mod diagnosing;
 mod edits;
-mod facts;
-mod headers;
-mod hints;
-mod host;
-mod hover;
-mod json;
 mod lifecycle;
-mod line_start;
-mod navigation;
-mod options;
-mod outline;
-mod params;
-mod paths;
 mod problems;
-mod renaming;
 mod server;
-mod signature;
-mod token_kinds;
-mod unit_files;
-mod view;
 
-pub use host::{Declared, FunctionFact, Host, ObjectFact, Part, Question, Unit};
 pub use server::Server;

@@ -1,11 +1,10 @@
 //! The beginning and the end of a session.
 
-use crate::host::Host;
-use crate::json::put_text_member;
-use crate::options::Options;
-use crate::server::{Outcome, Phase, Server};
-use crate::token_kinds::put_legend;
-use lsp_wire::{RpcError, notification};
+use crate::commands::VERIFY;
+use crate::server::{Phase, Server};
+use lsp_navigation::put_legend;
+use lsp_program::{Host, Options, put_text_member};
+use lsp_wire::{Outcome, RpcError, notification};
 use serde_json::Value;
 use std::alloc::AllocError;
 
@@ -30,8 +29,10 @@ impl<H: Host + Drop> Server<H> {
              \"renameProvider\":{\"prepareProvider\":true},\"hoverProvider\":true,\"foldingRangeProvider\":true,\
              \"completionProvider\":{\"triggerCharacters\":[\"#\",\"\\\"\",\"<\",\"/\"]},\
              \"signatureHelpProvider\":{\"triggerCharacters\":[\"(\",\",\"]},\"inlayHintProvider\":true,\
-             \"semanticTokensProvider\":{\"legend\":",
+             \"executeCommandProvider\":{\"commands\":[\"",
         )?;
+        out.push_str(VERIFY)?;
+        out.push_str("\"]},\"semanticTokensProvider\":{\"legend\":")?;
         put_legend(&mut out)?;
         out.push_str(",\"full\":true}},\"serverInfo\":{\"name\":\"zkc\"}}")?;
         Ok(Outcome::Answer(out))

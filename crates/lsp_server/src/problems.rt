@@ -1,9 +1,8 @@
 //! Diagnostics: what the compiler finds, with the places that the protocol has.
 
-use crate::json::{put_comma, put_span, put_text_member};
-use crate::params::{number_at, text_at};
-use crate::unit_files::{Origin, UnitFile};
-use crate::view::{MAX_WORK, beginning};
+use lsp_program::{
+    MAX_WORK, Origin, UnitFile, beginning, number_at, put_comma, put_span, put_text_member, text_at,
+};
 use lsp_text::{Encoding, Span};
 use lsp_wire::{put_number, put_string};
 use serde_json::Value;
@@ -39,6 +38,13 @@ pub(crate) struct Problem {
     pub(crate) interval: String,
     /// What mends it, where that is sure.
     pub(crate) fix: Option<Fix>,
+}
+
+impl Problem {
+    /// The first line of its text.
+    pub(crate) fn title(&self) -> &str {
+        self.text.as_str().split('\n').next().unwrap_or_default()
+    }
 }
 
 /// How many findings of one kind are shown of a program.

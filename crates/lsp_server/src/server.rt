@@ -1,10 +1,7 @@
 //! The state of a session.
 
-use crate::host::Host;
-use crate::options::Options;
 use crate::problems::Problem;
-use crate::view::View;
-use lsp_text::Document;
+use lsp_program::{Host, OpenDocument, Options, View};
 use lsp_wire::{Id, Message, RpcError, error_reply, read_message};
 use std::alloc::{AllocError, Global};
 
@@ -18,14 +15,6 @@ pub(crate) enum Phase {
     ShutDown,
     /// Behind `exit`, with this status of the process.
     Ended(u8),
-}
-
-/// A document that the client has open.
-#[derive(Drop)]
-pub(crate) struct OpenDocument {
-    pub(crate) uri: String,
-    pub(crate) path: String,
-    pub(crate) document: Document,
 }
 
 /// A session with a client.
@@ -48,20 +37,12 @@ pub struct Server<H> {
     pub(crate) outbox: Vec<String>,
 }
 
-/// That a file changed, whose programs are looked at before the next request is answered.
+/// That a file changed, or is to be verified: its programs are looked at before the next request is answered.
 #[derive(Drop)]
 pub(crate) struct Change {
     pub(crate) path: String,
-    /// Whether it was saved.
-    pub(crate) is_saved: bool,
-}
-
-/// What a request is answered.
-#[derive(Drop)]
-pub(crate) enum Outcome {
-    /// A value of JSON.
-    Answer(String),
-    Refused(RpcError, &'static str),
+    /// Whether they are verified.
+    pub(crate) verifies: bool,
 }
 
 impl<H: Host + Drop> Server<H> {

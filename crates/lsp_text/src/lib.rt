@@ -1,6 +1,7 @@
 //! The text of a document in an editor: positions of the Language Server Protocol, and edits of ranges.
 #![tactic(auto)]
 
+mod blocks;
 mod document;
 mod line_table;
 mod units;

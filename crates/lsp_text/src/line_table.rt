@@ -2,6 +2,7 @@
 
 ghost use Rattle.std.specs.Prelude.{◌≤◌, length};
 
+use crate::blocks::{BLOCK, Counts, counts_of};
 use crate::units::{Encoding, bytes_before, units_of};
 use std::alloc::{AllocError, Global};
 
@@ -23,6 +24,8 @@ pub struct Span {
 #[derive(Drop)]
 pub struct LineTable {
     starts: Vec<usize>,
+    /// The units before each block of the text, and before its end.
+    counts: Vec<Counts>,
 }
 
 impl LineTable {
@@ -36,7 +39,8 @@ impl LineTable {
                 starts.push(next)?;
             }
         }
-        Ok(LineTable { starts })
+        let counts = counts_of(alloc, text)?;
+        Ok(LineTable { starts, counts })
     }
 
     /// Returns how many bytes of the text stand before a position. A character past the end of its line means that end, and a
@@ -57,11 +61,30 @@ impl LineTable {
         let line = self.line_of(offset);
         let start = self.starts.get(line).copied().unwrap_or(0);
         let row = self.row(text, line);
-        let before = offset.saturating_sub(start);
+        let before = offset.saturating_sub(start).min(row.len());
+        let character = if before <= BLOCK {
+            units_of(row.get(..before).unwrap_or_default(), encoding)
+        } else {
+            self.units_before(text, start.saturating_add(before), encoding)
+                .saturating_sub(self.units_before(text, start, encoding))
+        };
         Position {
             line: u32::try_from(line).unwrap_or(u32::MAX),
-            character: units_of(row.get(..before).unwrap_or(row), encoding),
+            character,
         }
+    }
+
+    /// The units before an offset of the text, of which no more than a block is read.
+    fn units_before(&self, text: &[u8], offset: usize, encoding: Encoding) -> u32 {
+        let number = offset / BLOCK;
+        let counted = match self.counts.get(number) {
+            Some(counts) => counts.of(encoding),
+            None => 0,
+        };
+        let begun = text
+            .get(number.saturating_mul(BLOCK)..offset)
+            .unwrap_or_default();
+        counted.saturating_add(units_of(begun, encoding))
     }
 
     /// The positions of the bytes from one offset up to another.

@@ -24,8 +24,3 @@ pub fn put_string(alloc: Global, text: &str, out: &mut String) -> Result<(), All
 pub fn put_number(alloc: Global, number: i64, out: &mut String) -> Result<(), AllocError> {
     out.push_str(format!(in alloc; "{number}")?.as_str())
 }
-
-/// Appends `true` or `false`.
-pub fn put_bool(value: bool, out: &mut String) -> Result<(), AllocError> {
-    out.push_str(if value { "true" } else { "false" })
-}

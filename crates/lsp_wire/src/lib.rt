@@ -7,6 +7,6 @@ mod message;
 mod reply;
 
 pub use framing::{Frame, Inbox, MAX_BODY_BYTES, MAX_HEADER_BYTES, framed};
-pub use json_text::{put_bool, put_number, put_string};
+pub use json_text::{put_number, put_string};
 pub use message::{Call, Id, Message, read_message};
-pub use reply::{RpcError, error_reply, notification, result_reply};
+pub use reply::{Outcome, RpcError, error_reply, notification, result_reply};

@@ -19,6 +19,14 @@ pub enum RpcError {
     RequestFailed,
 }
 
+/// What a request is answered.
+#[derive(Drop)]
+pub enum Outcome {
+    /// A value of JSON.
+    Answer(String),
+    Refused(RpcError, &'static str),
+}
+
 impl RpcError {
     /// The number of this error.
     pub fn number(self) -> i64 {

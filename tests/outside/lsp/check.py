@@ -7,6 +7,7 @@ CHECK: only the checks of these names, as `written`. The last line is `N passed,
 import glob
 import json
 import os
+import resource
 import subprocess
 import sys
 
@@ -15,8 +16,8 @@ import harness
 
 here = os.path.dirname(os.path.abspath(__file__))
 sys.path.insert(0, here)
-from client import Session, frame, places, request, shown, unframed
-from programs import FAULTS, FOLDS, FRAMES, HINTS, HOVERS, INCLUDES, LIGHT, NAMES, OFFERS, OPTIONS, RING, SIGNATURES, SYMBOLS, TABLE, TOKENS, place, program
+from client import Session, frame, notice, places, request, shown, unframed
+from programs import BLOCKS, FAULTS, FOLDS, FRAMES, HINTS, HOVERS, INCLUDES, LIGHT, NAMES, OFFERS, OPTIONS, RING, SCOPED, SIGNATURES, SYMBOLS, TABLE, TOKENS, UNSURE, place, program
 from replay import replay
 
 top = os.path.dirname(os.path.dirname(os.path.dirname(here)))
@@ -135,7 +136,7 @@ def in_file(answer):
 
 
 def check_hovers():
-    for files in PROGRAMS:
+    for files in (*PROGRAMS, BLOCKS):
         asked = Asked(files)
         for where, wanted in [(row[1], row[2]) for row in HOVERS if row[0] is files]:
             name, line, first, _ = place(files, where)
@@ -168,15 +169,20 @@ def check_unsure():
     """What is not sure is not shown: a name of a block in a macro's expansion, a macro that is defined twice, a branch that is skipped, a program with a fault."""
     text = ('#define TWO (A + B)\n#define N 1\n#undef N\n#define N 2\nenum { A = 1, B };\nint x;\n#if 0\nint f(void) { long x = 1; return x; }\n#endif\n'
             'int main(void) { enum { A = 7 }; int z = TWO; return z + A + x; }\n')
-    rows = [('main.c', 9, 41, 'value'), ('main.c', 1, 8, 'value'), ('main.c', 7, 20, 'type'), ('main.c', 9, 57, 'value')]
+    rows = [('main.c', 9, 41, 'value'), ('main.c', 1, 8, 'value'), ('main.c', 7, 20, 'type')]
     files = {'main.c': text}
     asked = Asked(files)
     for name, line, character, word in rows:
         asked.ask(asked.session.at('hover', name, line, character), no_line(f'hover {line}:{character}', word))
+    asked.ask(asked.session.at('hover', 'main.c', 9, 57), has_lines('hover of the enumerator of the block', ['value `7`']))
     asked.end()
     asked = Asked({'main.c': 'enum { A = 1 };\nint main(void) { return A }\n'})
     asked.ask(asked.session.at('hover', 'main.c', 0, 7), no_line('hover in a program with a fault', 'value'))
     asked.end()
+    for text, where, word in UNSURE:
+        asked = Asked({'main.c': text})
+        asked.ask(asked.session.at('hover', *place({'main.c': text}, where)[:3]), no_line(f'hover {where} of {text!r}', word))
+        asked.end()
 
 
 def no_line(what, word):
@@ -186,17 +192,61 @@ def no_line(what, word):
     return take
 
 
+# A quotient by what is read: rv_getbyte gives -1 to 255.
+QUOTIENT = '#include <rvio.h>\nint main(void)\n{\n    int a = rv_getbyte();\n    return 100 / (a - 7) & 1;\n}\n'
+
+
+def verify(session, name):
+    """Asks for a program to be verified as its texts stand."""
+    return session.ask('workspace/executeCommand', {'command': 'zikorape.verify', 'arguments': [session.uri(name)]})
+
+
+def told_at(notices, uri):
+    """What was told of a file, one time after another: the severities and the lines."""
+    told = [it['params']['diagnostics'] for it in notices if it.get('method') == 'textDocument/publishDiagnostics' and it['params']['uri'] == uri]
+    return [[(each['severity'], each['range']['start']['line']) for each in list_] for list_ in told]
+
+
 def check_interval():
-    """What `zkc verify` knows of a place is shown there, once the file is saved."""
-    asked = Asked({'main.c': '#include <rvio.h>\nint main(void)\n{\n    int a = rv_getbyte();\n    return 100 / (a - 7) & 1;\n}\n'})
+    """What `zkc verify` knows of a place is shown there, once the file is saved, or verified by the command."""
+    asked = Asked({'main.c': QUOTIENT})
     asked.session.tell('textDocument/didSave', {'textDocument': {'uri': asked.session.uri('main.c')}})
-    # rv_getbyte gives -1 to 255
     asked.ask(asked.session.at('hover', 'main.c', 4, 15), has_lines('hover /', ['may be undefined: division by zero: `-8 to 248`']))
     asked.end()
+    for options in ({'main': 'main.c'}, {'main': 'main.c', 'verify': False}):
+        asked = Asked({'main.c': QUOTIENT}, options)
+        session = asked.session
+        asked.ask(session.of('foldingRange', 'main.c'), lambda _: None)
+        # the text that is not saved counts
+        session.change('main.c', (4, 22), (4, 23), '9')
+        asked.ask(verify(session, 'main.c'), expected('the answer to the command', (True, None), lambda it: ('result' in it, it.get('result'))))
+        asked.ask(session.at('hover', 'main.c', 4, 15), has_lines('hover / behind the command', ['may be undefined: division by zero: `-10 to 246`']))
+        # a change withdraws the place, and a save tells it where the option has it so
+        session.change('main.c', (0, 0), (0, 0), '\n')
+        asked.ask(session.of('foldingRange', 'main.c'), lambda _: None)
+        session.tell('textDocument/didSave', {'textDocument': {'uri': session.uri('main.c')}})
+        asked.ask(session.of('foldingRange', 'main.c'), lambda _: None)
+        wanted = [[], [(3, 4)], [], [(3, 5)] if 'verify' not in options else []]
+        verdict.expect(f'{options}: what is told', told_at(asked.end(), session.uri('main.c')), wanted)
+    # a change without changes withdraws nothing
+    asked = Asked({'main.c': QUOTIENT})
+    session = asked.session
+    asked.ask(verify(session, 'main.c'), lambda _: None)
+    session.tell('textDocument/didChange', {'textDocument': {'uri': session.uri('main.c'), 'version': 2}, 'contentChanges': []})
+    asked.ask(session.of('foldingRange', 'main.c'), lambda _: None)
+    verdict.expect('a change without changes', told_at(asked.end(), session.uri('main.c')), [[(3, 4)]])
+    # an included file names its program, and a program with a fault is not verified: `int ;` declares nothing (6.7p2)
+    asked = Asked({'main.c': '#include "a.h"\n' + QUOTIENT, 'a.h': 'int b;\n'})
+    session = asked.session
+    asked.ask(verify(session, 'a.h'), lambda _: None)
+    session.change('a.h', (0, 4), (0, 5), '')
+    asked.ask(verify(session, 'a.h'), lambda _: None)
+    notices = asked.end()
+    verdict.expect('a command for an included file', [told_at(notices, session.uri(name)) for name in ('main.c', 'a.h')], [[[(3, 5)], []], [[], [(1, 0)]]])
 
 
 def check_others():
-    for files in PROGRAMS:
+    for files in (*PROGRAMS, BLOCKS):
         asked = Asked(files)
         session = asked.session
         for name, wanted in [row[1:] for row in SYMBOLS if row[0] is files]:
@@ -243,9 +293,9 @@ LINES = [
     ('#include "', {'rvio.h', 'table.h', 'table.c', 'more/'}, {'main', 'notes.txt', '.hidden.h'}),
     ('#include "ta', {'table.h', 'table.c'}, {'main'}),
     ('#include "more/', {'deep.h'}, {'rvio.h', 'table.h', 'more/'}),
-    ('#include "table.h" ', {'main', 'while'}, {'rvio.h'}),
     # main is declared behind this line, so it is not in scope (6.2.1p7)
-    ('flat[0] = ', {'flat', 'CELL', 'while'}, {'include', 'rvio.h'}),
+    ('#include "table.h" ', {'limit', 'while'}, {'main', 'rvio.h'}),
+    ('flat[0] = ', {'flat', 'CELL', 'while'}, {'main', 'include', 'rvio.h'}),
 ]
 
 
@@ -268,6 +318,16 @@ def check_lines():
                 span = it['textEdit']['range']
                 verdict.expect(f'{line!r}: {it["label"]} replaces', (span['start']['character'], span['end']['character']), (first, len(line)))
                 break
+
+
+def check_scopes():
+    """Where a name is in scope."""
+    for what, files, there, absent in SCOPED:
+        name = next(name for name, text in files.items() if '@' in text)
+        before = files[name].split('@')[0]
+        asked = Asked({each: text.replace('@', '') for each, text in files.items()})
+        asked.ask(asked.session.at('completion', name, before.count('\n'), len(before) - before.rfind('\n') - 1), offers(what, there, absent))
+        asked.end()
 
 
 def check_rename():
@@ -312,6 +372,23 @@ def check_bombs():
         notices = asked.end()
         told = [it['params']['diagnostics'] for it in notices if it.get('method') == 'textDocument/publishDiagnostics']
         verdict.expect(f'{name}: what is told', [[each['code'] for each in list_] for list_ in told], [['budget'], ['401']])
+
+
+def check_size():
+    """What a large program costs: a long line no more than short ones, and fewer faults of more tokens."""
+    times = []
+    for behind in '\n ':
+        asked = Asked({'main.c': f'int a;{behind}' * 12000 + 'int main(void) { return a; }\n'})
+        # int and a of each; int, main, void, return and a
+        asked.ask(asked.session.of('semanticTokens/full', 'main.c'), expected('tokens of a large file', 5 * (2 * 12000 + 5), lambda it: len((it.get('result') or {}).get('data') or [])))
+        before = resource.getrusage(resource.RUSAGE_CHILDREN).ru_utime
+        asked.end()
+        times.append(resource.getrusage(resource.RUSAGE_CHILDREN).ru_utime - before)
+    verdict.holds(f'lines of one declaration take {times[0]:.2f} s, and one line of all takes {times[1]:.2f} s', times[1] < 8 * times[0])
+    # 210,000 tokens and some: 1,000,000 by that is 4; with a tenth of them 10
+    for count, wanted in ((70000, 4), (7000, 10)):
+        asked = Asked({'main.c': 'int a;\n' * count + ''.join(f'int f{k}(void) {{ return q{k}; }}\n' for k in range(12)) + 'int main(void) { return a; }\n'})
+        verdict.expect(f'faults of {count} lines', len(shown(asked.end(), asked.session.uri('main.c')) or []), wanted)
 
 
 # A text with a fault: a missing semicolon. The line and the characters of the token behind it in UTF-16 and in UTF-8, by hand.
@@ -485,19 +562,106 @@ def code_of(answer):
     return ((answer or {}).get('error') or {}).get('code')
 
 
+# What a client may send that is wrong, and what it gets (JSON-RPC 2.0, sections 4, 5 and 5.1; LSP 3.17, ErrorCodes): the id and the code of the error, or None for no answer.
+WRONG = [
+    ('no JSON', b'{"jsonrpc": "2.0", "method": "foobar, "params": "bar", "baz]', (None, -32700)),
+    ('half of a message', b'{"jsonrpc": "2.0", "id": 1', (None, -32700)),
+    ('nothing', b'', (None, -32700)),
+    ('no UTF-8', b'{"jsonrpc": "2.0", "id": 1, "method": "\xff"}', (None, -32700)),
+    ('half of a surrogate pair', b'{"jsonrpc": "2.0", "id": 1, "method": "\\ud800"}', (None, -32700)),
+    ('two values', b'{} {}', (None, -32700)),
+    ('an empty array', [], (None, -32600)),
+    ('an array of numbers', [1, 2, 3], (None, -32600)),
+    # the protocol has no batches
+    ('an array of requests', [request(7, 'textDocument/hover', {})], (None, -32600)),
+    ('a number', 1, (None, -32600)),
+    ('null', b'null', (None, -32600)),
+    ('an empty object', {}, (None, -32600)),
+    ('no version', {'id': 7, 'method': 'textDocument/hover'}, (7, -32600)),
+    ('another version', {'jsonrpc': '1.0', 'id': 7, 'method': 'textDocument/hover'}, (7, -32600)),
+    ('a version that is a number', {'jsonrpc': 2.0, 'id': 7, 'method': 'textDocument/hover'}, (7, -32600)),
+    ('no method', {'jsonrpc': '2.0', 'id': 7, 'params': {}}, (7, -32600)),
+    ('a method that is a number', {'jsonrpc': '2.0', 'id': 7, 'method': 1, 'params': 'bar'}, (7, -32600)),
+    ('parameters that are a text', request(7, 'textDocument/hover', 'bar'), (7, -32600)),
+    ('parameters that are a number', request('a', 'textDocument/hover', 1), ('a', -32600)),
+    ('an id that is an object', request({}, 'textDocument/hover', {}), (None, -32600)),
+    ('an id that is a fraction', request(1.5, 'textDocument/hover', {}), (None, -32600)),
+    ('an id that is null', request(None, 'textDocument/hover', {}), (None, -32600)),
+    ('a notification without a method', {'jsonrpc': '2.0', 'params': {}}, (None, -32600)),
+    ('an unknown method', request(7, 'foobar', {}), (7, -32601)),
+    ('an unknown method of the protocol\'s own', request(7, '$/foobar', {}), (7, -32601)),
+    ('a method without a name', request(7, '', {}), (7, -32601)),
+    ('a request that is a notification', request(7, 'textDocument/didOpen', {}), (7, -32601)),
+    ('a notification that is not known', notice('foobar', {}), None),
+    ('a notification that is a request', notice('textDocument/hover', {}), None),
+    ('a reply to nothing', {'jsonrpc': '2.0', 'id': 7, 'result': None}, None),
+    ('an error to nothing', {'jsonrpc': '2.0', 'id': 7, 'error': {'code': 1, 'message': ''}}, None),
+    ('initialize again', request(7, 'initialize', {}), (7, -32600)),
+    ('no document', request(7, 'textDocument/hover', {}), (7, -32602)),
+    ('no parameters', request(7, 'textDocument/documentSymbol', None), (7, -32602)),
+    ('parameters in an array', request(7, 'textDocument/definition', [1]), (7, -32602)),
+    ('no position', request(7, 'textDocument/hover', {'textDocument': {'uri': '$URI'}}), (7, -32602)),
+    ('a position that is negative', request(7, 'textDocument/hover', {'textDocument': {'uri': '$URI'}, 'position': {'line': -1, 'character': 0}}), (7, -32602)),
+    ('a position that is a text', request(7, 'textDocument/completion', {'textDocument': {'uri': '$URI'}, 'position': {'line': '0', 'character': 0}}), (7, -32602)),
+    ('no range', request(7, 'textDocument/inlayHint', {'textDocument': {'uri': '$URI'}}), (7, -32602)),
+    ('no new name', request(7, 'textDocument/rename', {'textDocument': {'uri': '$URI'}, 'position': {'line': 0, 'character': 4}}), (7, -32602)),
+    ('a document that lies nowhere', request(7, 'textDocument/documentSymbol', {'textDocument': {'uri': 'file:///nowhere/at/all.c'}}), (7, -32602)),
+    ('no command', request(7, 'workspace/executeCommand', {'arguments': []}), (7, -32602)),
+    ('an unknown command', request(7, 'workspace/executeCommand', {'command': 'foobar', 'arguments': ['$URI']}), (7, -32602)),
+    ('a command without its argument', request(7, 'workspace/executeCommand', {'command': 'zikorape.verify'}), (7, -32602)),
+    ('a command with another argument', request(7, 'workspace/executeCommand', {'command': 'zikorape.verify', 'arguments': [1]}), (7, -32602)),
+    ('a document without a text', notice('textDocument/didOpen', {'textDocument': {'uri': '$URI'}}), None),
+    ('changes that are none', notice('textDocument/didChange', {'textDocument': {'uri': '$URI'}, 'contentChanges': 1}), None),
+    ('a change of a document that is not open', notice('textDocument/didChange', {'textDocument': {'uri': 'file:///a.c'}, 'contentChanges': [{'text': ''}]}), None),
+    ('a save of nothing', notice('textDocument/didSave', {}), None),
+]
+# What is said with a code, by hand: each names what the number means (JSON-RPC 2.0, 5.1; LSP 3.17).
+SAID = {
+    -32700: 'the message is not JSON',
+    -32600: 'the message is no request',
+    -32601: 'there is no such method',
+    -32602: 'the parameters are not those of the method',
+    -32002: 'the server is not initialized',
+}
+OTHERWISE_SAID = {
+    'initialize again': 'the server is initialized already',
+}
+
+
+def error_of(answer):
+    error = answer.get('error') or {}
+    return answer.get('id'), error.get('code'), error.get('message')
+
+
+def bare(messages):
+    """Plays messages as they are; returns the status and the bodies that are no notifications."""
+    done = subprocess.run([cc, 'lsp'], input=b''.join(frame(it) for it in messages), stdout=subprocess.PIPE, timeout=600, check=False)
+    bodies = unframed(done.stdout)
+    return done.returncode, bodies if isinstance(bodies, str) else [it for it in bodies if 'method' not in it]
+
+
 def check_errors():
-    session = Session(program({}))
-    unknown = session.ask('textDocument/unknown', {})
-    invalid = session.ask('textDocument/hover', {'textDocument': 1})
-    status, answers, _ = session.run(cc)
-    verdict.expect('errors: the status', status, 0)
-    verdict.expect('no such method', code_of(answers.get(unknown)), -32601)
-    verdict.expect('wrong parameters', code_of(answers.get(invalid)), -32602)
-    session = Session(program({}))
-    session.sent = [frame(request(9, 'shutdown', None)), frame(b'{'), frame([1])] + session.sent
-    status, answers, _ = session.run(cc)
-    verdict.expect('before initialize', code_of(answers.get(9)), -32002)
-    verdict.expect('early: the status', status, 0)
+    """A message that is wrong gets the error of the protocol, and the session goes on."""
+    for what, body, wanted in WRONG:
+        session = Session(program({'main.c': 'int a;\n'}), {'main': 'main.c'})
+        session.open('main.c', 'int a;\nint main(void) { return a; }\n')
+        body = body if isinstance(body, bytes) else json.dumps(body).encode()
+        session.send(frame(body.replace(b'$URI', session.uri('main.c').encode())))
+        session.send(frame(request(100, 'textDocument/documentSymbol', {'textDocument': {'uri': session.uri('main.c')}})))
+        done = subprocess.run([cc, 'lsp'], input=b''.join(session.sent) + frame(request(101, 'shutdown', None)) + frame(notice('exit', None)), stdout=subprocess.PIPE, timeout=600, check=False)
+        bodies = [it for it in unframed(done.stdout) if 'method' not in it]
+        text = OTHERWISE_SAID.get(what, SAID.get(wanted and wanted[1]))
+        verdict.expect(f'{what}: the answers', [error_of(it) for it in bodies[1:-2]], [(*wanted, text)] if wanted else [])
+        verdict.expect(f'{what}: the session goes on', ([it['id'] for it in bodies[-2:]], len(bodies[-2].get('result') or []), done.returncode), ([100, 101], 2, 0))
+    ask, end = request(1, 'initialize', {'processId': None, 'rootUri': None, 'capabilities': {}}), notice('exit', None)
+    hover, stop = request(2, 'textDocument/hover', {}), request(3, 'shutdown', None)
+    status, bodies = bare([hover, stop, notice('textDocument/didOpen', {}), b'{', ask, stop, hover, ask, stop, end])
+    verdict.expect('before initialize, and behind shutdown: the status', status, 0)
+    verdict.expect('before initialize, and behind shutdown', [error_of(it)[:2] for it in bodies],
+                   [(2, -32002), (3, -32002), (None, -32700), (1, None), (3, None), (2, -32600), (1, -32600), (3, -32600)])
+    verdict.expect('before initialize: the text', error_of(bodies[0])[2], SAID[-32002])
+    # exit without shutdown, and an input that ends (LSP 3.17, exit)
+    verdict.expect('exit without shutdown', [bare(it)[0] for it in ([ask, end], [end], [ask], [])], [1, 1, 1, 1])
 
 
 def mutated(random, body):
@@ -540,7 +704,7 @@ def check_sessions():
         replay(path, cc, verdict)
 
 
-CHECKS = (check_sessions, check_errors, check_frames, check_edits, check_faults, check_written, check_names, check_hovers, check_unsure, check_interval, check_others, check_lines, check_rename, check_options, check_bombs,
+CHECKS = (check_sessions, check_errors, check_frames, check_edits, check_faults, check_written, check_names, check_hovers, check_unsure, check_interval, check_others, check_lines, check_scopes, check_rename, check_options, check_bombs, check_size,
           check_mutated)
 for check in CHECKS:
     if len(sys.argv) < 3 or check.__name__.removeprefix('check_') in sys.argv[2:]:

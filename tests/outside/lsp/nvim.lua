@@ -2,7 +2,8 @@
 --
 --     ZKC=bin/cc nvim --clean --headless -c 'luafile tests/outside/lsp/nvim.lua'
 --
--- Neovim 0.7, which Debian has, or later. It shows a fault, mends it by a code action, jumps to a definition and renames. The last line is `N passed, M failed`.
+-- Neovim 0.7, which Debian has, or later. It shows a fault, mends it by a code action, jumps to a definition, renames, and has a text verified that is not saved. The last line is
+-- `N passed, M failed`.
 local cc = vim.fn.fnamemodify(vim.env.ZKC or "bin/cc", ":p")
 local here = vim.fn.fnamemodify(debug.getinfo(1, "S").source:sub(2), ":p:h")
 local passed, failed = 0, 0
@@ -23,7 +24,7 @@ end
 local folder = vim.fn.tempname()
 vim.fn.mkdir(folder, "p")
 local main = folder .. "/main.c"
-vim.fn.writefile({ "{}" }, folder .. "/zikorape.json")
+vim.fn.writefile({ '{"verifyDelay": 300}' }, folder .. "/zikorape.json")
 vim.fn.writefile({ "int twice(int n);" }, folder .. "/twice.h")
 vim.fn.writefile({
   '#include "twice.h"',
@@ -97,6 +98,20 @@ expect("the renamed call", vim.api.nvim_buf_get_lines(buffer, 7, 8, false), { " 
 local header = vim.fn.bufadd(folder .. "/twice.h")
 vim.fn.bufload(header)
 expect("the renamed prototype", vim.api.nvim_buf_get_lines(header, 0, 1, false), { "int double_of(int n);" })
+
+-- A quotient by what is read, which may be zero (C11 6.5.5p5), in a text that is not saved: it is told some time behind the change, and withdrawn by the next one.
+local function possible()
+  return vim.tbl_filter(function(each)
+    return each.severity == vim.diagnostic.severity.INFO
+  end, problems())
+end
+
+vim.api.nvim_buf_set_lines(buffer, 7, 8, false, { "    return double_of(4) / rv_getbyte();" })
+vim.api.nvim_buf_set_lines(buffer, 0, 0, false, { "#include <rvio.h>" })
+expect("a possible division by zero is told", wait_for(function() return #possible() == 1 end), true)
+expect("the place of the quotient", possible()[1] and { possible()[1].lnum, possible()[1].col }, { 8, 24 })
+vim.api.nvim_buf_set_lines(buffer, 8, 9, false, { "    return double_of(4);" })
+expect("nothing possible is left", wait_for(function() return #problems() == 0 end), true)
 
 for _, each in ipairs((vim.lsp.get_clients or vim.lsp.get_active_clients)()) do
   each.stop()

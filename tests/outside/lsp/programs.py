@@ -27,6 +27,12 @@ TABLE = {
                   '    const int step = 3;\n    for (int i = 0; i < ROWS * WIDTH; i++)\n        flat[i] = (i + step) % limit;\n'
                   '    cells[1][2] = flat[CELL(1, 2)];\n    return sum_of(flat, CELL(0, START)) == 0;\n}\n',
 }
+# Objects with static storage and enumerators in blocks, some of which have a name that others have too.
+BLOCKS = {
+    'main.c': 'enum { A = 9 };\nstatic int count = 7;\nint next(void)\n{\n    static const int step = 2, most[] = { 1, 2, 3 };\n    static unsigned char count;\n'
+              '    count += step;\n    return count + most[1];\n}\nint main(void)\n{\n    enum mode { A, B = A + 5, C };\n    static long table[C][A + 2];\n'
+              '    {\n        enum { A = -B };\n        table[0][1] = A;\n    }\n    return table[0][1] + B + C + count + next();\n}\n',
+}
 OPTIONS = {
     id(RING): {'main': 'main.c'},
     id(LIGHT): {'main': 'main.c'},
@@ -121,6 +127,50 @@ HOVERS = [
     (TABLE, ('src/main.c', 9, 'CELL'), ['#define CELL(row, column) ((row) * WIDTH + (column))', '( ( 1 ) * WIDTH + ( 2 ) )', 'value `10`']),
     (TABLE, ('src/main.c', 10, 'CELL'), ['( ( 0 ) * WIDTH + ( 2 ) )', 'value `2`']),
     (TABLE, ('src/main.c', 10, 'START'), ['#define START 2', 'value `2`']),
+    (BLOCKS, ('main.c', 4, 'step'), ['object', 'type `const int`', 'value `2`']),
+    (BLOCKS, ('main.c', 6, 'step'), ['type `const int`', 'value `2`']),
+    (BLOCKS, ('main.c', 7, 'most'), ['type `const int [3]`']),
+    (BLOCKS, ('main.c', 7, 'count'), ['static unsigned char count;', 'type `unsigned char`']),
+    (BLOCKS, ('main.c', 17, 'count'), ['static int count = 7;', 'type `int`']),
+    (BLOCKS, ('main.c', 12, 'table'), ['type `long [6][2]`']),
+    (BLOCKS, ('main.c', 0, 'A'), ['A = 9', 'enumerator, an int', 'value `9`']),
+    (BLOCKS, ('main.c', 11, 'A'), ['A', 'enumerator, an int', 'value `0`']),
+    (BLOCKS, ('main.c', 11, 'B'), ['B = A + 5', 'value `5`']),
+    (BLOCKS, ('main.c', 17, 'C'), ['C', 'value `6`']),
+    (BLOCKS, ('main.c', 14, 'A'), ['A = -B', 'value `-5`']),
+    (BLOCKS, ('main.c', 15, 'A'), ['A = -B', 'value `-5`']),
+]
+# Of what nothing is known that the line of this word would say: what stands in a group that is skipped, an object in a file that depends on its lines, an array that nothing gives a size.
+UNSURE = [
+    ('enum { A = 1 };\nint main(void)\n{\n#if 0\n    enum { A = 2 };\n#endif\n    return A;\n}\n', ('main.c', 4, 'A'), 'value'),
+    ('int main(void)\n{\n#if 0\n    static long kept;\n#endif\n    return 0;\n}\n', ('main.c', 3, 'kept'), 'type'),
+    ('int main(void)\n{\n    static int kept = __LINE__;\n    return kept;\n}\n', ('main.c', 2, 'kept'), 'type'),
+    ('extern int some[];\nint main(void) { return 0; }\n', ('main.c', 0, 'some'), 'type'),
+]
+# Where a name is in scope (6.2.1p7): names that are offered at `@`, and names that are not.
+SCOPED = [
+    ('a function in its body', {'main.c': 'int main(void) { @ }\n'}, {'main'}, set()),
+    ('a function before its declarator', {'main.c': '@\nint main(void) { return 0; }\n'}, set(), {'main'}),
+    ('a function in its declarator', {'main.c': 'int f(int n, @) { return n; }\n'}, {'n'}, {'f'}),
+    ('a function behind its prototype', {'main.c': 'int f(int n);\nint main(void) { @ }\nint f(int n) { return n; }\n'}, {'f', 'main'}, {'n'}),
+    ('an object in its declarator', {'main.c': 'int x[@];\n'}, set(), {'x'}),
+    ('an object in its initialiser', {'main.c': 'int x = @;\n'}, {'x'}, set()),
+    ('an object in the next declarator', {'main.c': 'int x, y[@], z;\n'}, {'x'}, {'y', 'z'}),
+    ('an object of a block before it', {'main.c': 'int main(void) { @ int x = 1; return x; }\n'}, {'main'}, {'x'}),
+    ('an object behind its block', {'main.c': 'int main(void) { { int x = 1; } @ }\n'}, {'main'}, {'x'}),
+    ('an object of a for', {'main.c': 'int main(void) { for (int i = 0; @; ) i++; return 0; }\n'}, {'i'}, set()),
+    ('an object behind its for', {'main.c': 'int main(void) { for (int i = 0; i < 2; i++) ; @ return 0; }\n'}, set(), {'i'}),
+    ('a parameter in the body', {'main.c': 'int f(int n) { @ }\n'}, {'f', 'n'}, set()),
+    ('a parameter behind the body', {'main.c': 'int f(int n) { return n; }\n@\n'}, {'f'}, {'n'}),
+    ('an enumerator in its constant', {'main.c': 'enum { A = 1, B = @ };\n'}, {'A'}, {'B'}),
+    ('an enumerator behind its enumeration', {'main.c': 'enum { A = 1, B = A } x = @;\n'}, {'A', 'B', 'x'}, set()),
+    ('names of a block', {'main.c': 'int main(void) { static int kept; enum { K = 2 }; @ return 0; }\n'}, {'kept', 'K', 'main'}, set()),
+    ('names behind a block', {'main.c': 'int main(void) { { static int kept; enum { K = 2 }; } @ return 0; }\n'}, {'main'}, {'kept', 'K'}),
+    ('a macro before its line', {'main.c': '@\n#define N 1\n'}, set(), {'N'}),
+    ('a macro behind its line', {'main.c': '#define N 1\n@\n'}, {'N'}, set()),
+    ('an included file before its line', {'main.c': '@\n#include "a.h"\n', 'a.h': 'int a;\n'}, set(), {'a'}),
+    ('an included file behind its line', {'main.c': '#include "a.h"\n@\n', 'a.h': 'int a;\n'}, {'a'}, set()),
+    ('the including file in the included one', {'main.c': 'int x;\n#include "a.h"\nint y;\n', 'a.h': 'int a;\n@\nint b;\n'}, {'x', 'a'}, {'y', 'b'}),
 ]
 # The functions of a program, whose frames and weights `zkc frames` tells.
 FRAMES = [
@@ -171,9 +221,11 @@ TOKENS = [
 ]
 # What is offered at a place: names that are there, and names that are not.
 OFFERS = [
-    (RING, 'ring.c', 5, 4, {'value', 'slots', 'RING_SIZE', 'ring_put', 'while'}, {'a'}),
+    # main.c includes ring.c before main
+    (RING, 'ring.c', 5, 4, {'value', 'slots', 'RING_SIZE', 'ring_put', 'ring_take', 'while'}, {'a', 'main'}),
     (LIGHT, 'main.c', 9, 4, {'now', 'RED', 'TWICE', 'next', 'return'}, {'x'}),
-    (TABLE, 'src/main.c', 8, 8, {'i', 'step', 'flat', 'CELL', 'WIDTH', 'START', 'limit', 'sum_of'}, {'sum', 'count', 'row'}),
+    (TABLE, 'src/main.c', 8, 8, {'i', 'step', 'flat', 'CELL', 'WIDTH', 'START', 'limit', 'sum_of', 'main'}, {'sum', 'count', 'row'}),
+    (BLOCKS, 'main.c', 15, 8, {'A', 'B', 'C', 'mode', 'table', 'count', 'next', 'main'}, {'step', 'most'}),
 ]
 # A fault that is made by taking a token away, and the change that mends it: file, line, the token, and where the text `;` is to be inserted.
 FAULTS = [

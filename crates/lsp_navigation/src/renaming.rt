@@ -1,53 +1,46 @@
 //! Renaming.
 
-use crate::answering::Spot;
-use crate::host::Host;
-use crate::json::{put_comma, put_edit, put_span, put_text_member};
-use crate::params::text_at;
-use crate::server::{Outcome, Server};
-use crate::view::View;
 use lsp_names::{Mention, is_name};
-use lsp_wire::{RpcError, put_string};
+use lsp_program::{Host, Spot, View, put_comma, put_edit, put_span, put_text_member, text_at};
+use lsp_wire::{Outcome, RpcError, put_string};
 use serde_json::Value;
 use std::alloc::{AllocError, Global};
 
-impl<H: Host + Drop> Server<H> {
-    /// `textDocument/prepareRename`: the name at a place, or null.
-    pub(crate) fn prepare_rename(&self, view: &View, spot: Spot) -> Result<Outcome, AllocError> {
-        let Some(mention) = view.index.mention_at(spot.file, spot.offset) else {
-            return Ok(Outcome::Answer(String::from_str(self.alloc, "null")?));
-        };
-        let mut out = String::from_str(self.alloc, "{\"range\":")?;
-        put_span(self.alloc, view.span(mention.place), &mut out)?;
-        put_text_member(
-            self.alloc,
-            "placeholder",
-            view.index.name(mention.symbol),
-            &mut out,
-        )?;
-        out.push_str("}")?;
-        Ok(Outcome::Answer(out))
-    }
+/// `textDocument/prepareRename`: the name at a place, or null.
+pub fn prepare_rename(alloc: Global, view: &View, spot: Spot) -> Result<Outcome, AllocError> {
+    let Some(mention) = view.index.mention_at(spot.file, spot.offset) else {
+        return Ok(Outcome::Answer(String::from_str(alloc, "null")?));
+    };
+    let mut out = String::from_str(alloc, "{\"range\":")?;
+    put_span(alloc, view.span(mention.place), &mut out)?;
+    put_text_member(
+        alloc,
+        "placeholder",
+        view.index.name(mention.symbol),
+        &mut out,
+    )?;
+    out.push_str("}")?;
+    Ok(Outcome::Answer(out))
+}
 
-    /// `textDocument/rename`. It is refused where the new name is no identifier or stands in one of the files already, where the name is that
-    /// of a built-in header, and where the body of a macro may mean it.
-    pub(crate) fn rename(
-        &self,
-        view: &View,
-        spot: Spot,
-        params: &Value,
-    ) -> Result<Outcome, AllocError> {
-        let Some(name) = text_at(params, "/newName") else {
-            return Ok(Outcome::Refused(RpcError::InvalidParams, RpcError::InvalidParams.text()));
-        };
-        let Some(mention) = view.index.mention_at(spot.file, spot.offset) else {
-            return Ok(refused("there is no name here that is known"));
-        };
-        if let Some(why) = why_not(view, mention, name) {
-            return Ok(refused(why));
-        }
-        Ok(Outcome::Answer(edits(self.alloc, view, mention.symbol, name)?))
+/// `textDocument/rename`. It is refused where the new name is no identifier or stands in one of the files already, where the name is that
+/// of a built-in header, and where the body of a macro may mean it.
+pub fn rename(
+    alloc: Global,
+    view: &View,
+    spot: Spot,
+    params: &Value,
+) -> Result<Outcome, AllocError> {
+    let Some(name) = text_at(params, "/newName") else {
+        return Ok(Outcome::Refused(RpcError::InvalidParams, RpcError::InvalidParams.text()));
+    };
+    let Some(mention) = view.index.mention_at(spot.file, spot.offset) else {
+        return Ok(refused("there is no name here that is known"));
+    };
+    if let Some(why) = why_not(view, mention, name) {
+        return Ok(refused(why));
     }
+    Ok(Outcome::Answer(edits(alloc, view, mention.symbol, name)?))
 }
 
 fn refused(why: &'static str) -> Outcome {

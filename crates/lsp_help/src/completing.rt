@@ -1,15 +1,13 @@
 //! Completion: the names in scope and the keywords, the directives, the macros, or the names of headers, by what the line begins with.
 
-use crate::answering::Spot;
-use crate::host::Host;
-use crate::hover::declaration;
-use crate::json::{put_edit, put_text_member};
+use crate::headers::bracketed_names;
+use crate::hovering::declaration;
+use crate::inquiry::Inquiry;
 use crate::line_start::{LineStart, line_start};
-use crate::server::{Outcome, Server};
-use crate::view::View;
 use lsp_names::{OFFERED_KEYWORDS, Place, Symbol, SymbolKind};
+use lsp_program::{Host, Spot, View, put_edit, put_text_member};
 use lsp_text::Span;
-use lsp_wire::put_number;
+use lsp_wire::{Outcome, put_number};
 use std::alloc::{AllocError, Global};
 
 /// How many names are offered at most.
@@ -28,30 +26,29 @@ const DIRECTIVES: [&str; 12] = [
     "pragma", "undef",
 ];
 
-impl<H: Host + Drop> Server<H> {
-    /// `textDocument/completion`. The client picks those that go on with what is written.
-    pub(crate) fn completion(&self, view: &View, spot: Spot) -> Result<Outcome, AllocError> {
-        let alloc = self.alloc;
-        let mut out = String::from_str(alloc, "{\"isIncomplete\":false,\"items\":[")?;
-        match line_start(view.line_before(spot.file, spot.offset)) {
-            LineStart::Directive => put_words(alloc, DIRECTIVES.as_slice(), &mut out)?,
-            LineStart::Bracketed(written) => {
-                let names = self.bracketed_names()?;
-                put_headers(alloc, view, spot, written, names.as_slice(), &mut out)?;
-            }
-            LineStart::Quoted(written) => {
-                let names = self.quoted_names(view.path(spot.file), written)?;
-                put_headers(alloc, view, spot, written, names.as_slice(), &mut out)?;
-            }
-            LineStart::MacroName => put_symbols(alloc, view, spot, true, &mut out)?,
-            LineStart::Code => {
-                put_symbols(alloc, view, spot, false, &mut out)?;
-                put_words(alloc, OFFERED_KEYWORDS.as_slice(), &mut out)?;
-            }
+/// `textDocument/completion`. The client picks those that go on with what is written.
+pub fn completion<H: Host>(inquiry: &Inquiry<'_, H>, spot: Spot) -> Result<Outcome, AllocError> {
+    let alloc = inquiry.alloc;
+    let view = inquiry.view;
+    let mut out = String::from_str(alloc, "{\"isIncomplete\":false,\"items\":[")?;
+    match line_start(view.line_before(spot.file, spot.offset)) {
+        LineStart::Directive => put_words(alloc, DIRECTIVES.as_slice(), &mut out)?,
+        LineStart::Bracketed(written) => {
+            let names = bracketed_names(alloc)?;
+            put_headers(alloc, view, spot, written, names.as_slice(), &mut out)?;
         }
-        out.push_str("]}")?;
-        Ok(Outcome::Answer(out))
+        LineStart::Quoted(written) => {
+            let names = inquiry.quoted_names(view.path(spot.file), written)?;
+            put_headers(alloc, view, spot, written, names.as_slice(), &mut out)?;
+        }
+        LineStart::MacroName => put_symbols(alloc, view, spot, true, &mut out)?,
+        LineStart::Code => {
+            put_symbols(alloc, view, spot, false, &mut out)?;
+            put_words(alloc, OFFERED_KEYWORDS.as_slice(), &mut out)?;
+        }
     }
+    out.push_str("]}")?;
+    Ok(Outcome::Answer(out))
 }
 
 /// Puts a comma before an item that is not the first.
@@ -68,9 +65,12 @@ fn put_symbols(
     are_macros: bool,
     out: &mut String,
 ) -> Result<(), AllocError> {
-    for symbol in view.index.symbols.iter().take(MAX_ITEMS) {
+    let here = view.lookup(spot);
+    let mut left = MAX_ITEMS;
+    for symbol in &view.index.symbols {
         let is_wanted = !are_macros || symbol.kind == SymbolKind::Macro;
-        if is_wanted && view.index.is_visible(symbol, spot.file, spot.offset) {
+        if is_wanted && left > 0 && view.index.is_visible(symbol, here) {
+            left = left.saturating_sub(1);
             put_item_comma(out)?;
             put_symbol(alloc, view, symbol, out)?;
         }

@@ -1,10 +1,10 @@
 //! The files of a program: the main one, and those that it includes, as they stand in the editor or else on the disk.
 
 use crate::definitions::{MADE_FILE, made_text};
+use crate::documents::OpenDocument;
 use crate::host::{Host, Unit};
 use crate::options::Options;
 use crate::paths::{base_of, folder_of, joined, uri_of};
-use crate::server::OpenDocument;
 use explain_places::Tokens;
 use lsp_text::LineTable;
 use phases::Kind;
@@ -13,7 +13,7 @@ use std::alloc::{AllocError, Global};
 
 /// Who wrote a file.
 #[derive(Clone, Copy, PartialEq, Eq)]
-pub(crate) enum Origin {
+pub enum Origin {
     /// A person: it lies on the disk, or is open in the editor.
     Written,
     /// It is a built-in header.
@@ -24,26 +24,26 @@ pub(crate) enum Origin {
 
 /// A file of a program.
 #[derive(Drop)]
-pub(crate) struct UnitFile {
-    pub(crate) origin: Origin,
+pub struct UnitFile {
+    pub origin: Origin,
     /// The name under which it is included.
-    pub(crate) name: String,
+    pub name: String,
     /// Where it lies; empty where no person wrote it.
-    pub(crate) path: String,
-    pub(crate) uri: String,
-    pub(crate) text: Vec<u8>,
-    pub(crate) lines: LineTable,
+    pub path: String,
+    pub uri: String,
+    pub text: Vec<u8>,
+    pub lines: LineTable,
 }
 
 /// The files of a program, the main one first.
 #[derive(Drop)]
-pub(crate) struct Program {
-    pub(crate) files: Vec<UnitFile>,
+pub struct Program {
+    pub files: Vec<UnitFile>,
 }
 
 impl Program {
     /// The path of the main file; empty where it cannot be read.
-    pub(crate) fn root(&self) -> &str {
+    pub fn root(&self) -> &str {
         match self.files.first() {
             Some(file) => file.path.as_str(),
             None => "",
@@ -51,13 +51,13 @@ impl Program {
     }
 
     /// Whether one of the files lies at a path.
-    pub(crate) fn has_path(&self, path: &str) -> bool {
+    pub fn has_path(&self, path: &str) -> bool {
         self.files.iter().any(|file| file.path.as_str() == path)
     }
 }
 
 /// Whether the main file of the program with this number is included in another program.
-pub(crate) fn is_part(programs: &[Program], number: usize) -> bool {
+pub fn is_part(programs: &[Program], number: usize) -> bool {
     let Some(program) = programs.get(number) else {
         return false;
     };
@@ -71,15 +71,15 @@ pub(crate) fn is_part(programs: &[Program], number: usize) -> bool {
 
 /// Where files are looked for.
 #[derive(Drop)]
-pub(crate) struct Places<'a, H> {
-    pub(crate) host: &'a H,
-    pub(crate) documents: &'a [OpenDocument],
-    pub(crate) options: &'a Options,
+pub struct Places<'a, H> {
+    pub host: &'a H,
+    pub documents: &'a [OpenDocument],
+    pub options: &'a Options,
 }
 
 /// Gathers the files of the program whose main file lies at a path, the main one first, and last the one that has the macros of the options, where there are some; none where the main file
 /// cannot be read.
-pub(crate) fn gather<H: Host>(
+pub fn gather<H: Host>(
     alloc: Global,
     places: &Places<'_, H>,
     path: &str,
@@ -232,7 +232,7 @@ fn plain_name(spelling: &[u8]) -> Option<&str> {
 }
 
 /// The set of a program's files for the compiler, built-in headers aside. A file that a set does not take is left out.
-pub(crate) fn set_of(alloc: Global, files: &[UnitFile]) -> Result<FileSet, AllocError> {
+pub fn set_of(alloc: Global, files: &[UnitFile]) -> Result<FileSet, AllocError> {
     let mut set = FileSet::new(alloc);
     for file in files {
         if file.origin != Origin::BuiltIn {
@@ -249,10 +249,7 @@ pub(crate) fn set_of(alloc: Global, files: &[UnitFile]) -> Result<FileSet, Alloc
 }
 
 /// The names of the files of such a set.
-pub(crate) fn names_of<'f>(
-    alloc: Global,
-    files: &'f [UnitFile],
-) -> Result<Vec<&'f str>, AllocError> {
+pub fn names_of<'f>(alloc: Global, files: &'f [UnitFile]) -> Result<Vec<&'f str>, AllocError> {
     let mut names = Vec::new(alloc);
     for file in files {
         if file.origin != Origin::BuiltIn {
@@ -263,7 +260,7 @@ pub(crate) fn names_of<'f>(
 }
 
 /// The program of these files for the host; `None` where there is none.
-pub(crate) fn unit_of<'f>(
+pub fn unit_of<'f>(
     files: &'f [UnitFile],
     set: &'f FileSet,
     names: &'f [&'f str],

@@ -1,39 +1,32 @@
 //! Signature help: the parameters of the function or macro that is called around a place.
 
-use crate::answering::Spot;
-use crate::host::Host;
-use crate::json::{put_comma, put_text_member};
-use crate::server::{Outcome, Server};
-use crate::view::View;
 use lsp_names::{CallSite, Symbol, SymbolKind, call_at};
-use lsp_wire::{put_number, put_string};
+use lsp_program::{Host, Spot, View, put_comma, put_text_member};
+use lsp_wire::{Outcome, put_number, put_string};
 use std::alloc::{AllocError, Global};
 
-impl<H: Host + Drop> Server<H> {
-    /// `textDocument/signatureHelp`; null where no call of a known name stands.
-    pub(crate) fn signature_help(&self, view: &View, spot: Spot) -> Result<Outcome, AllocError> {
-        let alloc = self.alloc;
-        let found = call_at(view.index.words(spot.file), spot.offset);
-        let Some(call) = found else {
-            return Ok(Outcome::Answer(String::from_str(alloc, "null")?));
-        };
-        let Some(symbol) = called(view, spot.file, call) else {
-            return Ok(Outcome::Answer(String::from_str(alloc, "null")?));
-        };
-        let mut out = String::from_str(alloc, "{\"signatures\":[{\"parameters\":[")?;
-        put_parameters(alloc, view, symbol, &mut out)?;
-        out.push_str("]")?;
-        put_text_member(
-            alloc,
-            "label",
-            label(alloc, view, symbol)?.as_str(),
-            &mut out,
-        )?;
-        out.push_str("}],\"activeSignature\":0,\"activeParameter\":")?;
-        put_number(alloc, i64::try_from(call.argument).unwrap_or(0), &mut out)?;
-        out.push_str("}")?;
-        Ok(Outcome::Answer(out))
-    }
+/// `textDocument/signatureHelp`; null where no call of a known name stands.
+pub fn signature_help(alloc: Global, view: &View, spot: Spot) -> Result<Outcome, AllocError> {
+    let found = call_at(view.index.words(spot.file), spot.offset);
+    let Some(call) = found else {
+        return Ok(Outcome::Answer(String::from_str(alloc, "null")?));
+    };
+    let Some(symbol) = called(view, spot.file, call) else {
+        return Ok(Outcome::Answer(String::from_str(alloc, "null")?));
+    };
+    let mut out = String::from_str(alloc, "{\"signatures\":[{\"parameters\":[")?;
+    put_parameters(alloc, view, symbol, &mut out)?;
+    out.push_str("]")?;
+    put_text_member(
+        alloc,
+        "label",
+        label(alloc, view, symbol)?.as_str(),
+        &mut out,
+    )?;
+    out.push_str("}],\"activeSignature\":0,\"activeParameter\":")?;
+    put_number(alloc, i64::try_from(call.argument).unwrap_or(0), &mut out)?;
+    out.push_str("}")?;
+    Ok(Outcome::Answer(out))
 }
 
 /// The function or macro that is called.

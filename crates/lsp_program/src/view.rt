@@ -2,30 +2,33 @@
 
 use crate::unit_files::{Origin, UnitFile};
 use lsp_budget::work_of;
-use lsp_names::{Index, Place, Source, Symbol, SymbolKind};
+use lsp_names::{Index, Lookup, Place, Source, Symbol, SymbolKind};
 use lsp_text::{Encoding, Position, Span};
 use std::alloc::{AllocError, Global};
 
+/// What a request is about: a file of a program, and an offset in it.
+#[derive(Clone, Copy)]
+pub struct Spot {
+    pub file: usize,
+    pub offset: usize,
+}
+
 /// A program with its names.
 #[derive(Drop)]
-pub(crate) struct View {
-    pub(crate) files: Vec<UnitFile>,
-    pub(crate) index: Index,
-    pub(crate) encoding: Encoding,
+pub struct View {
+    pub files: Vec<UnitFile>,
+    pub index: Index,
+    pub encoding: Encoding,
     /// The work of its preprocessing, as `lsp_budget::work_of` estimates it.
-    pub(crate) work: u64,
+    pub work: u64,
 }
 
 /// The work up to which a program is given to the compiler: some seconds.
-pub(crate) const MAX_WORK: u64 = 16_000_000;
+pub const MAX_WORK: u64 = 16_000_000;
 
 impl View {
     /// Looks at the files of a program.
-    pub(crate) fn of(
-        alloc: Global,
-        files: Vec<UnitFile>,
-        encoding: Encoding,
-    ) -> Result<View, AllocError> {
+    pub fn of(alloc: Global, files: Vec<UnitFile>, encoding: Encoding) -> Result<View, AllocError> {
         let index = index_of(alloc, files.as_slice())?;
         let work = work_of(alloc, &index, files.len())?;
         Ok(View {
@@ -37,12 +40,12 @@ impl View {
     }
 
     /// Whether the program is given to the compiler.
-    pub(crate) fn is_within_budget(&self) -> bool {
+    pub fn is_within_budget(&self) -> bool {
         self.work <= MAX_WORK
     }
 
     /// The path of the main file; empty where there is none.
-    pub(crate) fn root(&self) -> &str {
+    pub fn root(&self) -> &str {
         match self.files.first() {
             Some(file) => file.path.as_str(),
             None => "",
@@ -50,7 +53,7 @@ impl View {
     }
 
     /// The name under which a file is included.
-    pub(crate) fn file_name(&self, number: usize) -> &str {
+    pub fn file_name(&self, number: usize) -> &str {
         match self.files.get(number) {
             Some(file) => file.name.as_str(),
             None => "",
@@ -58,7 +61,7 @@ impl View {
     }
 
     /// The number of the file with this URI.
-    pub(crate) fn number(&self, path: &str) -> Option<usize> {
+    pub fn number(&self, path: &str) -> Option<usize> {
         if path.is_empty() {
             return None;
         }
@@ -67,8 +70,13 @@ impl View {
             .position(|file| file.path.as_str() == path)
     }
 
+    /// A place at which names are to be looked up.
+    pub fn lookup(&self, spot: Spot) -> Lookup {
+        self.index.lookup(spot.file, spot.offset)
+    }
+
     /// Whether `(` stands directly behind the name of a macro where it is defined.
-    pub(crate) fn has_parameters(&self, symbol: &Symbol) -> bool {
+    pub fn has_parameters(&self, symbol: &Symbol) -> bool {
         let behind = Place {
             file: symbol.at.file,
             start: symbol.at.end,
@@ -78,7 +86,7 @@ impl View {
     }
 
     /// The offset of a position in a file.
-    pub(crate) fn offset(&self, number: usize, position: Position) -> usize {
+    pub fn offset(&self, number: usize, position: Position) -> usize {
         match self.files.get(number) {
             Some(file) => file
                 .lines
@@ -88,7 +96,7 @@ impl View {
     }
 
     /// The positions of a place.
-    pub(crate) fn span(&self, place: Place) -> Span {
+    pub fn span(&self, place: Place) -> Span {
         match self.files.get(place.file) {
             Some(file) => {
                 file.lines.span(file.text.as_slice(), place.start, place.end, self.encoding)
@@ -98,7 +106,7 @@ impl View {
     }
 
     /// The path of a file; empty where no person wrote it.
-    pub(crate) fn path(&self, number: usize) -> &str {
+    pub fn path(&self, number: usize) -> &str {
         match self.files.get(number) {
             Some(file) => file.path.as_str(),
             None => "",
@@ -106,7 +114,7 @@ impl View {
     }
 
     /// The bytes of a line before an offset in it.
-    pub(crate) fn line_before(&self, number: usize, offset: usize) -> &[u8] {
+    pub fn line_before(&self, number: usize, offset: usize) -> &[u8] {
         let Some(file) = self.files.get(number) else {
             return &[];
         };
@@ -121,7 +129,7 @@ impl View {
     }
 
     /// The URI of a file; `None` for a built-in header.
-    pub(crate) fn uri(&self, number: usize) -> Option<&str> {
+    pub fn uri(&self, number: usize) -> Option<&str> {
         let file = self.files.get(number)?;
         if file.path.is_empty() {
             return None;
@@ -130,7 +138,7 @@ impl View {
     }
 
     /// The bytes of a place.
-    pub(crate) fn bytes(&self, place: Place) -> &[u8] {
+    pub fn bytes(&self, place: Place) -> &[u8] {
         match self.files.get(place.file) {
             Some(file) => file
                 .text
@@ -159,7 +167,7 @@ fn index_of(alloc: Global, files: &[UnitFile]) -> Result<Index, AllocError> {
 }
 
 /// What stands before the first character of a file.
-pub(crate) fn beginning() -> Span {
+pub fn beginning() -> Span {
     let start = Position {
         line: 0,
         character: 0,

@@ -12,26 +12,26 @@ const USUAL_STACK: u32 = 1_048_576;
 
 /// The options of a session.
 #[derive(Drop)]
-pub(crate) struct Options {
-    pub(crate) encoding: Encoding,
+pub struct Options {
+    pub encoding: Encoding,
     /// The folders in which includes are looked for.
-    pub(crate) folders: Vec<String>,
+    pub folders: Vec<String>,
     /// The path of the main file; empty where each open file that no other includes is one.
-    pub(crate) main: String,
+    pub main: String,
     /// The macros that are defined, as `NAME`, `NAME=VALUE` or `NAME(PARAMETERS)=VALUE`, and those that are left out.
-    pub(crate) defined: Vec<String>,
-    pub(crate) undefined: Vec<String>,
+    pub defined: Vec<String>,
+    pub undefined: Vec<String>,
     /// What the options have that is no macro.
-    pub(crate) wrong: Vec<String>,
+    pub wrong: Vec<String>,
     /// The bytes of the stack.
-    pub(crate) stack: u32,
+    pub stack: u32,
     /// Whether a file that is saved is verified.
-    pub(crate) verifies: bool,
+    pub verifies: bool,
 }
 
 impl Options {
     /// The options of a client that says nothing.
-    pub(crate) fn usual(alloc: Global) -> Options {
+    pub fn usual(alloc: Global) -> Options {
         Options {
             encoding: Encoding::Utf16,
             folders: Vec::new(alloc),
@@ -45,7 +45,7 @@ impl Options {
     }
 
     /// The options in the parameters of `initialize`.
-    pub(crate) fn of(alloc: Global, params: &Value) -> Result<Options, AllocError> {
+    pub fn of(alloc: Global, params: &Value) -> Result<Options, AllocError> {
         let root = root_of(alloc, params)?;
         let mut options = Options::usual(alloc);
         options.encoding = encoding_of(params);
@@ -60,7 +60,7 @@ impl Options {
     }
 
     /// Whether there are macros.
-    pub(crate) fn has_macros(&self) -> bool {
+    pub fn has_macros(&self) -> bool {
         !self.defined.is_empty() || !self.undefined.is_empty()
     }
 

@@ -20,8 +20,8 @@ pub struct Unit<'a> {
 /// What is asked of a program.
 #[derive(Clone, Copy, Debug, PartialEq, Eq)]
 pub enum Question {
-    /// Why it is refused.
-    Faults,
+    /// Why it is refused: at most so many faults.
+    Faults(usize),
     /// What it may have by mistake. It is asked of programs that are not refused.
     Warnings,
     /// Where undefined behaviour is not ruled out. It is asked of programs that are not refused.
@@ -42,10 +42,22 @@ pub struct Declared<'a> {
     pub name: &'a str,
     /// The name where it is declared.
     pub at: Part<'a>,
+    /// Where its declarator ends, with the initialiser and the `;` behind it.
+    pub end: usize,
     /// Whether it is declared for the whole unit.
     pub is_global: bool,
     /// Of a parameter: the name of its function, and its number there, from 0.
     pub parameter: Option<(&'a str, usize)>,
+}
+
+/// An enumerator of a block.
+#[derive(Clone, Copy)]
+pub struct Enumerated<'a> {
+    pub name: &'a str,
+    /// The whole enumerator.
+    pub whole: Part<'a>,
+    /// Where its block ends: before the brace.
+    pub scope_end: usize,
 }
 
 /// What is known of an object.
@@ -115,6 +127,14 @@ pub trait Host {
         alloc: Global,
         unit: Unit<'_>,
         expression: &str,
+    ) -> Result<Option<i64>, AllocError>;
+
+    /// The value of an enumerator of a block.
+    fn enumerator(
+        &self,
+        alloc: Global,
+        unit: Unit<'_>,
+        declared: Enumerated<'_>,
     ) -> Result<Option<i64>, AllocError>;
 
     /// The value of a macro without parameters there.

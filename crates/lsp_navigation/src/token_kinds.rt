@@ -1,11 +1,9 @@
 //! Semantic tokens.
 
-use crate::host::Host;
-use crate::json::put_comma;
-use crate::server::{Outcome, Server};
-use crate::view::View;
 use lsp_names::{Class, Place, SymbolKind, Word};
+use lsp_program::{View, put_comma};
 use lsp_text::Position;
+use lsp_wire::Outcome;
 use std::alloc::{AllocError, Global};
 
 /// The kinds of tokens, in the order of their numbers.
@@ -22,7 +20,7 @@ const KINDS: [&str; 9] = [
 ];
 
 /// The legend of the capabilities.
-pub(crate) fn put_legend(out: &mut String) -> Result<(), AllocError> {
+pub fn put_legend(out: &mut String) -> Result<(), AllocError> {
     out.push_str("{\"tokenTypes\":[")?;
     let begin = out.len();
     for kind in KINDS.as_slice() {
@@ -44,24 +42,22 @@ struct Data {
     last: Position,
 }
 
-impl<H: Host + Drop> Server<H> {
-    /// `textDocument/semanticTokens/full`. A token over several lines is left out.
-    pub(crate) fn semantic_tokens(&self, view: &View, file: usize) -> Result<Outcome, AllocError> {
-        let out = String::from_str(self.alloc, "{\"data\":[")?;
-        let mut data = Data {
-            alloc: self.alloc,
-            begin: out.len(),
-            out,
-            last: Position {
-                line: 0,
-                character: 0,
-            },
-        };
-        put_words(view, file, &mut data)?;
-        data.out.push_str("]}")?;
-        let Data { out, .. } = data;
-        Ok(Outcome::Answer(out))
-    }
+/// `textDocument/semanticTokens/full`. A token over several lines is left out.
+pub fn semantic_tokens(alloc: Global, view: &View, file: usize) -> Result<Outcome, AllocError> {
+    let out = String::from_str(alloc, "{\"data\":[")?;
+    let mut data = Data {
+        alloc: alloc,
+        begin: out.len(),
+        out,
+        last: Position {
+            line: 0,
+            character: 0,
+        },
+    };
+    put_words(view, file, &mut data)?;
+    data.out.push_str("]}")?;
+    let Data { out, .. } = data;
+    Ok(Outcome::Answer(out))
 }
 
 /// Puts the tokens of a file.

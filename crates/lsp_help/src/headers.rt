@@ -1,10 +1,9 @@
 //! Names of headers: the built-in ones, and the files of the folders in which an `#include` looks.
 
-use crate::host::Host;
-use crate::paths::{folder_of, joined};
-use crate::server::Server;
+use crate::inquiry::Inquiry;
+use lsp_program::{Host, folder_of, joined};
 use srcset::builtin;
-use std::alloc::AllocError;
+use std::alloc::{AllocError, Global};
 
 /// The built-in headers.
 const BUILT_IN: [&str; 4] = ["iso646.h", "limits.h", "rvio.h", "stdbool.h"];
@@ -12,18 +11,7 @@ const BUILT_IN: [&str; 4] = ["iso646.h", "limits.h", "rvio.h", "stdbool.h"];
 /// How many names are offered at most.
 const MAX_NAMES: usize = 2_000;
 
-impl<H: Host + Drop> Server<H> {
-    /// The names that may stand in angle brackets.
-    pub(crate) fn bracketed_names(&self) -> Result<Vec<String>, AllocError> {
-        let mut names = Vec::new(self.alloc);
-        for name in BUILT_IN.as_slice() {
-            if builtin(name).is_some() {
-                names.push(String::from_str(self.alloc, name)?)?;
-            }
-        }
-        Ok(names)
-    }
-
+impl<'a, H: Host> Inquiry<'a, H> {
     /// The last parts of names that may stand in quotes in the file at a path, behind the folders that are written already: those of sources and of folders
     /// with a `/` behind them.
     pub(crate) fn quoted_names(
@@ -34,7 +22,7 @@ impl<H: Host + Drop> Server<H> {
         let mut names = if written.contains('/') {
             Vec::new(self.alloc)
         } else {
-            self.bracketed_names()?
+            bracketed_names(self.alloc)?
         };
         let below = folder_of(written);
         self.put_entries(folder_of(path), below, &mut names)?;
@@ -63,6 +51,17 @@ impl<H: Host + Drop> Server<H> {
         }
         Ok(())
     }
+}
+
+/// The names that may stand in angle brackets.
+pub(crate) fn bracketed_names(alloc: Global) -> Result<Vec<String>, AllocError> {
+    let mut names = Vec::new(alloc);
+    for name in BUILT_IN.as_slice() {
+        if builtin(name).is_some() {
+            names.push(String::from_str(alloc, name)?)?;
+        }
+    }
+    Ok(names)
 }
 
 /// Whether a name is that of a source or a folder, and not hidden.

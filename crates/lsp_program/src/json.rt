@@ -4,18 +4,14 @@ use lsp_text::{Position, Span};
 use lsp_wire::put_string;
 use std::alloc::{AllocError, Global};
 
-pub(crate) fn put_position(
-    alloc: Global,
-    position: Position,
-    out: &mut String,
-) -> Result<(), AllocError> {
+pub fn put_position(alloc: Global, position: Position, out: &mut String) -> Result<(), AllocError> {
     let line = position.line;
     let character = position.character;
     let text = format!(in alloc; "{{\"line\":{line},\"character\":{character}}}")?;
     out.push_str(text.as_str())
 }
 
-pub(crate) fn put_span(alloc: Global, span: Span, out: &mut String) -> Result<(), AllocError> {
+pub fn put_span(alloc: Global, span: Span, out: &mut String) -> Result<(), AllocError> {
     out.push_str("{\"start\":")?;
     put_position(alloc, span.start, out)?;
     out.push_str(",\"end\":")?;
@@ -24,7 +20,7 @@ pub(crate) fn put_span(alloc: Global, span: Span, out: &mut String) -> Result<()
 }
 
 /// A `Location`.
-pub(crate) fn put_location(
+pub fn put_location(
     alloc: Global,
     uri: &str,
     span: Span,
@@ -38,12 +34,7 @@ pub(crate) fn put_location(
 }
 
 /// A `TextEdit`.
-pub(crate) fn put_edit(
-    alloc: Global,
-    span: Span,
-    text: &str,
-    out: &mut String,
-) -> Result<(), AllocError> {
+pub fn put_edit(alloc: Global, span: Span, text: &str, out: &mut String) -> Result<(), AllocError> {
     out.push_str("{\"range\":")?;
     put_span(alloc, span, out)?;
     out.push_str(",\"newText\":")?;
@@ -52,7 +43,7 @@ pub(crate) fn put_edit(
 }
 
 /// Puts a comma between items of a list: before each but the first, at which the list is as long as at its beginning.
-pub(crate) fn put_comma(begin: usize, out: &mut String) -> Result<(), AllocError> {
+pub fn put_comma(begin: usize, out: &mut String) -> Result<(), AllocError> {
     if out.len() > begin {
         return out.push_str(",");
     }
@@ -60,7 +51,7 @@ pub(crate) fn put_comma(begin: usize, out: &mut String) -> Result<(), AllocError
 }
 
 /// A member whose value is a string, with the comma before it.
-pub(crate) fn put_text_member(
+pub fn put_text_member(
     alloc: Global,
     name: &str,
     text: &str,

@@ -1,41 +1,35 @@
 //! Inlay hints: the names of parameters before the arguments of calls.
 
-use crate::host::Host;
-use crate::json::{put_comma, put_position, put_text_member};
-use crate::params::span_of;
-use crate::server::{Outcome, Server};
 use crate::signature::called;
-use crate::view::View;
 use lsp_names::{CallSite, Class, Place, Symbol, SymbolKind, Word};
+use lsp_program::{View, put_comma, put_position, put_text_member, span_of};
 use lsp_text::Span;
-use lsp_wire::RpcError;
+use lsp_wire::{Outcome, RpcError};
 use serde_json::Value;
 use std::alloc::{AllocError, Global};
 
 /// How many arguments of a call are looked at.
 const MAX_ARGUMENTS: usize = 64;
 
-impl<H: Host + Drop> Server<H> {
-    /// `textDocument/inlayHint`: of calls in the range whose functions have named parameters.
-    pub(crate) fn inlay_hints(
-        &self,
-        view: &View,
-        file: usize,
-        params: &Value,
-    ) -> Result<Outcome, AllocError> {
-        let Some(span) = params.pointer("/range").and_then(span_of) else {
-            return Ok(Outcome::Refused(RpcError::InvalidParams, RpcError::InvalidParams.text()));
-        };
-        let mut out = String::from_str(self.alloc, "[")?;
-        let words = view.index.words(file);
-        for (number, word) in words.iter().enumerate() {
-            if is_call(words, number) && is_in(view, file, *word, span) {
-                put_hints(self.alloc, view, file, number, &mut out)?;
-            }
+/// `textDocument/inlayHint`: of calls in the range whose functions have named parameters.
+pub fn inlay_hints(
+    alloc: Global,
+    view: &View,
+    file: usize,
+    params: &Value,
+) -> Result<Outcome, AllocError> {
+    let Some(span) = params.pointer("/range").and_then(span_of) else {
+        return Ok(Outcome::Refused(RpcError::InvalidParams, RpcError::InvalidParams.text()));
+    };
+    let mut out = String::from_str(alloc, "[")?;
+    let words = view.index.words(file);
+    for (number, word) in words.iter().enumerate() {
+        if is_call(words, number) && is_in(view, file, *word, span) {
+            put_hints(alloc, view, file, number, &mut out)?;
         }
-        out.push_str("]")?;
-        Ok(Outcome::Answer(out))
     }
+    out.push_str("]")?;
+    Ok(Outcome::Answer(out))
 }
 
 /// Whether a name with `(` behind it has this number.

@@ -1,35 +1,30 @@
 //! What a file has: its symbols, and the parts that an editor may hide.
 
-use crate::host::Host;
-use crate::json::{put_comma, put_span, put_text_member};
-use crate::server::{Outcome, Server};
-use crate::view::View;
 use lsp_names::{Fold, Mention, Symbol, SymbolKind};
-use lsp_wire::put_number;
+use lsp_program::{View, put_comma, put_span, put_text_member};
+use lsp_wire::{Outcome, put_number};
 use std::alloc::{AllocError, Global};
 
-impl<H: Host + Drop> Server<H> {
-    /// `textDocument/documentSymbol`: what a file has for the whole unit, in the order of the places.
-    pub(crate) fn document_symbols(&self, view: &View, file: usize) -> Result<Outcome, AllocError> {
-        let mut out = String::from_str(self.alloc, "[")?;
-        for mention in &view.index.mentions {
-            if let Some(symbol) = symbol_at(view, mention, file) {
-                put_symbol(self.alloc, view, symbol, &mut out)?;
-            }
+/// `textDocument/documentSymbol`: what a file has for the whole unit, in the order of the places.
+pub fn document_symbols(alloc: Global, view: &View, file: usize) -> Result<Outcome, AllocError> {
+    let mut out = String::from_str(alloc, "[")?;
+    for mention in &view.index.mentions {
+        if let Some(symbol) = symbol_at(view, mention, file) {
+            put_symbol(alloc, view, symbol, &mut out)?;
         }
-        out.push_str("]")?;
-        Ok(Outcome::Answer(out))
     }
+    out.push_str("]")?;
+    Ok(Outcome::Answer(out))
+}
 
-    /// `textDocument/foldingRange`.
-    pub(crate) fn folding_ranges(&self, view: &View, file: usize) -> Result<Outcome, AllocError> {
-        let mut out = String::from_str(self.alloc, "[")?;
-        for fold in view.index.folds(self.alloc, file)? {
-            put_fold(self.alloc, fold, &mut out)?;
-        }
-        out.push_str("]")?;
-        Ok(Outcome::Answer(out))
+/// `textDocument/foldingRange`.
+pub fn folding_ranges(alloc: Global, view: &View, file: usize) -> Result<Outcome, AllocError> {
+    let mut out = String::from_str(alloc, "[")?;
+    for fold in view.index.folds(alloc, file)? {
+        put_fold(alloc, fold, &mut out)?;
     }
+    out.push_str("]")?;
+    Ok(Outcome::Answer(out))
 }
 
 /// The symbol of the whole unit whose shown declaration has this mention, in this file.

@@ -4,7 +4,7 @@ use percent_encoding::percent_decode;
 use std::alloc::{AllocError, Global};
 
 /// The path of a file's URI; of another URI the URI itself, at which no file lies.
-pub(crate) fn path_of(alloc: Global, uri: &str) -> Result<String, AllocError> {
+pub fn path_of(alloc: Global, uri: &str) -> Result<String, AllocError> {
     let Some(encoded) = uri.strip_prefix("file://") else {
         return String::from_str(alloc, uri);
     };
@@ -15,7 +15,7 @@ pub(crate) fn path_of(alloc: Global, uri: &str) -> Result<String, AllocError> {
 }
 
 /// The URI of the file at a path: all but letters, digits and `-._~/` is percent-encoded (RFC 3986, 2.1).
-pub(crate) fn uri_of(alloc: Global, path: &str) -> Result<String, AllocError> {
+pub fn uri_of(alloc: Global, path: &str) -> Result<String, AllocError> {
     let mut uri = String::from_str(alloc, "file://")?;
     for byte in path.as_bytes() {
         match *byte {
@@ -29,7 +29,7 @@ pub(crate) fn uri_of(alloc: Global, path: &str) -> Result<String, AllocError> {
 }
 
 /// The folder of a path; empty for the current one.
-pub(crate) fn folder_of(path: &str) -> &str {
+pub fn folder_of(path: &str) -> &str {
     match path.rfind('/') {
         Some(0) => "/",
         Some(end) => path.get(..end).unwrap_or_default(),
@@ -38,7 +38,7 @@ pub(crate) fn folder_of(path: &str) -> &str {
 }
 
 /// The last part of a path.
-pub(crate) fn base_of(path: &str) -> &str {
+pub fn base_of(path: &str) -> &str {
     match path.rfind('/') {
         Some(end) => path.get(end.saturating_add(1)..).unwrap_or_default(),
         None => path,
@@ -46,7 +46,7 @@ pub(crate) fn base_of(path: &str) -> &str {
 }
 
 /// The path of a name in a folder; an absolute name is its own.
-pub(crate) fn joined(alloc: Global, folder: &str, name: &str) -> Result<String, AllocError> {
+pub fn joined(alloc: Global, folder: &str, name: &str) -> Result<String, AllocError> {
     let mut path = String::new(alloc);
     if !(name.starts_with("/") || folder.is_empty() || folder == ".") {
         path.push_str(folder)?;

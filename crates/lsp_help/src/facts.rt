@@ -1,22 +1,15 @@
 //! What the compiler knows of a name, in words.
 
-use crate::answering::Spot;
-use crate::host::{Declared, Host, Part, Unit};
-use crate::server::Server;
-use crate::unit_files::{names_of, set_of, unit_of};
-use crate::view::View;
+use crate::inquiry::Inquiry;
 use lsp_names::{Class, Mention, Place, Role, Symbol, SymbolKind, Word};
+use lsp_program::{Declared, Enumerated, Host, Part, Spot, Unit, View, names_of, set_of, unit_of};
 use std::alloc::AllocError;
 
-impl<H: Host + Drop> Server<H> {
+impl<'a, H: Host> Inquiry<'a, H> {
     /// What is known of the symbol of a mention, in Markdown; empty where nothing is sure.
-    pub(crate) fn facts(
-        &self,
-        view: &View,
-        spot: Spot,
-        mention: Mention,
-    ) -> Result<String, AllocError> {
+    pub(crate) fn facts(&self, spot: Spot, mention: Mention) -> Result<String, AllocError> {
         let mut out = String::new(self.alloc);
+        let view = self.view;
         let Some(symbol) = view.index.symbols.get(mention.symbol) else {
             return Ok(out);
         };
@@ -30,11 +23,11 @@ impl<H: Host + Drop> Server<H> {
             return Ok(out);
         };
         match symbol.kind {
-            SymbolKind::Function => self.put_function(unit, view, symbol, &mut out)?,
-            SymbolKind::Object => self.put_object(unit, view, symbol, None, &mut out)?,
-            SymbolKind::Parameter => self.put_parameter(unit, view, symbol, &mut out)?,
-            SymbolKind::Enumerator => self.put_enumerator(unit, view, symbol, &mut out)?,
-            SymbolKind::Macro => self.put_macro(unit, view, spot, mention, &mut out)?,
+            SymbolKind::Function => self.put_function(unit, symbol, &mut out)?,
+            SymbolKind::Object => self.put_object(unit, symbol, None, &mut out)?,
+            SymbolKind::Parameter => self.put_parameter(unit, symbol, &mut out)?,
+            SymbolKind::Enumerator => self.put_enumerator(unit, symbol, &mut out)?,
+            SymbolKind::Macro => self.put_macro(unit, spot, mention, &mut out)?,
             SymbolKind::Tag => {}
             SymbolKind::MacroParameter => {}
         }
@@ -44,11 +37,10 @@ impl<H: Host + Drop> Server<H> {
     fn put_function(
         &self,
         unit: Unit<'_>,
-        view: &View,
         symbol: &Symbol,
         out: &mut String,
     ) -> Result<(), AllocError> {
-        let name = view.index.spelling(symbol.name);
+        let name = self.view.index.spelling(symbol.name);
         let Some(fact) = self.host.function(self.alloc, unit, name)? else {
             return Ok(());
         };
@@ -61,14 +53,14 @@ impl<H: Host + Drop> Server<H> {
     fn put_object(
         &self,
         unit: Unit<'_>,
-        view: &View,
         symbol: &Symbol,
         parameter: Option<(&str, usize)>,
         out: &mut String,
     ) -> Result<(), AllocError> {
         let declared = Declared {
-            name: view.index.spelling(symbol.name),
-            at: part_of(view, symbol.at),
+            name: self.view.index.spelling(symbol.name),
+            at: part_of(self.view, symbol.at),
+            end: symbol.whole.end,
             is_global: symbol.is_global,
             parameter,
         };
@@ -82,33 +74,36 @@ impl<H: Host + Drop> Server<H> {
     fn put_parameter(
         &self,
         unit: Unit<'_>,
-        view: &View,
         symbol: &Symbol,
         out: &mut String,
     ) -> Result<(), AllocError> {
-        match view.index.function_with(symbol.at) {
+        match self.view.index.function_with(symbol.at) {
             Some((function, number)) if function.is_defined => {
-                let name = view.index.spelling(function.name);
-                self.put_object(unit, view, symbol, Some((name, number)), out)
+                let name = self.view.index.spelling(function.name);
+                self.put_object(unit, symbol, Some((name, number)), out)
             }
             Some(_) => Ok(()),
             None => Ok(()),
         }
     }
 
-    /// An enumerator of the whole unit has its value behind the program too, unless a macro has its name.
+    /// An enumerator of the whole unit has its value behind the program too, and one of a block at the end of the block, unless a macro has its name.
     fn put_enumerator(
         &self,
         unit: Unit<'_>,
-        view: &View,
         symbol: &Symbol,
         out: &mut String,
     ) -> Result<(), AllocError> {
-        if !symbol.is_global || is_macro_name(view, symbol.name) {
+        if is_macro_name(self.view, symbol.name) {
             return Ok(());
         }
-        let name = view.index.spelling(symbol.name);
-        let value = self.host.value(self.alloc, unit, name)?;
+        let name = self.view.index.spelling(symbol.name);
+        let value = if symbol.is_global {
+            self.host.value(self.alloc, unit, name)?
+        } else {
+            self.host
+                .enumerator(self.alloc, unit, enumerated(self.view, symbol))?
+        };
         self.put_value(value, out)
     }
 
@@ -116,17 +111,17 @@ impl<H: Host + Drop> Server<H> {
     fn put_macro(
         &self,
         unit: Unit<'_>,
-        view: &View,
         spot: Spot,
         mention: Mention,
         out: &mut String,
     ) -> Result<(), AllocError> {
+        let view = self.view;
         let words = view.index.words(spot.file);
         let Some((number, word)) = word_at(words, mention.place) else {
             return Ok(());
         };
         if word.in_directive {
-            return self.put_fixed_value(unit, view, mention, out);
+            return self.put_fixed_value(unit, mention, out);
         }
         let place = Place {
             file: spot.file,
@@ -153,10 +148,10 @@ impl<H: Host + Drop> Server<H> {
     fn put_fixed_value(
         &self,
         unit: Unit<'_>,
-        view: &View,
         mention: Mention,
         out: &mut String,
     ) -> Result<(), AllocError> {
+        let view = self.view;
         let Some(symbol) = view.index.symbols.get(mention.symbol) else {
             return Ok(());
         };
@@ -185,6 +180,15 @@ fn part_of<'v>(view: &'v View, place: Place) -> Part<'v> {
         file: view.file_name(place.file),
         start: place.start,
         end: place.end,
+    }
+}
+
+/// An enumerator of a block for the host.
+fn enumerated<'v>(view: &'v View, symbol: &Symbol) -> Enumerated<'v> {
+    Enumerated {
+        name: view.index.spelling(symbol.name),
+        whole: part_of(view, symbol.whole),
+        scope_end: symbol.scope_end,
     }
 }
 
@@ -232,8 +236,9 @@ fn is_macro_name(view: &View, name: usize) -> bool {
 
 /// Whether a token of a text is the name of a symbol in scope that is not the whole unit's.
 fn has_local_name(view: &View, spot: Spot, text: &str) -> bool {
+    let here = view.lookup(spot);
     for symbol in &view.index.symbols {
-        if !symbol.is_global && view.index.is_visible(symbol, spot.file, spot.offset) {
+        if !symbol.is_global && view.index.is_visible(symbol, here) {
             let name = view.index.spelling(symbol.name);
             if has_token(text, name) {
                 return true;

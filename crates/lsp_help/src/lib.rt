@@ -1,0 +1,13 @@
+//! What is shown and offered at a place of a program: the answers to requests for hover and completion.
+#![tactic(auto)]
+
+mod completing;
+mod facts;
+mod headers;
+mod hovering;
+mod inquiry;
+mod line_start;
+
+pub use completing::completion;
+pub use hovering::{Interval, hover};
+pub use inquiry::Inquiry;
