@@ -30,6 +30,7 @@ struct Placed {
 }
 
 /// Where the code of statements begins, in the order of the addresses.
+#[derive(Drop)]
 struct Rows<'a> {
     rows: &'a [CodeRow],
     /// How many lie before the present item.
@@ -69,13 +70,13 @@ pub(crate) fn items_text(
     let map = code_map(alloc, program, stack)?;
     let mut out = Writer::new(alloc, names, style);
     if made.is_low(TEXT_START) {
-        let placed = placed(alloc, &made, &map)?;
+        let placed = lay_out(alloc, &made, &map)?;
         put_items(alloc, &mut out, names, program, made.as_slice(), &placed)?;
     }
     out.into_text()
 }
 
-fn placed(alloc: Global, items: &Items, map: &CodeMap) -> Result<Placed, AllocError>
+fn lay_out(alloc: Global, items: &Items, map: &CodeMap) -> Result<Placed, AllocError>
     requires { IsLow text_start items.now }
 {
     Ok(Placed {
@@ -211,7 +212,7 @@ fn item_text(
         }
         Item::Call { to } => call_text(alloc, names, program, to.number()),
         Item::Constant { rd, value } => {
-            let (rd, value) = (rd.get(), value as i32);
+            let (rd, value) = (rd.get(), signed(value));
             format!(in alloc; "li x{rd},{value}")
         }
         Item::LabelAddress { rd, of } => {
@@ -222,6 +223,16 @@ fn item_text(
             let rd = rd.get();
             format!(in alloc; "la x{rd},data+{offset}")
         }
+    }
+}
+
+/// The number that 32 bits are as a signed one.
+fn signed(value: u32) -> i64 {
+    let number = i64::from(value);
+    if number < 0x8000_0000 {
+        number
+    } else {
+        number - 0x1_0000_0000
     }
 }
 
