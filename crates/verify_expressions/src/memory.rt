@@ -15,7 +15,8 @@ const OBJECTS_A_STEP: usize = 16;
 /// How many summaries are passed over for the price of a step.
 const SUMMARIES_A_STEP: usize = 32;
 
-/// Which part of all steps may be taken before no loop is unrolled any more.
+/// How many steps may be taken before no loop is unrolled any more, or which part of all, if that is less.
+const UNROLLING_STEPS: u64 = 2_000_000;
 const UNROLLING_PART: u64 = 8;
 
 /// Behind so many summaries no loop is unrolled: each turn may want more of them.
@@ -41,12 +42,23 @@ pub struct Memory {
     loops: RefCell<Vec<MetLoop>>,
 }
 
+/// How many steps of so many are left when no loop is unrolled any more.
+fn floor_of(steps: u64) -> u64 {
+    let part = steps / UNROLLING_PART;
+    let taken = if part < UNROLLING_STEPS {
+        part
+    } else {
+        UNROLLING_STEPS
+    };
+    steps.saturating_sub(taken)
+}
+
 /// A memory of nothing, with so many steps to go.
 pub fn new_memory(alloc: Global, steps: u64) -> Memory {
     Memory {
         alloc,
         steps: Cell::new(steps),
-        floor: steps.saturating_sub(steps / UNROLLING_PART),
+        floor: floor_of(steps),
         depth: Cell::new(0),
         loops: RefCell::new(Vec::new(alloc)),
     }

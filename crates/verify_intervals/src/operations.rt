@@ -9,9 +9,10 @@ ghost use Rattle.csem.specs.Expressions.{step_operation};
 
 use crate::divisions::{quotient, remainder};
 use crate::intervals::{
-    add, around_product, divided_by, greatest_magnitude, lies_in, multiply, subtract,
+    add, around_product, divided_by, greatest_magnitude, lies_in, multiply, single, subtract,
     up_to_product, with_zero,
 };
+use crate::relations::never;
 use ctypes::{BinOp, IntType};
 use tree::{PrefixOp, StepOp};
 use verify_logic::Interval;
@@ -300,13 +301,46 @@ fn computed(op: BinOp, ty: IntType, i: Interval, j: Interval) -> Option<Interval
     }
 }
 
+fn begins_at_zero(i: Interval) -> bool
+    ensures { IsTrue result → i.low ≡ pos 0 }
+{
+    i.low == 0
+}
+
+/// The same, where the intervals decide a comparison.
+fn decided(op: BinOp, ty: IntType, i: Interval, j: Interval, all: Interval) -> Interval
+    requires { Computes op ty i j all }
+    ensures { Computes op ty i j result }
+{
+    let fails = never(op, true, i, j);
+    if fails {
+        return single(0);
+    }
+    let holds = never(op, false, i, j);
+    if !holds {
+        return all;
+    }
+    let truth = begins_at_zero(all);
+    if !truth {
+        return all;
+    }
+    Interval {
+        low: 1,
+        high: all.high,
+    }
+}
+
 /// A binary operator.
 pub fn operation(op: BinOp, ty: IntType, i: Interval, j: Interval) -> Option<Interval>
     ensures { IfSome result (λ r. Operates op ty i j r) }
 {
     let a = conversion(ty, i);
     let b = right_conversion(op, ty, j);
-    computed(op, ty, a, b)
+    let Some(all) = computed(op, ty, a, b) else {
+        return None;
+    };
+    let r = decided(op, ty, a, b, all);
+    Some(r)
 }
 
 fn difference_from_zero(ty: IntType, i: Interval) -> Option<Interval>

@@ -543,7 +543,7 @@ fn looped(
 
 /// A turn that was followed: how the loop was left so far, its next turn begins where that is normal; and whether there was one.
 #[derive(Drop)]
-struct Unrolled {
+struct TurnEnd {
     left: Left,
     turned: bool,
 }
@@ -573,14 +573,14 @@ fn unrolled_turn(
     so_far: Left,
     e: &Value,
     a: &Statement,
-) -> Result<Unrolled, Stop>
+) -> Result<TurnEnd, Stop>
     ensures { IfOk result (λ r. Turns (frame_of scope.now) (Some (value_of e.now)) None (statement_of a.now) (ways_of so_far) (ways_of r.left)) }
 {
     let copy = copied(scope.alloc, &so_far.normal)?;
     let tested = test(scope, copy, e)?;
     let open = is_open(&tested);
     if open {
-        return Ok(Unrolled {
+        return Ok(TurnEnd {
             left: so_far,
             turned: false,
         });
@@ -603,7 +603,7 @@ fn unrolled_turn(
         value: left.value,
     };
     let all = joined_ways(scope.alloc, before, turn)?;
-    Ok(Unrolled {
+    Ok(TurnEnd {
         left: all,
         turned: true,
     })
@@ -798,14 +798,14 @@ fn unrolled_for_turn(
     so_far: Left,
     control: &ForControl,
     a: &Statement,
-) -> Result<Unrolled, Stop>
+) -> Result<TurnEnd, Stop>
     ensures { IfOk result (λ r. Turns (frame_of scope.now) (option_value control.now.test) (option_value control.now.step) (statement_of a.now) (ways_of so_far) (ways_of r.left)) }
 {
     let copy = copied(scope.alloc, &so_far.normal)?;
     let tested = tested_or(scope, copy, &control.test)?;
     let open = is_open(&tested);
     if open {
-        return Ok(Unrolled {
+        return Ok(TurnEnd {
             left: so_far,
             turned: false,
         });
@@ -829,7 +829,7 @@ fn unrolled_for_turn(
         value: left.value,
     };
     let all = joined_ways(scope.alloc, before, turn)?;
-    Ok(Unrolled {
+    Ok(TurnEnd {
         left: all,
         turned: true,
     })
