@@ -1,8 +1,8 @@
 -- What intervals decide.
-use Rattle.std.specs.Prelude.{◌≡◌, ℤ, Bool, Ok}
+use Rattle.std.specs.Prelude.{◌≡◌, ℤ, Bool, not, Ok}
 use Rattle.ctypes.specs.declared.types.IntType.{IntType}
 use Rattle.ctypes.specs.declared.operators.BinOp.{BinOp}
-use Rattle.ctypes.specs.Types.{truth}
+use Rattle.ctypes.specs.Types.{truth, of_truth}
 use Rattle.ctypes.specs.Arithmetic.{computed}
 use Rattle.verify_logic.specs.declared.abstract_values.Interval.{Interval}
 use Rattle.verify_logic.specs.declared.operands.Relation.{Relation}
@@ -16,3 +16,7 @@ pub record Refutes (r : Relation) (i j : Interval) : Type 0 where
 -- a comparison of numbers of the intervals never has this truth
 pub record Never (op : BinOp) (b : Bool) (i j : Interval) : Type 0 where
   pub is : (t : IntType) (v w x : ℤ) → In i v → In j w → computed op t v w ≡ Ok x → truth x ≡ b → ⊥
+
+-- the interval holds 1 where a number is zero, and 0 where it is not
+pub record Negates (i r : Interval) : Type 0 where
+  pub is : (v : ℤ) → In i v → In r (of_truth (not (truth v)))

@@ -6,11 +6,12 @@ ghost use Rattle.verify_logic.specs.Judgements.{Computes, Converts, ConvertsRigh
 ghost use Rattle.ctypes.specs.Types.{bits_of};
 ghost use Rattle.verify_logic.specs.States.{just, range_of};
 ghost use Rattle.csem.specs.Expressions.{step_operation};
+ghost use Rattle.verify_intervals.specs.Decided.{Negates};
 
 use crate::divisions::{quotient, remainder};
 use crate::intervals::{
-    add, around_product, divided_by, greatest_magnitude, lies_in, multiply, single, subtract,
-    up_to_product, with_zero,
+    add, around_product, divided_by, greatest_magnitude, is_nonzero, is_zero, lies_in, multiply,
+    single, subtract, up_to_product, with_zero,
 };
 use crate::relations::never;
 use ctypes::{BinOp, IntType};
@@ -349,6 +350,21 @@ fn difference_from_zero(ty: IntType, i: Interval) -> Option<Interval>
     difference(ty, Interval { low: 0, high: 0 }, i)
 }
 
+/// What `!` gives (6.5.3.3p5).
+fn negated(i: Interval) -> Interval
+    ensures { Negates i result }
+{
+    let zero = is_zero(i);
+    if zero {
+        return single(1);
+    }
+    let nonzero = is_nonzero(i);
+    if nonzero {
+        return single(0);
+    }
+    truths()
+}
+
 /// A sign.
 pub fn sign(op: PrefixOp, ty: IntType, i: Interval) -> Option<Interval>
     ensures { IfSome result (λ r. Signs op ty i r) }
@@ -358,7 +374,10 @@ pub fn sign(op: PrefixOp, ty: IntType, i: Interval) -> Option<Interval>
         PrefixOp::Plus => Some(a),
         PrefixOp::Minus => difference_from_zero(ty, a),
         PrefixOp::Complement => Some(all_of(ty)),
-        PrefixOp::Not => Some(truths()),
+        PrefixOp::Not => {
+            let truth = negated(a);
+            Some(truth)
+        }
     }
 }
 

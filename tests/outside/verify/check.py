@@ -70,7 +70,10 @@ DEFINED = {
     'turns within turns': 'int main(void) { int s = 0; for (int i = 0; i < 5; i++) for (int j = 0; j < i; j++) s += i - j; return 20 / (s - 19); }',
     'a call in each turn': 'int twice(int n) { return n + n; }\nint main(void) { int s = 0; for (int i = 0; i < 5; i++) s += twice(i); return 20 / (s - 19); }',
     'turns without a test': 'int main(void) { int n = 0; for (;;) { n = n + 1; if (n > 5) return 10 / (n - 5); } }',
+    'a flag that ends the turns': 'int main(void) { int done = 0, n = 0; while (!done) { n++; if (n * n > 30) done = 1; } return 10 / (n - 5) + 10 / !(n - 6) + 10 / (!n - 1); }',
     'a comparison that is decided': 'int main(void) { int n = 3; return 10 / (n * n > 8) + 10 / (n + n <= 6) + 10 / (n - 1 == 2) + 10 / ((n * 2 != 7) + (n * 2 < 6)); }',
+    'an array of one element for a result': 'void divide(int a, int b, int quotient[], int rest[]) { quotient[0] = a / b; rest[0] = a % b; }\nint main(void) { int q[1], r[1]; divide(17, 5, q, r); return 10 / (q[0] - 2) + 10 / (r[0] - 1); }',
+    'rows of one element': 'int main(void) { int m[1][1]; m[0][0] = 3; m[0][0]++; return 10 / (m[0][0] - 3); }',
     'behind a return': 'int main(void) { int z = 0; return z; return 1 / z; }',
     'where no run comes': 'int main(void) { int x = 3; if (x > 5) return 1 / (x - 3); return x > 4 && 1 / (x - 3); }',
     'behind an exit': 'int rv_getbyte(void);\nvoid rv_exit(int status);\nint main(void) { int c = rv_getbyte(); if (c < 1) rv_exit(1); return 100 / c; }',
@@ -123,6 +126,8 @@ UNDEFINED = {
     'behind many turns': ('int main(void) { unsigned n = 0; for (int i = 0; i < 100000; i++) n++;\n  return 1 / (n - 100000); }', 2),
     'a comparison that is false': ('int main(void) { int n = 3;\n  return 10 / (n * n > 9); }', 2),
     'a comparison that is not decided': ('int rv_getbyte(void);\nint main(void) { int n = rv_getbyte();\n  return 10 / (n + n > 5); }', 3),
+    'an array of one element that may have no value': ('int rv_getbyte(void);\nvoid f(int n, int a[]) { if (n > 0) a[0] = n; }\nint main(void) { int a[1]; f(rv_getbyte(), a);\n  return a[0]; }', 4),
+    'one element of a row': ('int main(void) { int m[1][2]; m[0][0] = 3;\n  return m[0][1]; }', 2),
     'least number': ('int rv_getbyte(void);\nint main(void) { int n = -2147483647 - (rv_getbyte() == 65);\n  return n / -1; }', 3),
 }
 # An act behind what is not followed: never said to be defined.
