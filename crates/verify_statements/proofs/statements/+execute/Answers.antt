@@ -58,13 +58,13 @@ pub unrolled-loop-turn-preserved : goal.unrolled-loop-turn-preserved
 unrolled-loop-turn-preserved t c = record { leads = λ out u. c.loop-turn.invariant.leads out (c.in_ok-next.ensures.leads out u) }
 
 pub unrolled-returns-then-not-goes_on : goal.unrolled-returns-then-not-goes_on
-unrolled-returns-then-not-goes_on t c = leads_from _ _ _ _ _ _ _ c.not_left.ensures c.loop-turn.invariant.leads
+unrolled-returns-then-not-goes_on t c = leads_from _ _ _ _ _ _ _ c.not_left-so_far.ensures c.loop-turn.invariant.leads
 
 pub unrolled-returns-then-not-turned : goal.unrolled-returns-then-not-turned
-unrolled-returns-then-not-turned t c = leads_from _ _ _ _ _ _ _ c.not_left.ensures (λ out u. c.loop-turn.invariant.leads out (c.in_ok-next.ensures.leads out u))
+unrolled-returns-then-not-turned t c = leads_from _ _ _ _ _ _ _ c.not_left-so_far.ensures (λ out u. c.loop-turn.invariant.leads out (c.in_ok-next.ensures.leads out u))
 
 pub unrolled-returns : goal.unrolled-returns
-unrolled-returns t c = leads_from _ _ _ _ _ _ _ c.not_left.ensures c.loop-turn.invariant.leads
+unrolled-returns t c = leads_from _ _ _ _ _ _ _ c.not_left-so_far.ensures c.loop-turn.invariant.leads
 
 pub looped_on-returns : goal.looped_on-returns
 looped_on-returns t c = unrolled_as _ _ _ _ _ _ _ _ c.in_ok-so_far.ensures c.in_ok-rest.ensures c.in_ok-left.ensures.first c.in_ok-left.ensures.second
@@ -79,13 +79,13 @@ pub unrolled_for-loop-turn-preserved : goal.unrolled_for-loop-turn-preserved
 unrolled_for-loop-turn-preserved t c = record { leads = λ out u. c.loop-turn.invariant.leads out (c.in_ok-next.ensures.leads out u) }
 
 pub unrolled_for-returns-then-not-goes_on : goal.unrolled_for-returns-then-not-goes_on
-unrolled_for-returns-then-not-goes_on t c = leads_from _ _ _ _ _ _ _ c.not_left.ensures c.loop-turn.invariant.leads
+unrolled_for-returns-then-not-goes_on t c = leads_from _ _ _ _ _ _ _ c.not_left-so_far.ensures c.loop-turn.invariant.leads
 
 pub unrolled_for-returns-then-not-turned : goal.unrolled_for-returns-then-not-turned
-unrolled_for-returns-then-not-turned t c = leads_from _ _ _ _ _ _ _ c.not_left.ensures (λ out u. c.loop-turn.invariant.leads out (c.in_ok-next.ensures.leads out u))
+unrolled_for-returns-then-not-turned t c = leads_from _ _ _ _ _ _ _ c.not_left-so_far.ensures (λ out u. c.loop-turn.invariant.leads out (c.in_ok-next.ensures.leads out u))
 
 pub unrolled_for-returns : goal.unrolled_for-returns
-unrolled_for-returns t c = leads_from _ _ _ _ _ _ _ c.not_left.ensures c.loop-turn.invariant.leads
+unrolled_for-returns t c = leads_from _ _ _ _ _ _ _ c.not_left-so_far.ensures c.loop-turn.invariant.leads
 
 pub looped_for_on-returns : goal.looped_for_on-returns
 looped_for_on-returns t c = unrolled_as _ _ _ _ _ _ _ _ c.in_ok-so_far.ensures c.in_ok-rest.ensures c.in_ok-left.ensures.first c.in_ok-left.ensures.second
