@@ -1,5 +1,5 @@
 -- What intervals decide.
-use Rattle.std.proofs.Common.{◌≡◌, ℕ, zero, suc, ℤ, pos, negsuc, ◌<ℤ◌, refl, subst, sym, arith}
+use Rattle.std.proofs.Common.{◌≡◌, zero, suc, ℤ, pos, negsuc, ◌<ℤ◌, refl, subst, sym, arith}
 use Rattle.std.proofs.lemmas.Int.{ints}
 use Rattle.std.proofs.Common.{◌⊎◌, inl, inr}
 use Rattle.std.specs.Prelude.{Bool, true, false, not, Result, Ok, Err}
@@ -16,7 +16,7 @@ use Rattle.tree.specs.declared.expression.PrefixOp.{PrefixOp}
 use Rattle.tree.specs.declared.expression.PrefixOp.TheVariants as prefix
 use Rattle.verify_logic.specs.States.{In, just, range_of}
 use Rattle.verify_logic.specs.Judgements.{GivesIn, Computes, Converts, ConvertsRight, Operates, Signs}
-use Rattle.verify_logic.specs.Relations.{Holding, Tells, Narrows}
+use Rattle.verify_logic.specs.Relations.{Tells, Narrows}
 use Rattle.verify_intervals.specs.Decided.{Never, Refutes, Negates}
 
 pub refutes_left : (r : Relation) (i j i2 j2 : Interval) → Narrows r i j i2 j2 → i2.high <ℤ i2.low → Refutes r i j
