@@ -356,11 +356,13 @@ fn negated(i: Interval) -> Interval
 {
     let zero = is_zero(i);
     if zero {
-        return single(1);
+        let one = single(1);
+        return one;
     }
     let nonzero = is_nonzero(i);
     if nonzero {
-        return single(0);
+        let none = single(0);
+        return none;
     }
     truths()
 }
