@@ -1,5 +1,7 @@
 -- Rules as the functions have them.
-use Rattle.std.proofs.Common.{◌≡◌, ◌≤◌, ◌<◌, ◌+◌, ℕ, zero, suc, ℤ, pos, List, [], ◌∷◌, ◌++◌, length, map, drop, get_or, refl, sym, ap, subst, arith}
+use Rattle.std.proofs.Common.{◌≡◌, ◌≤◌, ◌<◌, ◌+◌, ◌∙◌, ℕ, zero, suc, ℤ, pos, List, [], ◌∷◌, ◌++◌, length, map, drop, take, get_or, refl, sym, ap, subst, arith, add-one}
+use Rattle.std.proofs.lemmas.List.{take_all}
+use Rattle.std.proofs.Math.Seq.{take-suc}
 use Rattle.std.proofs.lemmas.Int.{ints}
 use Rattle.std.specs.Prelude.{Option, Some, None, IfOk, IfSome, Bool, true, false, slice_get, slice_set, Result, Ok, Err, Contains}
 use Rattle.srcset.specs.declared.refusal.Pos.{Pos}
@@ -22,7 +24,7 @@ use Rattle.typed_ast.specs.declared.storage_places.Callee.TheVariants as called
 use Rattle.typed_ast.specs.declared.storage_places.Storage as stored
 use Rattle.typed_ast.specs.declared.storage_places.Storage.TheVariants as kind
 use Rattle.typed_ast.specs.View.{Given, number_given, array_given, argument_of, arguments_of, and_given, callee_of, storage_of}
-use Rattle.csem.specs.Store.{Tree, Element, Store, Reference, put_at, put_in}
+use Rattle.csem.specs.Store.{Tree, Element, Array, Row, no_parts, and_part, parts, Store, Reference, put_at, put_in}
 use Rattle.csem.specs.Machine.{State}
 use Rattle.csem.specs.Machine as machine
 use Rattle.csem.specs.Expressions.{step_operation, position_of}
@@ -32,7 +34,7 @@ use Rattle.std.specs.declared.alloc.Global.{Global}
 use Rattle.verify_logic.specs.declared.abstract_values.Interval.{Interval}
 use Rattle.verify_logic.specs.declared.abstract_values.AbsValue.{AbsValue}
 use Rattle.verify_logic.specs.declared.abstract_values.ArrayArgument.{ArrayArgument}
-use Rattle.verify_logic.specs.States.{Frame, In, just, Below, range_of, shape_of, shapes_of, Refers, Contents, Replaces, Writes, Implies, Entails, TreeIs, ObjectIs, Reaches}
+use Rattle.verify_logic.specs.States.{Frame, In, just, Below, range_of, shape_of, shapes_of, Along, EachPart, Refers, Contents, Replaces, Writes, Implies, Entails, TreeIs, ObjectIs, Reaches}
 use Rattle.verify_logic.specs.Judgements.{Evaluates, Tests, Operates, OperatesAt, Signs, SignsAt, GivesOr, MayRead, Subscripts, Converts}
 use Rattle.verify_logic.specs.Places.{NonZero, Splits, Designates, Finds, FindsAt, Passes, got, step_interval}
 use Rattle.verify_logic.proofs.Runs.{gives_or}
@@ -43,14 +45,14 @@ use Rattle.verify_logic.specs.declared.operands.Relation.{Relation}
 use Rattle.verify_logic.specs.Relations.{Tells, Narrows, Looks, Restricts, RestrictsBoth, Learns}
 use Rattle.verify_logic.proofs.Objects.{put_is, tree_entails}
 use Rattle.verify_logic.proofs.Splits.{nonzero_same}
-use Rattle.verify_logic.proofs.Compares.{set_restricts, learns_straight, learns_swapped, compare_fits, whole_path}
+use Rattle.verify_logic.proofs.Compares.{set_restricts, learns_straight, learns_swapped, compare_fits}
 use Rattle.verify_expressions.specs.declared.state.AbsState.{AbsState}
 use Rattle.verify_expressions.specs.declared.stop.Stop.{Stop}
 use Rattle.verify_expressions.specs.declared.expressions.Evaluated.{Evaluated}
 use Rattle.verify_expressions.specs.declared.conditions.Tested.{Tested}
 use Rattle.verify_expressions.specs.Views.{state_of, shape_in, own_shape_in}
 use Rattle.verify_expressions.proofs.Work.{work_arguments}
-use Rattle.verify_expressions.specs.Parts.{PassesAll, PassesOne, VariableAt, CallsAt, LearnsBoth}
+use Rattle.verify_expressions.specs.Parts.{OneElement, PassesAll, PassesOne, VariableAt, CallsAt, LearnsBoth}
 
 -- ---- operators at their places
 
@@ -321,15 +323,49 @@ array_writes_by fr o x old k i o2 g f n h = record { is = λ s r v c q m. at s r
         let new : TreeIs k (shape_of fr x) (put_at r.path (Element (Some v)) t) = put_is k (shape_of fr x) r.path [] (Element (Some v)) q.path (n.is (Some v) m) t (tree_entails old k (shape_of fr x) f t b) in
         subst Q (sym q.object) (subst P (put_whole s.store x r.path (Element (Some v)) t (sym e)) (h.is fr s (put_at r.path (Element (Some v)) t) c new))
 
-pub scalar_writes_by : (fr : Frame) (o : Option (List AbsValue)) (x : ℕ) (k : AbsValue) (i : Interval) (o2 : Option (List AbsValue)) → shape_of fr x ≡ [] → Entails (record { initialised = true; interval = i }) k → Replaces o x k o2 → Writes fr o x i o2
-scalar_writes_by fr o x k i o2 e n h = record {
-  is = λ s r v c q m.
-      let L : List ℕ → Type 0 = λ l. TreeIs k l (Element (Some v)) in
-      let new : TreeIs k (shape_of fr x) (Element (Some v)) = subst L (sym e) (n.is (Some v) m) in
-      let P : List ℕ → Type 0 = λ path. Reaches fr o2 (record s { store = put_in s.store x path (Element (Some v)) }) in
-      let Q : ℕ → Type 0 = λ y. Reaches fr o2 (record s { store = put_in s.store y r.path (Element (Some v)) }) in
-      subst Q (sym q.object) (subst P (sym (whole_path (shape_of fr x) r.path e q.path)) (h.is fr s (Element (Some v)) c new));
-}
+-- an object of one element whose element changes
+one_part : (n : ℕ) (lengths path : List ℕ) (old k : AbsValue) (new : Tree) → ((u : Tree) → TreeIs old lengths u → TreeIs k lengths (put_at path new u)) → (row : Row) (j : ℕ) → n ≡ 1 → parts row ≡ 1 → j ≡ 0 → EachPart (TreeIs old lengths) row →
+    TreeIs k (n ∷ lengths) (put_at (j ∷ path) new (Array row))
+one_part n lengths path old k new f no_parts j en e z g = absurd (cc e)
+one_part n lengths path old k new f (and_part u (and_part w row)) j en e z g = absurd (let q : suc (suc (parts row)) ≡ 1 = e in omega (arith, q))
+one_part n lengths path old k new f (and_part u no_parts) zero en e z g = (sym en, (f u g.0, tt))
+one_part n lengths path old k new f (and_part u no_parts) (suc j) en e z g = absurd (cc z)
+
+one_put : (lengths path : List ℕ) (old k : AbsValue) (i : Interval) (v : ℤ) → OneElement lengths → Along lengths path [] → Entails (record { initialised = true; interval = i }) k → In i v → (t : Tree) → TreeIs old lengths t → TreeIs k lengths (put_at path (Element (Some v)) t)
+one_put [] [] old k i v o a f m t h = f.is (Some v) m
+one_put [] (j ∷ path) old k i v o a f m t h = absurd a
+one_put (n ∷ lengths) [] old k i v o a f m t h = absurd (cc a)
+one_put (n ∷ lengths) (j ∷ path) old k i v o a f m (Element w) h = absurd h
+one_put (n ∷ lengths) (j ∷ path) old k i v o a f m (Array row) h =
+    let one : n ≡ 1 = o.0 in
+    let lt : j < n = a.0 in
+    let long : parts row ≡ n = h.0 in
+    one_part n lengths path old k (Element (Some v)) (λ u g. one_put lengths path old k i v o.1 a.1 f m u g) row j one (omega (arith, one, long)) (omega (arith, one, lt)) h.1
+
+pub one_writes_by : (fr : Frame) (o : Option (List AbsValue)) (x : ℕ) (old k : AbsValue) (i : Interval) (o2 : Option (List AbsValue)) → OneElement (shape_of fr x) → Contents o x old → Entails (record { initialised = true; interval = i }) k → Replaces o x k o2 → Writes fr o x i o2
+one_writes_by fr o x old k i o2 one g n h = record { is = λ s r v c q m. at s r v c q m (slice_get s.store x) refl (g.is fr s c) }
+  where
+    at : (s : State) (r : Reference) (v : ℤ) → Reaches fr o s → Refers fr x [] r → In i v → (t : Option Tree) → t ≡ slice_get s.store x → ObjectIs old (shape_of fr x) t → Reaches fr o2 (machine.stored r v s)
+    at s r v c q m None e b = absurd b
+    at s r v c q m (Some t) e b =
+        let P : Store → Type 0 = λ store. Reaches fr o2 (record s { store = store }) in
+        let Q : ℕ → Type 0 = λ y. Reaches fr o2 (record s { store = put_in s.store y r.path (Element (Some v)) }) in
+        let new : TreeIs k (shape_of fr x) (put_at r.path (Element (Some v)) t) = one_put (shape_of fr x) r.path old k i v one q.path n m t b in
+        subst Q (sym q.object) (subst P (put_whole s.store x r.path (Element (Some v)) t (sym e)) (h.is fr s (put_at r.path (Element (Some v)) t) c new))
+
+-- ---- lengths that are all 1
+
+ones_more : (xs : List ℕ) (n : ℕ) → OneElement xs → n ≡ 1 → OneElement (xs ++ n ∷ [])
+ones_more [] n h e = (e, tt)
+ones_more (x ∷ xs) n h e = (h.0, ones_more xs n h.1 e)
+
+pub ones_step : (xs : List ℕ) (n d : ℕ) → n < length xs → OneElement (take n xs) → get_or xs n d ≡ 1 → OneElement (take (n + 1) xs)
+ones_step xs n d lt h e =
+    let q : take (suc n) xs ≡ take (n + 1) xs = ap (λ m. take m xs) (sym (add-one n)) in
+    subst OneElement (sym (take-suc xs n d lt) ∙ q) (ones_more (take n xs) (get_or xs n d) h e)
+
+pub whole_ones : (xs : List ℕ) (n : ℕ) → length xs ≤ n → OneElement (take n xs) → OneElement xs
+whole_ones xs n le h = subst OneElement (take_all n xs le) h
 
 pub own_found : (objects : List held.ObjectType) (n : ℕ) (x : held.ObjectType) → slice_get objects n ≡ Some x → own_shape_in objects n ≡ x.lengths.items
 own_found [] n x e = absurd (cc e)

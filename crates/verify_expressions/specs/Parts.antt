@@ -1,5 +1,5 @@
 -- What is shown of parts of calls and of assignments.
-use Rattle.std.specs.Prelude.{◌≡◌, ◌≤◌, false, slice_get, ℕ, List, [], ◌++◌, map, drop, length, Option, None, Some, Bool, true}
+use Rattle.std.specs.Prelude.{◌≡◌, ◌≤◌, false, slice_get, ℕ, List, [], ◌∷◌, ◌++◌, map, drop, length, Option, None, Some, Bool, true}
 use Rattle.srcset.specs.declared.refusal.Pos.{Pos}
 use Rattle.ctypes.specs.declared.types.IntType.{IntType}
 use Rattle.typing_spec.specs.Types.{ObjectType}
@@ -24,6 +24,11 @@ PassesAll fr arguments before is ps after = Passes fr (arguments_of (map argumen
 -- this argument, before others, is such numbers and arrays
 pub record PassesOne (fr : Frame) (given : Given) (before : Option (List AbsValue)) (is : List Interval) (ps : List ArrayArgument) (after : Option (List AbsValue)) : Type 0 where
   pub passes : (more : typed.Arguments) (js : List Interval) (qs : List ArrayArgument) (o : Option (List AbsValue)) → Passes fr more after js qs o → Passes fr (and_given given more) before (is ++ js) (ps ++ qs) o
+
+-- the lengths of an object of one element
+abbrev pub OneElement : List ℕ → Type 0
+OneElement [] = Unit {0}
+OneElement (n ∷ lengths) = (n ≡ 1) × OneElement lengths
 
 -- so many subscripts lead to an element, and not of a string literal
 pub record VariableAt (fr : Frame) (x depth : ℕ) : Type 0 where

@@ -19,8 +19,8 @@ mod stop;
 pub use conditions::Tested;
 pub use expressions::{Evaluated, evaluate, test};
 pub use memory::{
-    Memory, enter_body, enter_loop, first_guess, leave_loop, new_memory, recalled, remember,
-    take_step,
+    Memory, enter_body, enter_loop, first_guess, leave_loop, may_unroll, new_memory, recalled,
+    remember, take_step,
 };
 pub use objects::{content_at, copied, imply, joined, replaced, written};
 pub use places::{is_scalar, literal_count, shape};

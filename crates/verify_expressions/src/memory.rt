@@ -15,6 +15,13 @@ const OBJECTS_A_STEP: usize = 16;
 /// How many summaries are passed over for the price of a step.
 const SUMMARIES_A_STEP: usize = 32;
 
+/// How many steps may be taken before no loop is unrolled any more, or which part of all, if that is less.
+const UNROLLING_STEPS: u64 = 2_000_000;
+const UNROLLING_PART: u64 = 8;
+
+/// Behind so many summaries no loop is unrolled: each turn may want more of them.
+const UNROLLING_SUMMARIES: usize = 256;
+
 /// A loop that was met, by its line and the loops around it: what was known before it, and what held at each turn.
 #[derive(Drop)]
 struct MetLoop {
@@ -29,8 +36,21 @@ struct MetLoop {
 pub struct Memory {
     pub alloc: Global,
     steps: Cell<u64>,
+    /// Loops are unrolled while more steps than these are left.
+    floor: u64,
     depth: Cell<u32>,
     loops: RefCell<Vec<MetLoop>>,
+}
+
+/// How many steps of so many are left when no loop is unrolled any more.
+fn floor_of(steps: u64) -> u64 {
+    let part = steps / UNROLLING_PART;
+    let taken = if part < UNROLLING_STEPS {
+        part
+    } else {
+        UNROLLING_STEPS
+    };
+    steps.saturating_sub(taken)
 }
 
 /// A memory of nothing, with so many steps to go.
@@ -38,6 +58,7 @@ pub fn new_memory(alloc: Global, steps: u64) -> Memory {
     Memory {
         alloc,
         steps: Cell::new(steps),
+        floor: floor_of(steps),
         depth: Cell::new(0),
         loops: RefCell::new(Vec::new(alloc)),
     }
@@ -81,6 +102,11 @@ pub fn take_step(scope: &Scope<'_>) -> bool {
 pub fn take_search(scope: &Scope<'_>) -> bool {
     let cost = 1 + ((scope.summaries.len() / SUMMARIES_A_STEP) as u64);
     take(scope.memory, cost)
+}
+
+/// Tests whether there is work left to unroll a loop.
+pub fn may_unroll(scope: &Scope<'_>) -> bool {
+    scope.summaries.len() < UNROLLING_SUMMARIES && scope.memory.floor < scope.memory.steps.get()
 }
 
 fn number_of(loops: &[MetLoop], at: Pos, depth: u32) -> Option<usize> {

@@ -1,10 +1,11 @@
 //! What is known of objects: looked up, changed and compared.
 
-ghost use Rattle.std.specs.Prelude.{◌≡◌, ◌<◌, [], length, Some, IfOk, IfSome, IsTrue, slice_get, slice_set, vec_len};
+ghost use Rattle.std.specs.Prelude.{◌≡◌, ◌<◌, length, Some, IfOk, IfSome, IsTrue, slice_get, slice_set, vec_len};
 ghost use Rattle.verify_logic.specs.States.{Contents, EachEntails, Entails, Implies, Replaces, Writes, shape_of};
+ghost use Rattle.verify_expressions.specs.Parts.{OneElement};
 ghost use Rattle.verify_expressions.specs.Views.{frame_of, state_of};
 
-use crate::places::is_scalar;
+use crate::places::has_one_element;
 use crate::scope::Scope;
 use crate::state::AbsState;
 use crate::stop::Stop;
@@ -198,15 +199,18 @@ pub fn replaced(state: AbsState, x: usize, k: AbsValue) -> Result<AbsState, Stop
     }
 }
 
-fn scalar_written(
+fn element_written(
     scope: &Scope<'_>,
     state: AbsState,
     x: usize,
     i: Interval,
 ) -> Result<AbsState, Stop>
-    requires { shape_of (frame_of scope.now) x ≡ [] }
+    requires { OneElement (shape_of (frame_of scope.now) x) }
     ensures { IfOk result (λ r. Writes (frame_of scope.now) (state_of state) x i (state_of r)) }
 {
+    let Some(_old) = content_at(&state, x) else {
+        return Err(Stop::Unfollowed(None));
+    };
     let new = initialised(i);
     let state2 = replaced(state, x, new)?;
     Ok(state2)
@@ -229,15 +233,15 @@ fn array_written(
     Ok(state2)
 }
 
-/// The state with a value in an element of object `x`. An element of an array may also be what it was.
+/// The state with a value in an element of object `x`. Where there are others, each may also be what it was.
 ///
 /// Errors: there is no such object.
 pub fn written(scope: &Scope<'_>, state: AbsState, x: usize, i: Interval) -> Result<AbsState, Stop>
     ensures { IfOk result (λ r. Writes (frame_of scope.now) (state_of state) x i (state_of r)) }
 {
-    let scalar = is_scalar(scope, x);
-    if scalar {
-        scalar_written(scope, state, x, i)
+    let alone = has_one_element(scope, x);
+    if alone {
+        element_written(scope, state, x, i)
     } else {
         array_written(scope, state, x, i)
     }

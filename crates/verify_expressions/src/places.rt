@@ -6,6 +6,7 @@ ghost use Rattle.typed_ast.specs.View.{program_of, storage_of};
 ghost use Rattle.verify_logic.specs.States.{shape_of, shapes_of};
 ghost use Rattle.verify_logic.specs.Places.{Designates};
 ghost use Rattle.verify_expressions.specs.Views.{frame_of, own_shape_in, shape_in};
+ghost use Rattle.verify_expressions.specs.Parts.{OneElement};
 
 use crate::scope::Scope;
 use typed_ast::{ObjectType, Storage};
@@ -114,6 +115,27 @@ pub fn is_scalar(scope: &Scope<'_>, x: usize) -> bool
 {
     let lengths = shape(scope.outer, scope.objects, x);
     lengths.is_empty()
+}
+
+/// Tests whether each of the lengths is 1.
+#[tactic(auto, using(crate::proofs::Steps::ones_step, crate::proofs::Steps::whole_ones))]
+fn are_ones(lengths: &[u32]) -> bool
+    ensures { IsTrue result → OneElement lengths.now }
+{
+    for n in 0..lengths.len() {
+        if lengths[n] != 1 {
+            return false;
+        }
+    }
+    true
+}
+
+/// Tests whether object `x` is a scalar or an array of one element.
+pub fn has_one_element(scope: &Scope<'_>, x: usize) -> bool
+    ensures { IsTrue result → OneElement (shape_of (frame_of scope.now) x) }
+{
+    let lengths = shape(scope.outer, scope.objects, x);
+    are_ones(lengths)
 }
 
 /// Tests whether so many subscripts lead into object `x` to an element.

@@ -6,12 +6,14 @@ ghost use Rattle.verify_logic.specs.Judgements.{Computes, Converts, ConvertsRigh
 ghost use Rattle.ctypes.specs.Types.{bits_of};
 ghost use Rattle.verify_logic.specs.States.{just, range_of};
 ghost use Rattle.csem.specs.Expressions.{step_operation};
+ghost use Rattle.verify_intervals.specs.Decided.{Negates};
 
 use crate::divisions::{quotient, remainder};
 use crate::intervals::{
-    add, around_product, divided_by, greatest_magnitude, lies_in, multiply, subtract,
-    up_to_product, with_zero,
+    add, around_product, divided_by, greatest_magnitude, is_nonzero, is_zero, lies_in, multiply,
+    single, subtract, up_to_product, with_zero,
 };
+use crate::relations::never;
 use ctypes::{BinOp, IntType};
 use tree::{PrefixOp, StepOp};
 use verify_logic::Interval;
@@ -300,19 +302,69 @@ fn computed(op: BinOp, ty: IntType, i: Interval, j: Interval) -> Option<Interval
     }
 }
 
+fn begins_at_zero(i: Interval) -> bool
+    ensures { IsTrue result → i.low ≡ pos 0 }
+{
+    i.low == 0
+}
+
+/// The same, where the intervals decide a comparison.
+fn decided(op: BinOp, ty: IntType, i: Interval, j: Interval, all: Interval) -> Interval
+    requires { Computes op ty i j all }
+    ensures { Computes op ty i j result }
+{
+    let fails = never(op, true, i, j);
+    if fails {
+        return single(0);
+    }
+    let holds = never(op, false, i, j);
+    if !holds {
+        return all;
+    }
+    let truth = begins_at_zero(all);
+    if !truth {
+        return all;
+    }
+    Interval {
+        low: 1,
+        high: all.high,
+    }
+}
+
 /// A binary operator.
 pub fn operation(op: BinOp, ty: IntType, i: Interval, j: Interval) -> Option<Interval>
     ensures { IfSome result (λ r. Operates op ty i j r) }
 {
     let a = conversion(ty, i);
     let b = right_conversion(op, ty, j);
-    computed(op, ty, a, b)
+    let Some(all) = computed(op, ty, a, b) else {
+        return None;
+    };
+    let r = decided(op, ty, a, b, all);
+    Some(r)
 }
 
 fn difference_from_zero(ty: IntType, i: Interval) -> Option<Interval>
     ensures { IfSome result (λ r. Computes BinOp.Sub ty (just (pos 0)) i r) }
 {
     difference(ty, Interval { low: 0, high: 0 }, i)
+}
+
+/// What `!` gives (6.5.3.3p5).
+fn negated(i: Interval) -> Interval
+    ensures { Negates i result }
+{
+    let zero = is_zero(i);
+    if zero {
+        let one = single(1);
+        return one;
+    }
+    let nonzero = is_nonzero(i);
+    if nonzero {
+        let none = single(0);
+        return none;
+    }
+    truths()
 }
 
 /// A sign.
@@ -324,7 +376,10 @@ pub fn sign(op: PrefixOp, ty: IntType, i: Interval) -> Option<Interval>
         PrefixOp::Plus => Some(a),
         PrefixOp::Minus => difference_from_zero(ty, a),
         PrefixOp::Complement => Some(all_of(ty)),
-        PrefixOp::Not => Some(truths()),
+        PrefixOp::Not => {
+            let truth = negated(a);
+            Some(truth)
+        }
     }
 }
 

@@ -1,9 +1,10 @@
 //! Relations of two numbers, and what they tell of the intervals in which these lie.
 
-ghost use Rattle.std.specs.Prelude.{IfSome};
+ghost use Rattle.std.specs.Prelude.{IfSome, IsTrue};
 ghost use Rattle.verify_logic.specs.Relations.{Avoids, CutsAbove, CutsBelow, Narrows, Tells};
+ghost use Rattle.verify_intervals.specs.Decided.{Never, Refutes};
 
-use crate::intervals::{add, subtract};
+use crate::intervals::{add, is_empty, subtract};
 use ctypes::BinOp;
 use verify_logic::{Interval, Relation};
 
@@ -247,5 +248,34 @@ pub fn narrowed(r: Relation, i: Interval, j: Interval) -> Pair
         Relation::AtMost => at_most(i, j),
         Relation::Same => same(i, j),
         Relation::Other => other(i, j),
+    }
+}
+
+/// Tests whether no two numbers of the intervals are so related.
+fn is_refuted(r: Relation, i: Interval, j: Interval) -> bool
+    ensures { IsTrue result → Refutes r i j }
+{
+    let pair = narrowed(r, i, j);
+    let left = is_empty(pair.left);
+    if left {
+        return true;
+    }
+    is_empty(pair.right)
+}
+
+/// Tests whether a comparison of numbers of the intervals never has this truth.
+pub fn never(op: BinOp, truth: bool, i: Interval, j: Interval) -> bool
+    ensures { IsTrue result → Never op truth i j }
+{
+    let Some(said) = tell(op, truth) else {
+        return false;
+    };
+    let swapped = said.swapped;
+    if swapped {
+        let turned = is_refuted(said.relation, j, i);
+        turned
+    } else {
+        let straight = is_refuted(said.relation, i, j);
+        straight
     }
 }

@@ -15,9 +15,9 @@ abbrev mutual
   work (typed.switch t e first count all) = work_all all + 5
   work (typed.case v) = 1
   work typed.default = 1
-  work (typed.while e a) = work a + 9
-  work (typed.do_while a e) = work a + 10
-  work (typed.for declared start test step a) = work_all declared + work a + 11
+  work (typed.while e a) = work a + 10
+  work (typed.do_while a e) = work a + 11
+  work (typed.for declared start test step a) = work_all declared + work a + 12
   work typed.break = 1
   work typed.continue = 1
   work typed.return_nothing = 1

@@ -5,7 +5,7 @@ ghost use Rattle.typing_spec.specs.Program as typed;
 ghost use Rattle.typed_ast.specs.View.{option_value, statement_of, statements_of, value_of};
 ghost use Rattle.verify_logic.specs.Statements.{EvaluatesOr, Executes, ExecutesAll, Follows, TestsOr};
 ghost use Rattle.verify_expressions.specs.Views.{frame_of, state_of};
-ghost use Rattle.verify_statements.specs.Loops.{Loops};
+ghost use Rattle.verify_statements.specs.Loops.{Leads, Loops, Turns};
 ghost use Rattle.verify_statements.specs.Switches.{EntersAll, EntersLabel, EntersOne};
 ghost use Rattle.verify_statements.specs.Ways.{ways_of};
 
@@ -18,12 +18,15 @@ use srcset::Pos;
 use typed_ast::{ForControl, Statement, Value};
 use verify_expressions::{
     AbsState, Scope, Stop, Tested, copied, enter_loop, evaluate, first_guess, imply, is_reached,
-    joined, leave_loop, recalled, remember, take_step, test, unreachable,
+    joined, leave_loop, may_unroll, recalled, remember, take_step, test, unreachable,
 };
 use verify_intervals::{conversion, initialised, uninitialised};
 
 /// How many guesses of a loop's invariant are tried.
 const GUESSES: u32 = 24;
+
+/// How many turns of a loop are followed one by one.
+const UNROLLED_TURNS: u32 = 1024;
 
 fn empty(scope: &Scope<'_>, state: AbsState) -> Result<Left, Stop>
     ensures { IfOk result (λ r. Executes (frame_of scope.now) typed.empty (state_of state) (ways_of r)) }
@@ -538,6 +541,119 @@ fn looped(
     }
 }
 
+/// A turn that was followed: how the loop was left so far, its next turn begins where that is normal; and whether there was one.
+#[derive(Drop)]
+struct TurnEnd {
+    left: Left,
+    turned: bool,
+}
+
+/// Tests whether the loop may go on, and may end.
+fn is_open(tested: &Tested) -> bool {
+    is_reached(&tested.on) && is_reached(&tested.off)
+}
+
+/// How a loop was left so far of which no turn was followed.
+fn not_left(state: AbsState) -> Left
+    ensures { (ways_of result).normal ≡ state_of state }
+{
+    Left {
+        normal: state,
+        broken: AbsState { objects: None },
+        continued: AbsState { objects: None },
+        returned: AbsState { objects: None },
+        value: no_return(),
+    }
+}
+
+/// The next turn of a loop, where its test has one outcome.
+#[cycle(execute)]
+fn unrolled_turn(
+    scope: &Scope<'_>,
+    so_far: Left,
+    e: &Value,
+    a: &Statement,
+) -> Result<TurnEnd, Stop>
+    ensures { IfOk result (λ r. Turns (frame_of scope.now) (Some (value_of e.now)) None (statement_of a.now) (ways_of so_far) (ways_of r.left)) }
+{
+    let copy = copied(scope.alloc, &so_far.normal)?;
+    let tested = test(scope, copy, e)?;
+    let open = is_open(&tested);
+    if open {
+        return Ok(TurnEnd {
+            left: so_far,
+            turned: false,
+        });
+    }
+    let left = body(scope, tested.on, a)?;
+    let behind = joined(scope.alloc, left.normal, left.continued)?;
+    let out = joined(scope.alloc, left.broken, tested.off)?;
+    let before = Left {
+        normal: behind,
+        broken: so_far.broken,
+        continued: so_far.continued,
+        returned: so_far.returned,
+        value: so_far.value,
+    };
+    let turn = Left {
+        normal: AbsState { objects: None },
+        broken: out,
+        continued: AbsState { objects: None },
+        returned: left.returned,
+        value: left.value,
+    };
+    let all = joined_ways(scope.alloc, before, turn)?;
+    Ok(TurnEnd {
+        left: all,
+        turned: true,
+    })
+}
+
+/// The first turns of a loop, as long as its test has one outcome.
+#[cycle(execute)]
+fn unrolled(scope: &Scope<'_>, state: AbsState, e: &Value, a: &Statement) -> Result<Left, Stop>
+    ensures { IfOk result (λ r. Leads (frame_of scope.now) (Some (value_of e.now)) None (statement_of a.now) (state_of state) (ways_of r)) }
+{
+    let mut so_far = not_left(state);
+    for _turn in 0..UNROLLED_TURNS {
+        let goes_on = is_reached(&so_far.normal) && may_unroll(scope);
+        if !goes_on {
+            return Ok(so_far);
+        }
+        let next = unrolled_turn(scope, so_far, e, a)?;
+        let turned = next.turned;
+        so_far = next.left;
+        if !turned {
+            return Ok(so_far);
+        }
+    }
+    Ok(so_far)
+}
+
+/// A loop, its first turns one by one.
+#[cycle(execute)]
+fn looped_on(
+    scope: &Scope<'_>,
+    state: AbsState,
+    at: &Pos,
+    e: &Value,
+    a: &Statement,
+) -> Result<Left, Stop>
+    ensures { IfOk result (λ r. Loops (frame_of scope.now) (Some (value_of e.now)) None (statement_of a.now) (state_of state) (ways_of r)) }
+{
+    let so_far = unrolled(scope, state, e, a)?;
+    let rest = looped(scope, so_far.normal, at, e, a)?;
+    let before = Left {
+        normal: so_far.broken,
+        broken: AbsState { objects: None },
+        continued: AbsState { objects: None },
+        returned: so_far.returned,
+        value: so_far.value,
+    };
+    let left = joined_ways(scope.alloc, before, rest)?;
+    Ok(left)
+}
+
 #[cycle(execute)]
 fn while_loop(
     scope: &Scope<'_>,
@@ -548,7 +664,7 @@ fn while_loop(
 ) -> Result<Left, Stop>
     ensures { IfOk result (λ r. Executes (frame_of scope.now) (typed.while (value_of e.now) (statement_of a.now)) (state_of state) (ways_of r)) }
 {
-    let left = looped(scope, state, at, e, a)?;
+    let left = looped_on(scope, state, at, e, a)?;
     Ok(left)
 }
 
@@ -564,7 +680,7 @@ fn do_loop(
 {
     let first = statement(scope, state, a)?;
     let kept = joined(scope.alloc, first.normal, first.continued)?;
-    let again = looped(scope, kept, at, e, a)?;
+    let again = looped_on(scope, kept, at, e, a)?;
     let before = Left {
         normal: first.broken,
         broken: AbsState { objects: None },
@@ -675,6 +791,100 @@ fn looped_for(
     }
 }
 
+/// As `unrolled_turn`, for a `for`.
+#[cycle(execute)]
+fn unrolled_for_turn(
+    scope: &Scope<'_>,
+    so_far: Left,
+    control: &ForControl,
+    a: &Statement,
+) -> Result<TurnEnd, Stop>
+    ensures { IfOk result (λ r. Turns (frame_of scope.now) (option_value control.now.test) (option_value control.now.step) (statement_of a.now) (ways_of so_far) (ways_of r.left)) }
+{
+    let copy = copied(scope.alloc, &so_far.normal)?;
+    let tested = tested_or(scope, copy, &control.test)?;
+    let open = is_open(&tested);
+    if open {
+        return Ok(TurnEnd {
+            left: so_far,
+            turned: false,
+        });
+    }
+    let left = body(scope, tested.on, a)?;
+    let behind = joined(scope.alloc, left.normal, left.continued)?;
+    let next = evaluated_or(scope, behind, &control.step)?;
+    let out = joined(scope.alloc, left.broken, tested.off)?;
+    let before = Left {
+        normal: next,
+        broken: so_far.broken,
+        continued: so_far.continued,
+        returned: so_far.returned,
+        value: so_far.value,
+    };
+    let turn = Left {
+        normal: AbsState { objects: None },
+        broken: out,
+        continued: AbsState { objects: None },
+        returned: left.returned,
+        value: left.value,
+    };
+    let all = joined_ways(scope.alloc, before, turn)?;
+    Ok(TurnEnd {
+        left: all,
+        turned: true,
+    })
+}
+
+/// As `unrolled`, for a `for`.
+#[cycle(execute)]
+fn unrolled_for(
+    scope: &Scope<'_>,
+    state: AbsState,
+    control: &ForControl,
+    a: &Statement,
+) -> Result<Left, Stop>
+    ensures { IfOk result (λ r. Leads (frame_of scope.now) (option_value control.now.test) (option_value control.now.step) (statement_of a.now) (state_of state) (ways_of r)) }
+{
+    let mut so_far = not_left(state);
+    for _turn in 0..UNROLLED_TURNS {
+        let goes_on = is_reached(&so_far.normal) && may_unroll(scope);
+        if !goes_on {
+            return Ok(so_far);
+        }
+        let next = unrolled_for_turn(scope, so_far, control, a)?;
+        let turned = next.turned;
+        so_far = next.left;
+        if !turned {
+            return Ok(so_far);
+        }
+    }
+    Ok(so_far)
+}
+
+/// As `looped_on`, for a `for`.
+#[cycle(execute)]
+fn looped_for_on(
+    scope: &Scope<'_>,
+    state: AbsState,
+    at: &Pos,
+    control: &ForControl,
+    a: &Statement,
+) -> Result<Left, Stop>
+    ensures { IfOk result (λ r. Loops (frame_of scope.now) (option_value control.now.test) (option_value control.now.step) (statement_of a.now) (state_of state) (ways_of r)) }
+{
+    let so_far = unrolled_for(scope, state, control, a)?;
+    let rest = looped_for(scope, so_far.normal, at, control, a)?;
+    let before = Left {
+        normal: so_far.broken,
+        broken: AbsState { objects: None },
+        continued: AbsState { objects: None },
+        returned: so_far.returned,
+        value: so_far.value,
+    };
+    let left = joined_ways(scope.alloc, before, rest)?;
+    Ok(left)
+}
+
 #[cycle(execute)]
 fn for_loop(
     scope: &Scope<'_>,
@@ -700,6 +910,6 @@ fn for_loop(
         return Err(Stop::Unfollowed(None));
     }
     let started = evaluated_or(scope, before.normal, &control.start)?;
-    let left = looped_for(scope, started, at, control, a)?;
+    let left = looped_for_on(scope, started, at, control, a)?;
     Ok(left)
 }

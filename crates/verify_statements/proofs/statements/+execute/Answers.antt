@@ -1,6 +1,6 @@
 use Rattle.std.proofs.Common.{refl}
 use Rattle.verify_logic.proofs.StatementRules.{branch_rule}
-use Rattle.verify_statements.proofs.Loops.{whole_while, loops_rule, while_as, do_as, for_as}
+use Rattle.verify_statements.proofs.Loops.{whole_while, loops_rule, while_as, do_as, for_as, while_turn, for_turn, no_turn, leads_from, unrolled_as}
 use Rattle.verify_statements.proofs.Steps.{begun_some, follows_some, branches_some, fewer, one_less, none_left, begins_as, evaluates_more, loops_some}
 use Rattle.verify_statements.proofs.Switches.{label_one, statement_one, label_follows, enters_all, switch_as}
 use Rattle.verify_statements.proofs.Switches as enters
@@ -47,6 +47,48 @@ checked-returns t c = whole_while _ _ _ _ _ _ _ _ _ _ (c.imply-starts.ensures c.
 
 pub looped-returns-in-Some : goal.looped-returns-in-Some
 looped-returns-in-Some t c = loops_some _ _ _ _ _ _ _ c.in-Some.left c.in-Some.is c.in_ok-first.ensures c.in_ok-quick.ensures
+
+pub unrolled_turn-returns-then-open : goal.unrolled_turn-returns-then-open
+unrolled_turn-returns-then-open t c = no_turn _ _ _ _ _
+
+pub unrolled_turn-returns : goal.unrolled_turn-returns
+unrolled_turn-returns t c = while_turn _ _ _ _ _ _ _ _ _ _ _ _ _ c.in_ok-copy.ensures c.in_ok-tested.ensures c.in_ok-left.ensures c.in_ok-behind.ensures.first c.in_ok-behind.ensures.second c.in_ok-out.ensures.first c.in_ok-out.ensures.second refl refl c.in_ok-all.ensures.first c.in_ok-all.ensures.second
+
+pub unrolled-loop-turn-preserved : goal.unrolled-loop-turn-preserved
+unrolled-loop-turn-preserved t c = record { leads = λ out u. c.loop-turn.invariant.leads out (c.in_ok-next.ensures.leads out u) }
+
+pub unrolled-returns-then-not-goes_on : goal.unrolled-returns-then-not-goes_on
+unrolled-returns-then-not-goes_on t c = leads_from _ _ _ _ _ _ _ c.not_left-so_far.ensures c.loop-turn.invariant.leads
+
+pub unrolled-returns-then-not-turned : goal.unrolled-returns-then-not-turned
+unrolled-returns-then-not-turned t c = leads_from _ _ _ _ _ _ _ c.not_left-so_far.ensures (λ out u. c.loop-turn.invariant.leads out (c.in_ok-next.ensures.leads out u))
+
+pub unrolled-returns : goal.unrolled-returns
+unrolled-returns t c = leads_from _ _ _ _ _ _ _ c.not_left-so_far.ensures c.loop-turn.invariant.leads
+
+pub looped_on-returns : goal.looped_on-returns
+looped_on-returns t c = unrolled_as _ _ _ _ _ _ _ _ c.in_ok-so_far.ensures c.in_ok-rest.ensures c.in_ok-left.ensures.first c.in_ok-left.ensures.second
+
+pub unrolled_for_turn-returns-then-open : goal.unrolled_for_turn-returns-then-open
+unrolled_for_turn-returns-then-open t c = no_turn _ _ _ _ _
+
+pub unrolled_for_turn-returns : goal.unrolled_for_turn-returns
+unrolled_for_turn-returns t c = for_turn _ _ _ _ _ _ _ _ _ _ _ _ _ _ _ c.in_ok-copy.ensures c.in_ok-tested.ensures c.in_ok-left.ensures c.in_ok-behind.ensures.first c.in_ok-behind.ensures.second c.in_ok-next.ensures c.in_ok-out.ensures.first c.in_ok-out.ensures.second refl refl c.in_ok-all.ensures.first c.in_ok-all.ensures.second
+
+pub unrolled_for-loop-turn-preserved : goal.unrolled_for-loop-turn-preserved
+unrolled_for-loop-turn-preserved t c = record { leads = λ out u. c.loop-turn.invariant.leads out (c.in_ok-next.ensures.leads out u) }
+
+pub unrolled_for-returns-then-not-goes_on : goal.unrolled_for-returns-then-not-goes_on
+unrolled_for-returns-then-not-goes_on t c = leads_from _ _ _ _ _ _ _ c.not_left-so_far.ensures c.loop-turn.invariant.leads
+
+pub unrolled_for-returns-then-not-turned : goal.unrolled_for-returns-then-not-turned
+unrolled_for-returns-then-not-turned t c = leads_from _ _ _ _ _ _ _ c.not_left-so_far.ensures (λ out u. c.loop-turn.invariant.leads out (c.in_ok-next.ensures.leads out u))
+
+pub unrolled_for-returns : goal.unrolled_for-returns
+unrolled_for-returns t c = leads_from _ _ _ _ _ _ _ c.not_left-so_far.ensures c.loop-turn.invariant.leads
+
+pub looped_for_on-returns : goal.looped_for_on-returns
+looped_for_on-returns t c = unrolled_as _ _ _ _ _ _ _ _ c.in_ok-so_far.ensures c.in_ok-rest.ensures c.in_ok-left.ensures.first c.in_ok-left.ensures.second
 
 pub while_loop-returns : goal.while_loop-returns
 while_loop-returns t c = while_as _ _ _ _ _ c.in_ok-left.ensures

@@ -1,7 +1,9 @@
 use Rattle.std.proofs.Common.{◌+◌, ◌≤◌, map, length}
-use Rattle.typed_ast.specs.View.{statement_of, statements_of}
+use Rattle.std.specs.Prelude.{Some, None}
+use Rattle.typed_ast.specs.View.{option_value, statement_of, statements_of, value_of}
 use Rattle.verify_logic.specs.Statements.{Ways, Continues, Enters}
 use Rattle.verify_expressions.specs.Views.{frame_of, state_of}
+use Rattle.verify_statements.specs.Loops.{Unrolls}
 use Rattle.verify_statements.specs.Ways.{ways_of}
 use Rattle.verify_statements.proofs.Work.{work, work_all}
 use Rattle.verify_statements.proofs.statements.+execute.Given as goal
@@ -63,14 +65,32 @@ decreases-looped_for_anew l = work (statement_of l.a.now) + 6
 abbrev pub decreases-looped_for : goal.decreases-looped_for
 decreases-looped_for l = work (statement_of l.a.now) + 7
 
+abbrev pub decreases-unrolled_turn : goal.decreases-unrolled_turn
+decreases-unrolled_turn l = work (statement_of l.a.now) + 3
+
+abbrev pub decreases-unrolled : goal.decreases-unrolled
+decreases-unrolled l = work (statement_of l.a.now) + 4
+
+abbrev pub decreases-looped_on : goal.decreases-looped_on
+decreases-looped_on l = work (statement_of l.a.now) + 8
+
+abbrev pub decreases-unrolled_for_turn : goal.decreases-unrolled_for_turn
+decreases-unrolled_for_turn l = work (statement_of l.a.now) + 3
+
+abbrev pub decreases-unrolled_for : goal.decreases-unrolled_for
+decreases-unrolled_for l = work (statement_of l.a.now) + 4
+
+abbrev pub decreases-looped_for_on : goal.decreases-looped_for_on
+decreases-looped_for_on l = work (statement_of l.a.now) + 8
+
 abbrev pub decreases-while_loop : goal.decreases-while_loop
-decreases-while_loop l = work (statement_of l.a.now) + 8
+decreases-while_loop l = work (statement_of l.a.now) + 9
 
 abbrev pub decreases-do_loop : goal.decreases-do_loop
-decreases-do_loop l = work (statement_of l.a.now) + 8
+decreases-do_loop l = work (statement_of l.a.now) + 9
 
 abbrev pub decreases-for_loop : goal.decreases-for_loop
-decreases-for_loop l = work_all (statements_of (map statement_of l.declared.now)) + work (statement_of l.a.now) + 9
+decreases-for_loop l = work_all (statements_of (map statement_of l.declared.now)) + work (statement_of l.a.now) + 10
 
 abbrev pub decreases-labelled : goal.decreases-labelled
 decreases-labelled l = work (statement_of l.a.now) + 3
@@ -100,4 +120,14 @@ abbrev pub invariant-statements-loop-a : goal.invariant-statements-loop-a
 invariant-statements-loop-a l = record {
   below : work_all (statements_of (map statement_of l.rest)) ≤ work_all (statements_of (map statement_of l.all));
   leads : (out : Ways) → Continues (frame_of l.scope) (ways_of l.so_far) (statements_of (map statement_of l.rest)) out → Continues (frame_of l.scope) (ways_of l.initial.so_far) (statements_of (map statement_of l.all)) out;
+}
+
+abbrev pub invariant-unrolled-loop-turn : goal.invariant-unrolled-loop-turn
+invariant-unrolled-loop-turn l = record {
+  leads : (out : Ways) → Unrolls (frame_of l.scope) (Some (value_of l.e)) None (statement_of l.a) (ways_of l.so_far) out → Unrolls (frame_of l.scope) (Some (value_of l.e)) None (statement_of l.a) (ways_of l.initial.so_far) out;
+}
+
+abbrev pub invariant-unrolled_for-loop-turn : goal.invariant-unrolled_for-loop-turn
+invariant-unrolled_for-loop-turn l = record {
+  leads : (out : Ways) → Unrolls (frame_of l.scope) (option_value l.control.test) (option_value l.control.step) (statement_of l.a) (ways_of l.so_far) out → Unrolls (frame_of l.scope) (option_value l.control.test) (option_value l.control.step) (statement_of l.a) (ways_of l.initial.so_far) out;
 }
