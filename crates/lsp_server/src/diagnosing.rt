@@ -220,9 +220,7 @@ impl<H: Host + Drop> Server<H> {
 
 /// How many faults of a program are asked for, by the work that it is.
 fn faults_within(work: u64) -> usize {
-    let count = FAULT_WORK
-        .checked_div(work)
-        .unwrap_or(MAX_FAULTS);
+    let count = FAULT_WORK.checked_div(work).unwrap_or(MAX_FAULTS);
     usize::try_from(count.min(MAX_FAULTS).max(1)).unwrap_or(1)
 }
 

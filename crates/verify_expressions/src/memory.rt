@@ -17,6 +17,7 @@ const SUMMARIES_A_STEP: usize = 32;
 
 /// How many steps may be taken before no loop is unrolled any more, or which part of all, if that is less.
 const UNROLLING_STEPS: u64 = 2_000_000;
+
 const UNROLLING_PART: u64 = 8;
 
 /// Behind so many summaries no loop is unrolled: each turn may want more of them.

@@ -568,12 +568,7 @@ fn not_left(state: AbsState) -> Left
 
 /// The next turn of a loop, where its test has one outcome.
 #[cycle(execute)]
-fn unrolled_turn(
-    scope: &Scope<'_>,
-    so_far: Left,
-    e: &Value,
-    a: &Statement,
-) -> Result<TurnEnd, Stop>
+fn unrolled_turn(scope: &Scope<'_>, so_far: Left, e: &Value, a: &Statement) -> Result<TurnEnd, Stop>
     ensures { IfOk result (λ r. Turns (frame_of scope.now) (Some (value_of e.now)) None (statement_of a.now) (ways_of so_far) (ways_of r.left)) }
 {
     let copy = copied(scope.alloc, &so_far.normal)?;
