@@ -8,8 +8,10 @@ use lsp_wire::{Outcome, RpcError};
 use serde_json::Value;
 use std::alloc::{AllocError, Global};
 
-/// How many arguments of a call are looked at.
+/// How many arguments of a call are looked at, and how many tokens behind its parenthesis, so that calls within calls take no more time than others.
 const MAX_ARGUMENTS: usize = 64;
+
+const MAX_TOKENS: usize = 4_096;
 
 /// `textDocument/inlayHint`: of calls in the range whose functions have named parameters.
 pub fn inlay_hints(
@@ -99,7 +101,7 @@ fn put_arguments(
     words: &[Word],
     out: &mut String,
 ) -> Result<(), AllocError> {
-    let mut rest = words;
+    let mut rest = words.get(..MAX_TOKENS).unwrap_or(words);
     for parameter in view.index.parameters(symbol).iter().take(MAX_ARGUMENTS) {
         let Some(first) = rest.first() else {
             break;
