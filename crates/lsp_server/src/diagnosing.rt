@@ -1,7 +1,7 @@
 //! Diagnostics as the text changes.
 
-use crate::problems::{Problem, Severity, over_budget, published, read_problems};
 use crate::server::{Change, Server};
+use lsp_problems::{Problem, Severity, over_budget, published, read_problems};
 use lsp_program::{
     Host, Places, Program, Question, Unit, UnitFile, View, gather, is_part, names_of, set_of,
     unit_of,
@@ -220,9 +220,7 @@ impl<H: Host + Drop> Server<H> {
 
 /// How many faults of a program are asked for, by the work that it is.
 fn faults_within(work: u64) -> usize {
-    let count = FAULT_WORK
-        .checked_div(work)
-        .unwrap_or(MAX_FAULTS);
+    let count = FAULT_WORK.checked_div(work).unwrap_or(MAX_FAULTS);
     usize::try_from(count.min(MAX_FAULTS).max(1)).unwrap_or(1)
 }
 
