@@ -6,6 +6,7 @@ use lsp_navigation::{
     definition, document_symbols, folding_ranges, highlights, inlay_hints, prepare_rename,
     references, rename, semantic_tokens, signature_help,
 };
+use lsp_problems::code_actions;
 use lsp_program::{Host, Spot, View, is_part, path_of, place_of, text_at};
 use lsp_text::{Position, Span};
 use lsp_wire::{Call, Id, Outcome, RpcError, result_reply};
@@ -72,7 +73,11 @@ impl<H: Host + Drop> Server<H> {
         match call.method.as_str() {
             "initialize" => self.initialize(&call.params),
             "shutdown" => self.shut_down(),
-            "textDocument/codeAction" => self.code_actions(&call.params),
+            "textDocument/codeAction" => code_actions(
+                self.alloc,
+                self.problems.as_slice(),
+                &call.params,
+            ),
             COMMAND => self.command(&call.params),
             method => self.about_names(method, &call.params),
         }

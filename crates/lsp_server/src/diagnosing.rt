@@ -1,7 +1,7 @@
 //! Diagnostics as the text changes.
 
-use crate::problems::{Problem, Severity, over_budget, published, read_problems};
 use crate::server::{Change, Server};
+use lsp_problems::{Problem, Severity, over_budget, published, read_problems};
 use lsp_program::{
     Host, Places, Program, Question, Unit, UnitFile, View, gather, is_part, names_of, set_of,
     unit_of,

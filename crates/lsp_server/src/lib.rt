@@ -1,13 +1,11 @@
 //! The language server: the state of a session, and what each message of a client is answered.
 #![tactic(auto)]
 
-mod actions;
 mod answering;
 mod commands;
 mod diagnosing;
 mod edits;
 mod lifecycle;
-mod problems;
 mod server;
 
 pub use server::Server;

@@ -1,6 +1,6 @@
 //! The state of a session.
 
-use crate::problems::Problem;
+use lsp_problems::Problem;
 use lsp_program::{Host, OpenDocument, Options, View};
 use lsp_wire::{Id, Message, RpcError, error_reply, read_message};
 use std::alloc::{AllocError, Global};

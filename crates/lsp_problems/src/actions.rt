@@ -1,33 +1,34 @@
 //! Code actions: the changes that mend faults.
 
 use crate::problems::{Fix, Problem, put_problem};
-use crate::server::Server;
-use lsp_program::{Host, put_comma, put_edit, put_text_member, span_of, text_at};
+use lsp_program::{put_comma, put_edit, put_text_member, span_of, text_at};
 use lsp_text::{Position, Span};
 use lsp_wire::{Outcome, RpcError, put_string};
 use serde_json::Value;
 use std::alloc::{AllocError, Global};
 
-impl<H: Host + Drop> Server<H> {
-    /// `textDocument/codeAction`: a quick fix for each problem that has one, where the problem or what mends it stands in the range.
-    pub(crate) fn code_actions(&self, params: &Value) -> Result<Outcome, AllocError> {
-        let uri = text_at(params, "/textDocument/uri");
-        let span = params.pointer("/range").and_then(span_of);
-        let (Some(uri), Some(span)) = (uri, span) else {
-            return Ok(Outcome::Refused(RpcError::InvalidParams, RpcError::InvalidParams.text()));
-        };
-        let mut out = String::from_str(self.alloc, "[")?;
-        for problem in &self.problems {
-            if let Some(fix) = &problem.fix {
-                let is_wanted = meet(problem.span, span) || meet(fix.span, span);
-                if problem.uri.as_str() == uri && is_wanted {
-                    put_action(self.alloc, problem, fix, &mut out)?;
-                }
+/// `textDocument/codeAction`: a quick fix for each problem that has one, where the problem or what mends it stands in the range.
+pub fn code_actions(
+    alloc: Global,
+    problems: &[Problem],
+    params: &Value,
+) -> Result<Outcome, AllocError> {
+    let uri = text_at(params, "/textDocument/uri");
+    let span = params.pointer("/range").and_then(span_of);
+    let (Some(uri), Some(span)) = (uri, span) else {
+        return Ok(Outcome::Refused(RpcError::InvalidParams, RpcError::InvalidParams.text()));
+    };
+    let mut out = String::from_str(alloc, "[")?;
+    for problem in problems {
+        if let Some(fix) = &problem.fix {
+            let is_wanted = meet(problem.span, span) || meet(fix.span, span);
+            if problem.uri.as_str() == uri && is_wanted {
+                put_action(alloc, problem, fix, &mut out)?;
             }
         }
-        out.push_str("]")?;
-        Ok(Outcome::Answer(out))
     }
+    out.push_str("]")?;
+    Ok(Outcome::Answer(out))
 }
 
 /// Whether two ranges have a place in common, their ends among them; whole lines count.

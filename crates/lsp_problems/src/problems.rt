@@ -10,7 +10,7 @@ use std::alloc::{AllocError, Global};
 
 /// How severe a problem is (`DiagnosticSeverity`).
 #[derive(Clone, Copy, Debug, PartialEq, Eq)]
-pub(crate) enum Severity {
+pub enum Severity {
     Error = 1,
     Warning = 2,
     Information = 3,
@@ -18,31 +18,31 @@ pub(crate) enum Severity {
 
 /// A change of a text.
 #[derive(Drop)]
-pub(crate) struct Fix {
-    pub(crate) span: Span,
-    pub(crate) text: String,
+pub struct Fix {
+    pub span: Span,
+    pub text: String,
 }
 
 /// A problem in a file.
 #[derive(Drop)]
-pub(crate) struct Problem {
+pub struct Problem {
     /// The URI of its file.
-    pub(crate) uri: String,
+    pub uri: String,
     /// The path of the main file of the program that has it.
-    pub(crate) root: String,
-    pub(crate) span: Span,
-    pub(crate) severity: Severity,
-    pub(crate) code: String,
-    pub(crate) text: String,
+    pub root: String,
+    pub span: Span,
+    pub severity: Severity,
+    pub code: String,
+    pub text: String,
     /// The numbers that the analysis found possible there; empty where it tells none.
-    pub(crate) interval: String,
+    pub interval: String,
     /// What mends it, where that is sure.
-    pub(crate) fix: Option<Fix>,
+    pub fix: Option<Fix>,
 }
 
 impl Problem {
     /// The first line of its text.
-    pub(crate) fn title(&self) -> &str {
+    pub fn title(&self) -> &str {
         self.text.as_str().split('\n').next().unwrap_or_default()
     }
 }
@@ -51,7 +51,7 @@ impl Problem {
 const MAX_PROBLEMS: usize = 500;
 
 /// Reads findings, an object of JSON on each line. One about a file that no person wrote stands at the beginning of the main file.
-pub(crate) fn read_problems(
+pub fn read_problems(
     alloc: Global,
     lines: &str,
     severity: Severity,
@@ -130,7 +130,7 @@ fn at_beginning(
 }
 
 /// The problem of a program that is not given to the compiler, since its preprocessing is too much work.
-pub(crate) fn over_budget(
+pub fn over_budget(
     alloc: Global,
     files: &[UnitFile],
     work: u64,
@@ -272,11 +272,7 @@ fn point(file: &UnitFile, value: &Value, line: &str, column: &str) -> Option<usi
 }
 
 /// A `Diagnostic`.
-pub(crate) fn put_problem(
-    alloc: Global,
-    problem: &Problem,
-    out: &mut String,
-) -> Result<(), AllocError> {
+pub fn put_problem(alloc: Global, problem: &Problem, out: &mut String) -> Result<(), AllocError> {
     out.push_str("{\"range\":")?;
     put_span(alloc, problem.span, out)?;
     out.push_str(",\"severity\":")?;
@@ -288,11 +284,7 @@ pub(crate) fn put_problem(
 }
 
 /// The parameters of `textDocument/publishDiagnostics` for a file.
-pub(crate) fn published(
-    alloc: Global,
-    uri: &str,
-    problems: &[Problem],
-) -> Result<String, AllocError> {
+pub fn published(alloc: Global, uri: &str, problems: &[Problem]) -> Result<String, AllocError> {
     let mut out = String::from_str(alloc, "{\"uri\":")?;
     put_string(alloc, uri, &mut out)?;
     out.push_str(",\"diagnostics\":[")?;
