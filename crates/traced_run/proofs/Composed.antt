@@ -2,11 +2,15 @@
 use Rattle.std.proofs.Common.{ℕ, List, Option, ◌≡◌, ◌≢◌, ◌<◌, ◌≤◌, ◌+◌, ◌-◌, ap, ◌∙◌, refl, subst, arith}
 use Rattle.io_ports.specs.Port.{PortView}
 use Rattle.rv32.specs.Step.{Machine}
-use Rattle.sim.proofs.Composing.{rvrun-add, rvrun_on}
+use Rattle.sim.proofs.Composing.{rvrun-add}
 use Rattle.sim.specs.Runs.{World, Running, Ended, Trapped, rvrun, goes_on}
 use Rattle.sim.specs.Meets.{At, RunMeets}
 use Rattle.sim.specs.declared.machine.Outcome.{Outcome}
 use Rattle.sim.specs.declared.machine.Outcome.TheVariants as outcome
+
+-- k steps from where j lead to
+rvrun_on : (j k n : ℕ) (w v : World) → rvrun j w ≡ Running v → n ≡ j + k → rvrun n w ≡ rvrun k v
+rvrun_on j k n w v h e = ap (λ m. rvrun m w) e ∙ rvrun-add j k w ∙ ap (λ p. goes_on p (rvrun k)) h
 
 -- what a run of n steps from v came to, that of k + n steps came to from where k lead to v
 pub behind : (o : Option (List ℕ)) (w v : World) (k n : ℕ) (x : Outcome) (m : Machine) (port : PortView) → rvrun k w ≡ Running v
