@@ -691,6 +691,7 @@ def check_mutated():
         session.at('rename', 'ring.c', 2, 6, newName='ring_push')
         session.at('completion', 'ring.c', 4, 10)
         session.change('ring.c', (4, 10), (4, 13), '1')
+        verify(session, 'ring.c')
         bodies = [sent.split(b'\r\n\r\n', 1)[1] for sent in session.sent[2:]]
         for _ in range(50):
             session.send(frame(mutated(random, random.choice(bodies))))
