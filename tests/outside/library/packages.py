@@ -190,8 +190,8 @@ def node(work):
         check('node: a run that is kept', (status, kept) == (0, 'told\n'), kept, said)
     with open(os.path.join(work, 'parts.mjs'), 'w') as file:
         file.write(PARTS)
-    status, out, err = call(['node', 'parts.mjs'], work)
-    check('node: the modules that explain and verify', (status, out) == (0, PARTS_SAY), out, err)
+    parts = call(['node', 'parts.mjs'], work)
+    check('node: the modules that explain and verify', parts[:2] == (0, PARTS_SAY), *parts[1:])
     check('node: the lines of docs/LIBRARY.md', (status, out, err) == (0, '1 42 b\n', ''), out, err)
 
 
