@@ -222,17 +222,22 @@ def in_c(counted, runs, out, work):
 
 
 def acts(counted, cc, zk, runs):
-    """What a run does undefined, explained, as the program tells it as JSON; and by hand, of one whose values the input decides."""
-    undefined = [run for run in runs if run[3] == 123]
-    for name, files, input, status, *_ in undefined + [run for run in runs if run[3] != 123][:60]:
+    """What a run does undefined, explained, as the program tells it as JSON; of a program that is refused the fault alone; and by hand, of one whose values
+    the input decides."""
+    undefined = [run for run in runs if 'undefined U' in run[5]]
+    counted.holds('there are undefined runs', len(undefined) > 20, len(undefined))
+    for name, files, input, status, _, message, _ in undefined + [run for run in runs if run not in undefined][:100]:
         with tempfile.TemporaryDirectory() as work:
             for file, text in files:
                 with open(os.path.join(work, file), 'wb') as out:
                     out.write(text)
             done = subprocess.run([cc.path, 'explain', 'interp', *[file for file, _ in files], '--json', '--max', str(MAX)], cwd=work, input=input, capture_output=True, timeout=300)
         answer = zk.explain_run(files, files[0][0], input, MAX)
+        if status == 1 and message:
+            counted.holds('%s: refused' % name, (answer.status, answer.output, answer.message) == (1, b'', message), answer)
+            continue
         counted.holds('%s: what is undefined' % name, (answer.status, answer.output, answer.message) == (done.returncode, done.stdout, done.stderr.decode(errors='replace')), (answer, done))
-        counted.holds('%s: told where there is something' % name, (answer.output != b'') == (status == 123), answer.output)
+        counted.holds('%s: told where there is something' % name, (answer.output != b'') == ('undefined U' in message), answer.output)
     text = b'int rv_getbyte(void);\nint at(int a[3], int i) { return a[i]; }\nint main(void) {\n    int a[3] = { 1, 2, 3 };\n    return at(a, rv_getbyte());\n}\n'
     told = zk.explain_run({'main.c': text}, 'main.c', b'b')
     act = json.loads(told.output)
