@@ -39,6 +39,7 @@ pub struct Writer<'n> {
 }
 
 impl<'n> Writer<'n> {
+    /// Before the first node.
     pub fn new(alloc: Global, names: &'n Names, style: Style) -> Writer<'n> {
         Writer {
             alloc,

@@ -4,6 +4,7 @@ use lsp_text::{Position, Span};
 use lsp_wire::put_string;
 use std::alloc::{AllocError, Global};
 
+/// A `Position`.
 pub fn put_position(alloc: Global, position: Position, out: &mut String) -> Result<(), AllocError> {
     let line = position.line;
     let character = position.character;
@@ -11,6 +12,7 @@ pub fn put_position(alloc: Global, position: Position, out: &mut String) -> Resu
     out.push_str(text.as_str())
 }
 
+/// A `Range`.
 pub fn put_span(alloc: Global, span: Span, out: &mut String) -> Result<(), AllocError> {
     out.push_str("{\"start\":")?;
     put_position(alloc, span.start, out)?;
