@@ -46,12 +46,13 @@ async function acts(reader) {
   reader.check('at its operator', await reader.until(`${marked('run')} === '+'`), await reader.at(marked('run')));
   reader.check('with values', await page.tells('fault', '/^U1 .*2147483647/'), await page.told('fault'));
   await reader.shot('undefined');
-  await page.type(TWICE);
-  await reader.built();
   await page.set('input', 'b');
+  await page.type(TWICE);
+  reader.check('another program is built', await reader.until(`$('fault').hidden && !$('run').disabled && /After 0 instructions/.test($('status').textContent)`), await page.told('status'));
   await page.click('run');
   reader.check('of two subscripts of a line the one that is outside', await page.tells('fault', '/^U5 .*index 98 of 3 elements of `a`/'), await page.told('fault'));
   reader.check('and the calls that are active there', await reader.until(`/in \`at\`/.test($('findings').textContent) && /main.c:7: in \`main\`/.test($('findings').textContent)`), await page.told('findings'));
+  await page.set('input', '');
   await reader.example('hello');
   await page.click('run');
   reader.check('and a run that is defined does not', await page.tells('status', '/ended with status 0/') && await reader.at(`$('fault').hidden`), await page.told('status'));

@@ -113,7 +113,7 @@ const PLANTED = {
   'a small button': [style('#run { width: 12px !important; min-width: 0 !important; padding: 0 !important; overflow: hidden; }'), '', found(STRUCTURE), /small run/],
   'a page without a language': [`document.documentElement.lang = ''`, `document.documentElement.lang = 'en'`, found(STRUCTURE), /landmarks/],
   'a focus that is not seen': [style(':focus, :focus-visible { outline: none !important; }'), '', async reader => (await walked(reader)).faint.join(' '), /run/],
-  'an order of its own': [`document.getElementById('run').tabIndex = 7`, `document.getElementById('run').removeAttribute('tabindex')`, async reader => `in order: ${(await walked(reader)).isInOrder}`, /false/],
+  'an order of its own': [`document.getElementById('run').tabIndex = 7`, `document.getElementById('run').removeAttribute('tabindex')`, async reader => { const { isInOrder, missed } = await walked(reader); return `in order: ${isInOrder}, missed: ${missed.join(' ')}`; }, /false|run/],
   'a control that is not reached': [`document.getElementById('count').onfocus = event => event.target.blur()`, `document.getElementById('count').onfocus = null`, async reader => (await walked(reader)).missed.join(' '), /./],
   'a button without a name': [put('button', ''), '', async reader => (await nameless(reader)).join(' '), /button/],
   'a line that is too long': [put('div', `one.style.width = '900px'; one.textContent = 'x'`), '', wide, /wide/],
