@@ -123,6 +123,24 @@ def registers(counted, cc, zk, runs, work):
             counted.holds('%s at %d' % (name, at), [int(pc or register, 16) for pc, register in words] == [machine.pc, *machine.registers], said)
 
 
+COUNTS = b'static unsigned s;\nvoid add(unsigned n)\n{\n    s += n;\n}\nint main(void)\n{\n    for (unsigned k = 0; k < 3; k++)\n        add(k);\n    return (int)s;\n}\n'
+
+
+def to_address(counted, zk):
+    """A run goes to where the instruction at an address is next, once it has done one: three times to the function that is called three times."""
+    file = zk.build({'counts.c': COUNTS}, 'counts.c').check().output
+    add = next(one['address'] for one in json.loads(zk.functions({'counts.c': COUNTS}, 'counts.c').check().output)['functions'] if one['name'] == 'add')
+    with zk.machine(file) as machine:
+        steps = []
+        for turn in range(3):
+            outcome = machine.run(10 ** 6, add)
+            steps.append(machine.steps)
+            counted.holds('call %d of add' % turn, (outcome, machine.pc, machine.registers[10]) == (zikorape.GOES_ON, add, turn), (outcome, machine.pc, machine.registers[10]))
+            counted.holds('as zk_step has it, %d' % turn, zk.step(file, 10 ** 6, after=steps[-2] + 1 if turn else 0, halt=add).steps == steps[-1], steps)
+        counted.holds('then it ends', (machine.run(10 ** 6, add), machine.detail) == (zikorape.ENDED, 3), machine.detail)
+        counted.holds('each later than the one before', steps == sorted(set(steps)), steps)
+
+
 def waits(counted, zk):
     built = zk.build({'echo.c': ECHO}, 'echo.c').check().output
     with zk.machine(built) as machine:
@@ -322,6 +340,7 @@ def main():
             back_again(counted, zk, short)
             registers(counted, cc, zk, short, work)
             waits(counted, zk)
+            to_address(counted, zk)
             set_by_hand(counted, zk)
             not_loaded(counted, zk)
             calls(counted, cc, zk, work)
