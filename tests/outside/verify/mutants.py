@@ -14,10 +14,13 @@ import tempfile
 
 HERE = os.path.dirname(os.path.abspath(__file__))
 ROOT = os.path.join(HERE, '..', '..', '..')
+sys.path[:0] = [os.path.join(ROOT, 'tests')]
+import harness  # noqa: E402
+from defined import DEFINED  # noqa: E402
+
 CC = os.path.abspath(sys.argv[1])
 TICKS = '100000'
 LEAST = 300           # so many changed programs have to be undefined
-passed = failed = 0
 
 # What a token becomes.
 OTHER = {'<': ['<=', '>', '!='], '<=': ['<', '>='], '>': ['>=', '<'], '>=': ['>', '<='], '==': ['!='], '!=': ['=='], '+': ['-', '*'], '-': ['+'], '*': ['+'],
@@ -43,11 +46,7 @@ def changed(text):
 
 def programs():
     """Each program that is to be changed, with the headers that it includes."""
-    with open(os.path.join(HERE, 'check.py'), encoding='utf-8') as file:
-        check = file.read()
-    rows = {}
-    exec(check[check.index('DEFINED = {'):check.index('# The line of an act')], rows)      # the table alone: the script itself runs as it is read
-    yield from ((name, {'main.c': text + '\n'}) for name, text in rows['DEFINED'].items())
+    yield from ((name, {'main.c': text + '\n'}) for name, text in DEFINED.items())
     folder = os.path.join(ROOT, 'examples', 'verify')
     for name in sorted(os.listdir(folder)):
         if name.endswith('_shown.c'):
@@ -97,17 +96,8 @@ def is_caught(text):
         return status == 3 and (line in listed or 'not followed' in out), (line, status, out[:300], err)
 
 
-def check(name, holds, *more):
-    global passed, failed
-    if holds:
-        passed += 1
-    else:
-        failed += 1
-        print('FAIL', name, *[str(one)[:400] for one in more])
-
-
 def main():
-    tried = undefined = 0
+    verdict, tried, undefined = harness.Verdict(), 0, 0
     with concurrent.futures.ThreadPoolExecutor(os.cpu_count()) as pool:
         for name, files in programs():
             with tempfile.TemporaryDirectory() as work:
@@ -116,7 +106,7 @@ def main():
                         out.write(text)
                 status = cc(work, 'verify', 'main.c')[0]
             if not name.startswith(('LANGUAGE/', 'tests/run/')):
-                check(name + ' is defined', status == 0, status)
+                verdict.holds(f'{name} is defined: {status}', status == 0)
             if status != 0:
                 continue
             texts = list(changed(files['main.c']))
@@ -124,10 +114,9 @@ def main():
                 tried += 1
                 if caught is not None:
                     undefined += 1
-                    check('%s, changed to\n%s' % (name, text), caught, seen)
-    check('enough changes make something undefined', undefined >= LEAST, undefined, tried)
-    print('%d passed, %d failed' % (passed, failed))
-    return failed != 0
+                    verdict.holds(f'{name}, changed to\n{text}{seen}', caught)
+    verdict.holds(f'{undefined} of {tried} changes make something undefined', undefined >= LEAST)
+    return verdict.end()
 
 
 if __name__ == '__main__':
