@@ -56,3 +56,50 @@ DEFINED = {
     'where no run comes': 'int main(void) { int x = 3; if (x > 5) return 1 / (x - 3); return x > 4 && 1 / (x - 3); }',
     'behind an exit': 'int rv_getbyte(void);\nvoid rv_exit(int status);\nint main(void) { int c = rv_getbyte(); if (c < 1) rv_exit(1); return 100 / c; }',
 }
+
+# The places of programs of the documents that have to be written otherwise before they are found defined: what stood there, and what stands there then.
+BY_PLACES = ("""    if (n >= 10)
+        write_number(n / 10);
+    rv_putbyte('0' + (int)(n % 10));
+""", """    for (unsigned place = 1000000000; place > 0; place /= 10)
+        if (n >= place || place == 1)
+            rv_putbyte('0' + (int)(n / place % 10));
+""")
+EDITS = {
+    'LANGUAGE/sum.c': [('unsigned number[1], sum = 0;', 'unsigned number[1] = { 0 }, sum = 0;'), BY_PLACES],
+    'LANGUAGE/words.c': [('int words = 0, c;', 'unsigned words = 0;\n    int c;'), ('return words;', 'return (int)words;')],
+    'LANGUAGE/sort.c': [('unsigned char item[ROOM];', 'unsigned char item[ROOM] = { 0 };')],
+    'LANGUAGE/records.c': [('text[i] != 0;', 'i < NAME_SIZE && text[i] != 0;'), ('write_text("\\n");', "rv_putbyte('\\n');")],
+    'bench/search.c': [('text[i + j] == word[j]', 'text[(i + j) % 4000] == word[j]')],
+    'bench/sieve.c': [('int count = 0;', 'unsigned count = 0;'), ('return count & 127;', 'return (int)(count & 127);')],
+    'bench/sort.c': [("""    int i = low;
+    int j = high;
+    int middle = list[(low + high) / 2];
+    while (i <= j) {
+        while (list[i] < middle)
+            i++;
+        while (middle < list[j])
+            j--;
+        if (i <= j) {
+            int t = list[i];
+            list[i] = list[j];
+            list[j] = t;
+            i++;
+            j--;
+        }
+    }
+    if (low < j)
+        sort(list, low, j);
+    if (i < high)
+        sort(list, i, high);
+""", """    for (int i = low + 1; i <= high; i++) {
+        int moved = list[i], at = i;
+        for (; at > low && list[at - 1] > moved; at--)
+            list[at] = list[at - 1];
+        list[at] = moved;
+    }
+""")],
+    'bench/sha256.c': [('unsigned w[64];', 'unsigned w[64] = { 0 };'), ('unsigned s[8];', 'unsigned s[8] = { 0 };')],
+    'examples/hello.c': [("text[i] != '\\0';", "i < 7 && text[i] != '\\0';")],
+    'examples/collatz.c': [BY_PLACES],
+}
