@@ -1,7 +1,8 @@
 //! Guesses of what holds at each turn of a loop. Nothing rests on them: a guess is tested before it is used.
 
-use verify_expressions::{AbsState, Scope, Stop, copied, joined};
-use verify_logic::{AbsValue, Interval};
+use verify_expressions::{AbsState, Known, Scope, Stop, copied, joined};
+use verify_intervals::initialised;
+use verify_logic::{AbsValue, Fact, Interval};
 
 /// Where bounds move that keep growing, beside the lengths of arrays: the bounds of the types, and 0 and 1 between them.
 const STEPS: [i64; 12] = [
@@ -100,6 +101,41 @@ fn each_wider(
     Ok(out)
 }
 
+/// The fact of the same element, which most often stands at the same place.
+fn same_fact(olds: &[Fact], new: Fact, near: usize) -> Option<Interval> {
+    for n in near..olds.len() {
+        if olds[n].object == new.object && olds[n].index == new.index {
+            return Some(olds[n].interval);
+        }
+    }
+    None
+}
+
+fn facts_wider(scope: &Scope<'_>, olds: &[Fact], news: &[Fact]) -> Result<Vec<Fact>, Stop> {
+    let mut out = Vec::new(scope.alloc);
+    for n in 0..news.len() {
+        let new = news[n];
+        let interval = match same_fact(olds, new, n) {
+            None => new.interval,
+            Some(old) => wider(scope, initialised(old), initialised(new.interval)).interval,
+        };
+        let Ok(()) = out.push(Fact {
+            object: new.object,
+            index: new.index,
+            interval,
+        }) else {
+            return Err(Stop::Memory);
+        };
+    }
+    Ok(out)
+}
+
+fn known_wider(scope: &Scope<'_>, olds: &Known, news: &Known) -> Result<Known, Stop> {
+    let objects = each_wider(scope, &olds.objects, &news.objects)?;
+    let facts = facts_wider(scope, &olds.facts, &news.facts)?;
+    Ok(Known { objects, facts })
+}
+
 fn moved(scope: &Scope<'_>, old: &AbsState, new: AbsState) -> Result<AbsState, Stop> {
     match new.objects {
         None => Ok(AbsState { objects: None }),
@@ -107,7 +143,7 @@ fn moved(scope: &Scope<'_>, old: &AbsState, new: AbsState) -> Result<AbsState, S
             None => Ok(AbsState {
                 objects: Some(news),
             }),
-            Some(olds) => match each_wider(scope, olds, &news) {
+            Some(olds) => match known_wider(scope, olds, &news) {
                 Err(stop) => Err(stop),
                 Ok(out) => Ok(AbsState { objects: Some(out) }),
             },
