@@ -1,8 +1,8 @@
 -- What is known of single elements before the run.
-use Rattle.std.proofs.Common.{◌≡◌, ◌<◌, ◌≤◌, ◌+◌, ℕ, zero, suc, ℤ, pos, List, [], ◌∷◌, ◌++◌, drop, length, get_or, refl, sym, ap, subst, ◌∙◌, arith, Option, Some, None}
+use Rattle.std.proofs.Common.{◌≡◌, ◌<◌, ◌≤◌, ℕ, zero, suc, ℤ, pos, List, [], ◌∷◌, ◌++◌, drop, length, get_or, refl, sym, ap, subst, ◌∙◌, arith, Option, Some}
 use Rattle.std.proofs.lemmas.Int.{ints}
 use Rattle.std.specs.Prelude.{slice_get}
-use Rattle.csem.specs.Store.{Tree, Element, Array, Row, no_parts, and_part, part_of, part_in, at_path, value_of, Store, first_or_zero, row_of, laid_out, characters_of, literal_object}
+use Rattle.csem.specs.Store.{Tree, Element, part_of, at_path, value_of, Store, first_or_zero, row_of, laid_out, characters_of, literal_object}
 use Rattle.verify_logic.specs.declared.abstract_values.Interval.{Interval}
 use Rattle.verify_logic.specs.declared.abstract_values.Fact.{Fact}
 use Rattle.verify_logic.specs.States.{In, just, HasValueIn, FactIs, FactsAre}

@@ -20,7 +20,7 @@ use Rattle.verify_logic.specs.declared.abstract_values.Interval.{Interval}
 use Rattle.verify_logic.specs.declared.abstract_values.AbsValue.{AbsValue}
 use Rattle.verify_logic.specs.declared.abstract_values.ArrayArgument.{ArrayArgument}
 use Rattle.verify_logic.specs.declared.abstract_values.Fact.{Fact}
-use Rattle.verify_logic.specs.States.{Known, Frame, In, TreeIs, ObjectsAre, FactsAre, HasValueIn, FactIs, Below, just, Summary, lengths_in, IsSound, AreSound, ValueIs, Entails, Implies, Reaches, Ends}
+use Rattle.verify_logic.specs.States.{Known, Frame, In, TreeIs, ObjectsAre, FactsAre, Summary, lengths_in, IsSound, AreSound, ValueIs, Entails, Implies, Reaches, Ends}
 use Rattle.verify_logic.specs.Statements.{Ways, Leaves, Executes}
 use Rattle.verify_logic.specs.Calls.{Entered, FunctionEnds, Begins, EachIn, with_own}
 use Rattle.verify_logic.specs.Whole.{UndefinedOnlyAt, IsDefined, IsDefinedBut}

@@ -43,7 +43,6 @@ use Rattle.verify_logic.specs.declared.operands.Operand.{Operand}
 use Rattle.verify_logic.specs.declared.operands.Operand.TheVariants.{Object}
 use Rattle.verify_logic.specs.declared.operands.Relation.{Relation}
 use Rattle.verify_logic.specs.Relations.{Tells, Narrows, Looks, Restricts, RestrictsBoth, Learns}
-use Rattle.verify_logic.proofs.Objects.{put_is, tree_entails}
 use Rattle.verify_logic.proofs.Splits.{nonzero_same}
 use Rattle.verify_logic.proofs.Compares.{set_restricts, learns_straight, learns_swapped, compare_fits}
 use Rattle.verify_expressions.specs.declared.state.AbsState.{AbsState}

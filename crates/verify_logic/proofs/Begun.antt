@@ -1,21 +1,20 @@
 -- Objects of a call begin, and get their first values (6.2.4p6, 6.7.9).
-use Rattle.std.proofs.Common.{◌≡◌, ℕ, zero, suc, ◌+◌, ◌-◌, ◌<◌, ℤ, List, [], ◌∷◌, ◌++◌, map, length, refl, ap, sym, subst, ◌∙◌, arith}
+use Rattle.std.proofs.Common.{◌≡◌, ℕ, zero, suc, ◌+◌, ◌-◌, List, [], ◌∷◌, ◌++◌, map, length, refl, ap, sym, subst, arith}
 use Rattle.std.specs.Prelude.{Option, Some, None, false, slice_get}
 use Rattle.ctypes.specs.declared.types.IntType.{IntType}
 use Rattle.ctypes.specs.Types.{converted}
 use Rattle.typing_spec.specs.Types.{ObjectType}
 use Rattle.typing_spec.specs.Program as typed
 use Rattle.typing_spec.specs.Program.{Value, Initialiser, Statement}
-use Rattle.csem.specs.Store.{Tree, Element, Array, Row, no_parts, and_part, parts, Reference, whole, put, repeated, filled, indeterminate}
-use Rattle.csem.specs.Machine.{State, Run, Goes, then_do, tick, stored}
-use Rattle.csem.specs.Expressions.{evaluate}
-use Rattle.csem.specs.Statements.{Normal, Flow, new_object, own, renewed, all_renewed, initialise, define_object, execute}
+use Rattle.csem.specs.Store.{Tree, parts, whole, put, repeated, filled, indeterminate}
+use Rattle.csem.specs.Machine.{State, Goes, tick, stored}
+use Rattle.csem.specs.Statements.{Normal, new_object, own, renewed, all_renewed, initialise, define_object}
 use Rattle.csem.specs.Meaning.{calling}
 use Rattle.verify_logic.specs.declared.abstract_values.Interval.{Interval}
 use Rattle.verify_logic.specs.declared.abstract_values.AbsValue.{AbsValue}
-use Rattle.verify_logic.specs.States.{Known, Frame, In, EachPart, TreeIs, or_scalar, lengths_in, shape_of, Reaches, Ends, Implies, Refers, Replaces, Writes}
+use Rattle.verify_logic.specs.States.{Known, Frame, EachPart, TreeIs, or_scalar, lengths_in, shape_of, Reaches, Ends, Refers, Replaces, Writes}
 use Rattle.verify_logic.specs.Judgements.{Evaluates, Converts}
-use Rattle.verify_logic.specs.Statements.{Ways, Leaves, Executes, Renews, RenewsOne, Initialises, only_normal}
+use Rattle.verify_logic.specs.Statements.{Leaves, Executes, Renews, RenewsOne, Initialises, only_normal}
 use Rattle.verify_logic.proofs.Runs.{then_ends, tick_ends}
 use Rattle.verify_logic.proofs.Rules.{value_then, based}
 

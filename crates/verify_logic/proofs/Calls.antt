@@ -1,25 +1,25 @@
 -- A call is entered and left (6.5.2.2, 6.9.1).
-use Rattle.std.proofs.Common.{◌≡◌, ℕ, zero, suc, ◌+◌, ℤ, pos, List, [], ◌∷◌, ◌++◌, map, take, drop, length, refl, ap, sym, subst, ◌∙◌, arith}
+use Rattle.std.proofs.Common.{◌≡◌, ℕ, zero, suc, ℤ, pos, List, [], ◌∷◌, ◌++◌, map, take, drop, length, refl, ap, sym, subst, ◌∙◌}
 use Rattle.std.specs.Prelude.{Option, Some, None, Bool, true, false, nat_eq, slice_get, Contains}
 use Rattle.srcset.specs.declared.refusal.Pos.{Pos}
 use Rattle.ctypes.specs.declared.types.IntType.{IntType}
 use Rattle.typing_spec.specs.Types.{ObjectType}
 use Rattle.typing_spec.specs.Program as typed
 use Rattle.typing_spec.specs.Program.{Arguments, Function, Program}
-use Rattle.csem.specs.Store.{Tree, Element, Array, Store, Reference, indeterminate}
-use Rattle.csem.specs.Machine.{State, Ended, Undefined, TicksUsed, Run, Goes, Stops, then_do, tick, ticks}
-use Rattle.csem.specs.Expressions.{Passed, Calling, pass, evaluate, call_value, call_of}
+use Rattle.csem.specs.Store.{Tree, Element, Array, Store, indeterminate}
+use Rattle.csem.specs.Machine.{State, Ended, Undefined, TicksUsed, Run, Goes, Stops, then_do, ticks}
+use Rattle.csem.specs.Expressions.{Passed, call_value, call_of}
 use Rattle.csem.specs.Statements.{Flow, Normal, Broken, Continued, Returned, execute}
-use Rattle.csem.specs.Meaning.{numbers_of, arrays_of, objects_of, enter, leave, value_at_end, value_left, body_of, call_defined, calling}
+use Rattle.csem.specs.Meaning.{numbers_of, objects_of, enter, leave, value_at_end, value_left, body_of, call_defined, calling}
 use Rattle.verify_logic.specs.declared.abstract_values.Interval.{Interval}
 use Rattle.verify_logic.specs.declared.abstract_values.AbsValue.{AbsValue}
 use Rattle.verify_logic.specs.declared.abstract_values.ArrayArgument.{ArrayArgument}
-use Rattle.verify_logic.specs.States.{Known, Summary, Frame, In, just, ValueIs, TreeIs, ObjectsAre, lengths_in, shapes_of, Covers, CoversState, body_and_value, IsSound, AreSound, Holds, Reaches, Ends, Entails, KnownEntails, FactsAre}
+use Rattle.verify_logic.specs.States.{Known, Summary, Frame, In, ValueIs, TreeIs, ObjectsAre, lengths_in, shapes_of, CoversState, body_and_value, IsSound, AreSound, Reaches, Ends, KnownEntails, FactsAre}
 use Rattle.verify_logic.specs.Judgements.{Evaluates}
 use Rattle.verify_logic.specs.Places.{NumbersAre, Are, Passes}
 use Rattle.verify_logic.specs.Statements.{Ways, Leaves, Executes}
-use Rattle.verify_logic.specs.Calls.{Entered, CallGives, CallOr, CallValue, FunctionEnds, with_own, HoldBelow, Cuts}
-use Rattle.verify_logic.proofs.Runs.{then_ends, tick_ends, weaker}
+use Rattle.verify_logic.specs.Calls.{Entered, CallGives, CallOr, CallValue, FunctionEnds, with_own, Cuts}
+use Rattle.verify_logic.proofs.Runs.{then_ends, tick_ends}
 use Rattle.verify_logic.proofs.Objects.{objects_entail}
 use Rattle.verify_logic.proofs.Facts.{facts_front}
 use Rattle.verify_logic.proofs.Begun.{new_is}

@@ -1,5 +1,5 @@
 -- What comparisons tell.
-use Rattle.std.proofs.Common.{◌≡◌, ◌⊎◌, inl, inr, ℕ, zero, suc, ℤ, pos, ◌+ℤ◌, ◌-ℤ◌, ◌≤ℤ◌, List, [], ◌∷◌, length, refl, ap, sym, subst, arith, ◌∙◌}
+use Rattle.std.proofs.Common.{◌≡◌, ◌⊎◌, inl, inr, ℕ, zero, suc, ℤ, pos, ◌+ℤ◌, ◌-ℤ◌, ◌≤ℤ◌, List, [], ◌∷◌, refl, ap, sym, subst, arith, ◌∙◌}
 use Rattle.std.proofs.lemmas.Int.{ints, by_lt_z}
 use Rattle.std.specs.Prelude.{◌<ℤ◌, int_lt, int_le, Bool, true, false, ◌&&◌, ◌||◌, Option, Some, None, slice_get, slice_set, Result, Ok, Err}
 use Rattle.srcset.specs.declared.refusal.Pos.{Pos}
@@ -13,8 +13,8 @@ use Rattle.ctypes.proofs.Uses.{converted_keeps}
 use Rattle.typing_spec.specs.Operators.{right_operand}
 use Rattle.typing_spec.specs.Program as typed
 use Rattle.typing_spec.specs.Program.{Place, Value, Program}
-use Rattle.csem.specs.Store.{Tree, Element, Array, Store, Reference, whole, value_of, value_at, at_path}
-use Rattle.csem.specs.Machine.{State, Run, Goes, computed_at, read, value_or_undefined}
+use Rattle.csem.specs.Store.{Tree, Element, Array, Store, value_of, value_at, at_path}
+use Rattle.csem.specs.Machine.{State, Goes, computed_at, value_or_undefined}
 use Rattle.csem.specs.Expressions.{find, evaluate, position_of}
 use Rattle.csem.specs.Meaning.{calling}
 use Rattle.verify_logic.specs.declared.abstract_values.Interval.{Interval}
@@ -24,7 +24,7 @@ use Rattle.verify_logic.specs.declared.operands.Operand.{Operand}
 use Rattle.verify_logic.specs.declared.operands.Operand.TheVariants.{Number, Object}
 use Rattle.verify_logic.specs.declared.operands.Relation.{Relation}
 use Rattle.verify_logic.specs.declared.operands.Relation.TheVariants as relation
-use Rattle.verify_logic.specs.States.{Known, Frame, In, ValueIs, TreeIs, ObjectIs, ObjectsAre, FactsAre, Reaches, Ends, Below, range_of, shapes_of, shape_of, Along, Refers, Contents}
+use Rattle.verify_logic.specs.States.{Known, Frame, In, ValueIs, TreeIs, ObjectsAre, FactsAre, Reaches, Ends, Below, range_of, shapes_of, shape_of, Along, Refers, Contents}
 use Rattle.verify_logic.specs.Judgements.{Tests, either_way}
 use Rattle.verify_logic.specs.Places.{FindsAt}
 use Rattle.verify_logic.specs.Relations.{Tells, Narrows, CutsAbove, CutsBelow, Avoids, HasValue, OperandIs, Looks, Restricts, RestrictsBoth, Learns}

@@ -1,15 +1,14 @@
 -- What is known of single elements: kept, joined, forgotten and changed.
-use Rattle.std.proofs.Common.{◌≡◌, ℕ, zero, suc, ◌+◌, ◌<◌, ◌≤◌, ℤ, pos, ◌≤ℤ◌, List, [], ◌∷◌, ◌++◌, length, take, get_or, refl, ap, subst, sym, ◌∙◌, arith, add-one, Option, Some, None, true}
+use Rattle.std.proofs.Common.{◌≡◌, ℕ, zero, suc, ◌+◌, ◌<◌, ◌≤◌, ℤ, pos, List, [], ◌∷◌, ◌++◌, length, take, get_or, refl, ap, subst, sym, ◌∙◌, arith, add-one, Option, Some, None, true}
 use Rattle.std.proofs.lemmas.Int.{ints}
 use Rattle.std.proofs.lemmas.List.{take_all}
 use Rattle.std.proofs.Math.Seq.{take-suc}
 use Rattle.std.specs.Prelude.{◌<ℤ◌, slice_get}
-use Rattle.csem.specs.Store.{Tree, Element, Array, Row, no_parts, and_part, part_of, part_in, at_path, change_part, change_in, put_at, value_of, Store, Reference, put_in}
-use Rattle.csem.specs.Machine.{State}
+use Rattle.csem.specs.Store.{Tree, Element, Array, Row, no_parts, and_part, part_of, part_in, at_path, change_part, change_in, put_at, value_of, Store, put_in}
 use Rattle.verify_logic.specs.declared.abstract_values.Interval.{Interval}
 use Rattle.verify_logic.specs.declared.abstract_values.AbsValue.{AbsValue}
 use Rattle.verify_logic.specs.declared.abstract_values.Fact.{Fact}
-use Rattle.verify_logic.specs.States.{Known, Frame, In, ValueIs, TreeIs, HasValueIn, FactIs, FactsAre, FactsImply, Among, Below, or_scalar, shape_of, Reaches, Along, Refers, ObjectIs, SubscriptIs, Contents, Reads, ReadsAll, Forgets, ChangesOne, Changes}
+use Rattle.verify_logic.specs.States.{Known, In, ValueIs, TreeIs, HasValueIn, FactIs, FactsAre, FactsImply, Among, Below, shape_of, Along, ObjectIs, SubscriptIs, Contents, Reads, ReadsAll, Forgets, ChangesOne, Changes}
 use Rattle.verify_logic.specs.Calls.{HoldBelow}
 use Rattle.verify_logic.proofs.Objects.{below, path_is}
 

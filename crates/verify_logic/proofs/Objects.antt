@@ -1,15 +1,14 @@
 -- What is known of one object, and of all: what implies what, what is read, and what a write leaves.
-use Rattle.std.proofs.Common.{◌≡◌, ℕ, zero, suc, ◌+◌, ◌<◌, ◌≤◌, ℤ, ◌≤ℤ◌, List, [], ◌∷◌, ◌++◌, length, take, get_or, refl, ap, subst, sym, ◌∙◌, arith, add-one, Option, Some, None, Bool, true, false}
+use Rattle.std.proofs.Common.{◌≡◌, ℕ, zero, suc, ◌+◌, ◌<◌, ◌≤◌, ℤ, List, [], ◌∷◌, ◌++◌, length, take, get_or, refl, ap, subst, sym, ◌∙◌, arith, add-one, Option, Some, None, true, false}
 use Rattle.std.proofs.lemmas.Int.{ints}
 use Rattle.std.proofs.lemmas.List.{take_all}
 use Rattle.std.proofs.Math.Seq.{take-suc}
-use Rattle.std.specs.Prelude.{slice_get, slice_set, IfOk, Result, Ok, Err}
-use Rattle.csem.specs.Store.{Tree, Element, Array, Row, no_parts, and_part, parts, part_of, part_in, at_path, change_part, change_in, put_at, Store, Reference, whole, value_of, put_in}
+use Rattle.std.specs.Prelude.{slice_get, slice_set}
+use Rattle.csem.specs.Store.{Tree, Element, Array, Row, no_parts, and_part, parts, part_of, at_path, change_part, put_at, Store, Reference, put_in}
 use Rattle.csem.specs.Machine.{State, stored}
 use Rattle.verify_logic.specs.declared.abstract_values.Interval.{Interval}
 use Rattle.verify_logic.specs.declared.abstract_values.AbsValue.{AbsValue}
-use Rattle.verify_logic.specs.declared.abstract_values.Fact.{Fact}
-use Rattle.verify_logic.specs.States.{Known, Frame, In, ValueIs, EachPart, TreeIs, ObjectsAre, or_scalar, shapes_of, shape_of, Holds, Reaches, Below, Entails, EachEntails, Implies, Along, Refers, ObjectIs, FactsAre, FactsImply, KnownEntails, SubscriptIs, Contents, Forgets, Changes, Replaces, Writes}
+use Rattle.verify_logic.specs.States.{Known, Frame, In, ValueIs, EachPart, TreeIs, ObjectsAre, or_scalar, shapes_of, shape_of, Holds, Reaches, Below, Entails, EachEntails, Implies, Along, Refers, ObjectIs, FactsAre, KnownEntails, SubscriptIs, Contents, Forgets, Changes, Replaces, Writes}
 
 pub below : (i j : Interval) (v : ℤ) → Below i j → In i v → In j v
 below i j v h m = (omega (arith, ints, h.0, m.0), omega (arith, ints, h.1, m.1))

@@ -1,31 +1,29 @@
 -- Rules for expressions.
-use Rattle.std.proofs.Common.{◌≡◌, ◌≤◌, ◌<◌, ◌+◌, ℕ, zero, suc, ℤ, pos, negsuc, List, [], ◌∷◌, ◌++◌, length, map, drop, refl, sym, ap, subst, ◌∙◌, arith}
+use Rattle.std.proofs.Common.{◌≡◌, ◌≤◌, ◌<◌, ℕ, zero, suc, ℤ, pos, negsuc, List, [], ◌∷◌, ◌++◌, length, drop, refl, sym, subst, ◌∙◌, arith}
 use Rattle.std.proofs.lemmas.Int.{ints}
 use Rattle.std.proofs.lemmas.Bool.Decides.{nat_tests}
-use Rattle.std.specs.Prelude.{◌≤ℤ◌, ◌<ℤ◌, Option, Some, None, IfOk, Bool, true, false, nat_lt, slice_get, Result, Ok, Err, Contains}
+use Rattle.std.specs.Prelude.{◌≤ℤ◌, ◌<ℤ◌, Option, Some, None, Bool, true, false, nat_lt, slice_get, Contains}
 use Rattle.srcset.specs.declared.refusal.Pos.{Pos}
 use Rattle.ctypes.specs.declared.types.IntType.{IntType}
-use Rattle.ctypes.specs.declared.types.IntType.TheVariants as ty
 use Rattle.ctypes.specs.declared.operators.BinOp.{BinOp}
-use Rattle.ctypes.specs.declared.operators.Undef.{Undef}
 use Rattle.ctypes.specs.declared.operators.Undef.TheVariants.{U5, U7}
-use Rattle.ctypes.specs.Types.{truth, of_truth, converted, modulo}
+use Rattle.ctypes.specs.Types.{truth, of_truth, converted}
 use Rattle.tree.specs.declared.expression.PrefixOp.{PrefixOp}
 use Rattle.tree.specs.declared.expression.StepOp.{StepOp}
 use Rattle.typing_spec.specs.Operators.{operated, sign_of}
 use Rattle.typing_spec.specs.Program as typed
 use Rattle.typing_spec.specs.Program.{Moment, Storage, Place, Arguments, Value, Program}
-use Rattle.csem.specs.Store.{Store, Tree, Element, Array, Reference, whole, into, parts, value_of, value_at, tree_at, length_of, at_path}
-use Rattle.csem.specs.Machine.{State, Run, Goes, Stops, then_do, choose, tick, computed_at, or_first, designated, undefined, subscripted, value_or_undefined, read, write, stored}
-use Rattle.csem.specs.Expressions.{Calling, Passed, Number, find, pass, evaluate, call_of, get_byte, step_operation, step_value, position_of, converted_or_none}
+use Rattle.csem.specs.Store.{Store, Tree, Element, Array, Reference, into, value_of, value_at, tree_at, length_of, at_path}
+use Rattle.csem.specs.Machine.{State, Run, Goes, then_do, choose, tick, or_first, designated, undefined, subscripted, value_or_undefined, read, write, stored}
+use Rattle.csem.specs.Expressions.{Passed, find, pass, evaluate, get_byte, step_operation, step_value, position_of}
 use Rattle.csem.specs.Meaning.{calling}
 use Rattle.verify_logic.specs.declared.abstract_values.Interval.{Interval}
 use Rattle.verify_logic.specs.declared.abstract_values.AbsValue.{AbsValue}
 use Rattle.verify_logic.specs.declared.abstract_values.ArrayArgument.{ArrayArgument}
-use Rattle.verify_logic.specs.States.{Known, Frame, In, just, ValueIs, TreeIs, ReachesAt, Reaches, Ends, Below, range_of, Implies, shapes_of, rest_of, ArrayIs, ArraysAre, or_scalar, shape_of, Along, Refers, ObjectIs, SubscriptIs, LeadsInto, Contents, Reads, Writes}
-use Rattle.verify_logic.specs.Judgements.{Evaluates, Tests, ReadsOr, MayRead, GivesOr, OperatesAt, SignsAt, Subscripts, Converts, either_way}
+use Rattle.verify_logic.specs.States.{Known, Frame, In, just, ValueIs, TreeIs, ReachesAt, Reaches, Ends, Below, Implies, shapes_of, rest_of, ArrayIs, ArraysAre, or_scalar, shape_of, Along, Refers, ObjectIs, SubscriptIs, LeadsInto, Contents, Reads, Writes}
+use Rattle.verify_logic.specs.Judgements.{Evaluates, Tests, ReadsOr, MayRead, OperatesAt, SignsAt, Subscripts, Converts, either_way}
 use Rattle.verify_logic.specs.Places.{OneRow, Subscribes, Designates, Finds, FindsAt, Are, Passes, step_interval, ConvertsOr, Splits, got}
-use Rattle.verify_logic.proofs.Runs.{then_ends, tick_ends, weaker, computed_ends, computed_then, choose_ends, second, first}
+use Rattle.verify_logic.proofs.Runs.{then_ends, tick_ends, weaker, computed_ends, computed_then, second, first}
 use Rattle.verify_logic.proofs.Objects.{below, path_is}
 
 -- what holds of a value and the objects

@@ -1,11 +1,10 @@
 -- What a value that is zero, or is not, tells.
-use Rattle.std.proofs.Common.{◌≡◌, ℕ, zero, suc, ℤ, pos, negsuc, List, arith, subst, sym, refl, ◌⊎◌, inl, inr}
+use Rattle.std.proofs.Common.{◌≡◌, zero, suc, ℤ, pos, negsuc, arith, subst, sym, refl, ◌⊎◌, inl, inr}
 use Rattle.std.proofs.lemmas.Int.{ints}
-use Rattle.std.specs.Prelude.{Option, Some, None, Bool, true, false, ◌<ℤ◌}
+use Rattle.std.specs.Prelude.{Option, None, Bool, true, false, ◌<ℤ◌}
 use Rattle.ctypes.specs.Types.{truth}
 use Rattle.csem.specs.Machine.{State}
 use Rattle.verify_logic.specs.declared.abstract_values.Interval.{Interval}
-use Rattle.verify_logic.specs.declared.abstract_values.AbsValue.{AbsValue}
 use Rattle.verify_logic.specs.States.{Known, Frame, In, Reaches}
 use Rattle.verify_logic.specs.Judgements.{either_way}
 use Rattle.verify_logic.specs.Places.{Splits, NonZero, Zero}

@@ -1,18 +1,18 @@
 -- Rules for statements.
-use Rattle.std.proofs.Common.{◌≡◌, ◌⊎◌, inl, inr, ◌<◌, ◌+◌, ◌-◌, ◌++◌, ℕ, zero, suc, ℤ, List, [], ◌∷◌, length, refl, ap, sym, subst, arith, ◌∙◌}
+use Rattle.std.proofs.Common.{◌≡◌, ◌⊎◌, inl, inr, ◌<◌, ◌+◌, ◌-◌, ◌++◌, ℕ, zero, suc, ℤ, List, [], ◌∷◌, length, refl, sym, subst, arith}
 use Rattle.std.proofs.lemmas.Bool.Decides.{nat_tests}
-use Rattle.std.specs.Prelude.{Option, Some, None, Bool, true, false, nat_lt}
+use Rattle.std.specs.Prelude.{Option, Some, None, true, false, nat_lt}
 use Rattle.ctypes.specs.declared.types.IntType.{IntType}
 use Rattle.ctypes.specs.Types.{truth, converted}
 use Rattle.typing_spec.specs.Program as typed
 use Rattle.typing_spec.specs.Program.{Value, Statement, Statements}
-use Rattle.csem.specs.Machine.{State, TicksUsed, Run, Goes, Stops, then_do, choose, tick}
+use Rattle.csem.specs.Machine.{State, Run, Goes, then_do, choose}
 use Rattle.csem.specs.Expressions.{evaluate, evaluate_or}
 use Rattle.csem.specs.Statements.{Flow, Normal, Broken, Continued, Returned, next_after, after_body, after_switch, turns, labels_at, labels_of, label_for, same_value, all_renewed, execute, execute_all, execute_from}
 use Rattle.csem.specs.Meaning.{calling}
 use Rattle.verify_logic.specs.declared.abstract_values.Interval.{Interval}
 use Rattle.verify_logic.specs.declared.abstract_values.AbsValue.{AbsValue}
-use Rattle.verify_logic.specs.States.{Known, Frame, In, ValueIs, Reaches, Ends, Implies, Entails}
+use Rattle.verify_logic.specs.States.{Known, Frame, In, Reaches, Ends, Implies}
 use Rattle.verify_logic.specs.Judgements.{Evaluates, Tests, Converts, either_way}
 use Rattle.verify_logic.specs.Statements.{Ways, Leaves, Executes, ExecutesAll, Continues, Follows, Enters, MayJump, has_default, Renews, WaysImply, only_normal, TestsOr, EvaluatesOr}
 use Rattle.verify_logic.proofs.Runs.{then_ends, tick_ends, weaker, choose_ends, second}

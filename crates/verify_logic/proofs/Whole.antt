@@ -1,17 +1,17 @@
 -- From main's body to the run (5.1.2.2.1), and more places.
-use Rattle.std.proofs.Common.{◌≡◌, ℕ, zero, suc, ◌+◌, ◌<◌, ℤ, pos, List, [], ◌∷◌, ◌++◌, map, drop, length, refl, ap, sym, subst, ◌∙◌, arith}
-use Rattle.std.specs.Prelude.{Option, Some, None, nat_eq, slice_get, Contains, ◌*◌}
+use Rattle.std.proofs.Common.{◌≡◌, ℕ, zero, suc, ◌<◌, ℤ, pos, List, [], ◌∷◌, ◌++◌, map, drop, length, refl, ap, sym, subst, arith}
+use Rattle.std.specs.Prelude.{Option, Some, nat_eq, slice_get, Contains}
 use Rattle.srcset.specs.declared.refusal.Pos.{Pos}
-use Rattle.typing_spec.specs.Types.{ObjectType, elements_in}
+use Rattle.typing_spec.specs.Types.{elements_in}
 use Rattle.typing_spec.specs.Program.{Function, Static, Program}
-use Rattle.csem.specs.Store.{Tree, Element, Array, Row, no_parts, and_part, parts, Store, first_or_zero, row_of, laid_out, static_object, characters_of, literal_object, first_store}
+use Rattle.csem.specs.Store.{Tree, parts, Store, first_or_zero, row_of, laid_out, static_object, characters_of, literal_object, first_store}
 use Rattle.csem.specs.Machine.{State, Ended, Undefined, TicksUsed, Run, Goes, Stops, then_do}
 use Rattle.csem.specs.Statements.{Flow}
 use Rattle.csem.specs.Meaning.{enter, leave, value_left, body_of, call_defined, calling, start, end_with, ending_of}
 use Rattle.verify_logic.specs.declared.abstract_values.Interval.{Interval}
 use Rattle.verify_logic.specs.declared.abstract_values.AbsValue.{AbsValue}
 use Rattle.verify_logic.specs.declared.abstract_values.ArrayArgument.{ArrayArgument}
-use Rattle.verify_logic.specs.States.{Known, Summary, In, ValueIs, EachPart, TreeIs, ObjectsAre, ArraysAre, AreBytes, lengths_in, CoversState, Covers, body_and_value, IsSound, AreSound, Ends}
+use Rattle.verify_logic.specs.States.{Known, Summary, In, ValueIs, EachPart, TreeIs, ObjectsAre, ArraysAre, lengths_in, CoversState, body_and_value, IsSound, AreSound, Ends}
 use Rattle.verify_logic.specs.Calls.{Entered, Begins, EachIn, with_own}
 use Rattle.verify_logic.specs.Whole.{UndefinedOnlyAt, IsDefinedBut, NotUndefined, IsDefined}
 use Rattle.verify_logic.proofs.Calls.{both_are, as_long, new_objects}

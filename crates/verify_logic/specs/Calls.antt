@@ -1,8 +1,8 @@
 -- What is shown of calls of functions (ISO/IEC 9899:2011 6.5.2.2, 6.9.1).
-use Rattle.std.specs.Prelude.{◌≡◌, ℕ, ℤ, pos, List, [], ◌∷◌, ◌++◌, take, length, Option, Some, None, Bool, true, false, Contains, nat_eq, slice_get}
+use Rattle.std.specs.Prelude.{◌≡◌, ℕ, ℤ, pos, List, [], ◌∷◌, ◌++◌, take, Option, Some, None, Bool, true, false, Contains, nat_eq}
 use Rattle.srcset.specs.declared.refusal.Pos.{Pos}
 use Rattle.typing_spec.specs.Types.{ObjectType}
-use Rattle.typing_spec.specs.Program.{Function, Program}
+use Rattle.typing_spec.specs.Program.{Program}
 use Rattle.csem.specs.Store.{Store, first_store}
 use Rattle.csem.specs.Machine.{State}
 use Rattle.csem.specs.Expressions.{Passed}

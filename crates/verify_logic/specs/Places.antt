@@ -1,15 +1,14 @@
 -- What is shown of places and of the parts of expressions.
-use Rattle.std.specs.Prelude.{◌≡◌, ◌≤◌, ℕ, ℤ, pos, negsuc, List, [], ◌∷◌, length, Option, Some, None, true, false}
+use Rattle.std.specs.Prelude.{◌≡◌, ℕ, ℤ, pos, negsuc, List, [], ◌∷◌, length, Option, Some, None, true, false}
 use Rattle.ctypes.specs.declared.types.IntType.{IntType}
 use Rattle.ctypes.specs.Types.{truth}
 use Rattle.typing_spec.specs.Program as typed
 use Rattle.typing_spec.specs.Program.{Moment, Storage, Place, Arguments}
-use Rattle.csem.specs.Store.{Tree, Element, Reference}
+use Rattle.csem.specs.Store.{Tree, Element}
 use Rattle.csem.specs.Machine.{State, designated}
 use Rattle.csem.specs.Expressions.{Passed, find, pass, converted_or_none}
 use Rattle.csem.specs.Meaning.{numbers_of, arrays_of, calling}
 use Rattle.verify_logic.specs.declared.abstract_values.Interval.{Interval}
-use Rattle.verify_logic.specs.declared.abstract_values.AbsValue.{AbsValue}
 use Rattle.verify_logic.specs.declared.abstract_values.ArrayArgument.{ArrayArgument}
 use Rattle.verify_logic.specs.States.{Known, Frame, In, ArraysAre, Reaches, Ends, Refers, SubscriptIs, shapes_of, rest_of}
 use Rattle.verify_logic.specs.Judgements.{either_way}

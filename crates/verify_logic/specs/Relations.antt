@@ -1,5 +1,5 @@
 -- What comparisons tell of their operands (ISO/IEC 9899:2011 6.5.8, 6.5.9).
-use Rattle.std.specs.Prelude.{◌≡◌, ℕ, ℤ, ◌<ℤ◌, ◌≤ℤ◌, Bool, true, false, Option, Some, List, slice_get, Result, Ok, Err}
+use Rattle.std.specs.Prelude.{◌≡◌, ℕ, ℤ, ◌<ℤ◌, ◌≤ℤ◌, Bool, true, false, Option, Some, slice_get, Result, Ok, Err}
 use Rattle.ctypes.specs.declared.types.IntType.{IntType}
 use Rattle.ctypes.specs.declared.operators.BinOp.{BinOp}
 use Rattle.ctypes.specs.declared.operators.Undef.{Undef}
@@ -12,7 +12,6 @@ use Rattle.csem.specs.Machine.{State}
 use Rattle.csem.specs.Expressions.{evaluate}
 use Rattle.csem.specs.Meaning.{calling}
 use Rattle.verify_logic.specs.declared.abstract_values.Interval.{Interval}
-use Rattle.verify_logic.specs.declared.abstract_values.AbsValue.{AbsValue}
 use Rattle.verify_logic.specs.declared.operands.Operand.{Operand}
 use Rattle.verify_logic.specs.declared.operands.Operand.TheVariants.{Number, Object}
 use Rattle.verify_logic.specs.declared.operands.Relation.{Relation}

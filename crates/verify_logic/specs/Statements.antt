@@ -1,12 +1,11 @@
 -- What is shown of statements.
-use Rattle.std.specs.Prelude.{◌≡◌, ℕ, ℤ, List, [], ◌∷◌, map, length, Option, Some, None, Bool, true, false, ◌<◌, slice_get}
-use Rattle.typing_spec.specs.Types.{ObjectType}
-use Rattle.typing_spec.specs.Program.{Value, Initialiser, Initialisers, Statement, Statements}
+use Rattle.std.specs.Prelude.{◌≡◌, ℕ, ℤ, List, [], ◌∷◌, length, Option, Some, None, Bool, true, false, ◌<◌}
+use Rattle.typing_spec.specs.Program.{Value, Initialiser, Statement, Statements}
 use Rattle.ctypes.specs.declared.types.IntType.{IntType}
 use Rattle.csem.specs.Store.{Reference}
 use Rattle.csem.specs.Machine.{State}
 use Rattle.csem.specs.Expressions.{evaluate_or}
-use Rattle.csem.specs.Statements.{Flow, Normal, Broken, Continued, Returned, new_object, renewed, all_renewed, initialise, labels_of, execute, execute_all, execute_from}
+use Rattle.csem.specs.Statements.{Flow, Normal, Broken, Continued, Returned, renewed, all_renewed, initialise, labels_of, execute, execute_all, execute_from}
 use Rattle.csem.specs.Meaning.{calling}
 use Rattle.verify_logic.specs.declared.abstract_values.AbsValue.{AbsValue}
 use Rattle.verify_logic.specs.States.{Known, Frame, ValueIs, Reaches, Ends, Implies, Refers}

@@ -16,11 +16,13 @@ import tempfile
 HERE = os.path.dirname(os.path.abspath(__file__))
 sys.path.insert(0, os.path.join(HERE, '..', 'library'))
 import sources  # noqa: E402
-from defined import DEFINED  # noqa: E402
+from defined import DEFINED, EDITS  # noqa: E402
 
 CC = os.path.abspath(sys.argv[1])
 SOME = int(os.environ.get('SOME', '300'))
 MOST = '3000000'
+# Enough for each program of the documents and of bench.
+LONG = '400000000'
 passed = failed = 0
 
 # The line of an act that some input meets.
@@ -57,6 +59,17 @@ UNDEFINED = {
     'a call that gives no value': ('int rv_getbyte(void);\nint f(int n) { if (n > 0) return 1; }\nint main(void) {\n  return f(rv_getbyte()); }', 4),
     'one element of an array': ('int main(void) { int a[3]; a[0] = 1;\n  return a[1]; }', 2),
     'an element that a loop left out': ('int main(void) { int a[3]; for (int i = 0; i < 2; i++) a[i] = i;\n  return a[2]; }', 2),
+    'the element between two': ('int main(void) { int a[3]; a[0] = 1; a[2] = 5;\n  return a[1]; }', 2),
+    'an element that may have changed': ('int rv_getbyte(void);\nint main(void) { int a[2] = { 5, 6 }; a[rv_getbyte() & 1] = 0;\n  return 10 / a[1]; }', 3),
+    'an element that one way changes': ('int rv_getbyte(void);\nint main(void) { int a[2] = { 1, 1 }; if (rv_getbyte() < 0) a[0] = 0;\n  return 20 / a[0]; }', 3),
+    'an element that a call changes': ('static int a[2] = { 1, 1 };\nvoid f(int b[]) { b[1] = 0; }\nint main(void) { f(a);\n  return 1 / a[1]; }', 4),
+    'an element by two names': ('static int a[2] = { 1, 1 };\nint f(int b[]) { a[1] = 0;\n  return 1 / b[1]; }\nint main(void) { return f(a); }', 3),
+    'an array that begins again': ('int main(void) { for (int i = 0; i < 2; i++) { int a[2]; if (i == 0) a[0] = 1;\n  if (i == 1) return a[0]; } return 0; }', 2),
+    'a text without its end': ('int main(void) { char s[3] = "abc"; int i = 0;\n  while (s[i] != 0) i++;\n  return i; }', 2),
+    'a list in its order': ('int main(void) { int x = 1, a[2] = { x = 0, x };\n  return 1 / a[1]; }', 2),
+    'an element that its own list reads': ('int main(void) { int a[2] = { 1,\n  a[1] };\n  return a[0]; }', 2),
+    'an element that many turns change': ('int main(void) { int a[2] = { 1, 2 }; for (unsigned i = 0; i < 100000; i++) a[0] = 0;\n  return 1 / a[0]; }', 2),
+    'the zero behind a static list': ('static int a[3] = { 2 };\nint main(void) {\n  return 10 / a[2]; }', 3),
     'the rest of a list': ('int rv_getbyte(void);\nint main(void) { int a[4] = { 1, 2 };\n  return 10 / a[rv_getbyte() & 3]; }', 3),
     'the end of a text': ('int main(void) { char s[4] = "abc";\n  return 10 / s[3]; }', 2),
     'a case that falls through': ('int rv_getbyte(void);\nint main(void) { int z = 1; switch (rv_getbyte()) { case 65: z = 0; default:\n  return 1 / z; } }', 3),
@@ -145,8 +158,13 @@ def nest(depth):
     return 'int main(void) { unsigned s = 0; %s s++; return s & 1; }' % ' '.join('for (int i%d = 0; i%d < 2; i%d++)' % (n, n, n) for n in range(depth))
 
 
+CALCULATIONS = ('', '7', '1+2*3', '(1+2)*3-4/2', '2*(3-(4+5))*2', '100/7/2', '10-20', '7-3-2', '(10-20)/3', '12*(3)+1', '8/0+1', '((((5))))-6')
+# A program for gcc, and one that is not found defined (VERIFY says so).
+NOT_SHOWN = ('library.c', 'console.c')
+
+
 def documented():
-    """The ten programs of docs/LANGUAGE.md and the kernels of bench: each as (name, its files)."""
+    """The ten programs of docs/LANGUAGE.md, the kernels of bench and the examples: each as (name, its files)."""
     root = os.path.join(HERE, '..', '..', '..')
     with open(os.path.join(root, 'docs', 'LANGUAGE.md'), encoding='utf-8') as file:
         text = file.read()
@@ -155,25 +173,64 @@ def documented():
         if name.endswith('.c'):
             used = [(other, files[other].encode()) for other in files if '"%s"' % other in source]
             yield 'LANGUAGE/' + name, [(name, source.encode())] + used
-    folder = os.path.join(root, 'bench', 'kernels')
-    for name in sorted(os.listdir(folder)):
-        with open(os.path.join(folder, name), 'rb') as file:
-            yield 'bench/' + name, [(name, file.read())]
+    for place, folder in (('bench/', 'bench/kernels'), ('examples/', 'examples')):
+        for name in sorted(os.listdir(os.path.join(root, folder))):
+            if name.endswith('.c') and name not in NOT_SHOWN:
+                with open(os.path.join(root, folder, name), 'rb') as file:
+                    yield place + name, [(name, file.read())]
 
 
-# They pass arrays, and no call of theirs is deep.
-PASS_ARRAYS = ['LANGUAGE/sum.c', 'LANGUAGE/sort.c', 'LANGUAGE/records.c', 'bench/search.c']
+def edited(name, source):
+    """The source after the edits that docs/VERIFY.md shows, each of one place."""
+    for old, new in EDITS.get(name, []):
+        assert source.count(old) == 1, (name, old)
+        source = source.replace(old, new)
+    return source
+
+
+def shown(text):
+    """The lines of an edit, without what leads and ends them."""
+    return [line.strip() for line in text.split('\n') if line.strip() not in ('', '{', '}')]
+
+
+def calculators():
+    """The calculator without recursion says what that of the documents says."""
+    root = os.path.join(HERE, '..', '..', '..')
+    files = dict(documented())['LANGUAGE/calculator.c']
+    with open(os.path.join(root, 'examples', 'verify', 'calculator_shown.c'), 'rb') as file:
+        other = [('calculator.c', file.read())]
+    for line in CALCULATIONS:
+        check('calculated: ' + line, interpreted(files, line.encode() + b'\n') == interpreted(other, line.encode() + b'\n'), line)
 
 
 def documents():
-    said = {name: verified(files) for name, files in documented()}
-    for name in PASS_ARRAYS:
-        status, out, err = said[name]
-        check('followed: ' + name, status in (0, 3) and err == '' and 'not followed' not in out, status, out, err)
-    check('defined: LANGUAGE/capitals.c', said['LANGUAGE/capitals.c'][0] == 0, said['LANGUAGE/capitals.c'])
-    defined = [name for name in said if said[name][0] == 0]
-    stopped = [name for name in said if 'not followed' in said[name][1]]
-    print('%d programs of the documents and of bench: %d defined on every input (%s), %d not followed (%s)' % (len(said), len(defined), ', '.join(defined), len(stopped), ', '.join(stopped)))
+    """Each program of the documents and of bench is defined on every input as it stands, or after its edit, which stands in VERIFY."""
+    root = os.path.join(HERE, '..', '..', '..')
+    with open(os.path.join(root, 'docs', 'VERIFY.md'), encoding='utf-8') as file:
+        page = file.read()
+    as_they_stand = []
+    for name, files in documented():
+        status, out, err = verified(files)
+        if name not in EDITS:
+            if name != 'LANGUAGE/calculator.c':
+                check('defined as it stands: ' + name, status == 0 and err == '', status, out, err)
+                as_they_stand.append(name)
+            continue
+        check('an edit that is needed: ' + name, status == 3 and err == '', status, out, err)
+        first = edited(name, files[0][1].decode()).encode()
+        status, out, err = verified([(files[0][0], first)] + files[1:])
+        check('defined after its edit: ' + name, status == 0 and err == '', status, out, err)
+        for given in (b'', b'12 7\n', b'ab c'):
+            both = [interpreted(all_files, given, LONG) for all_files in (files, [(files[0][0], first)] + files[1:])]
+            check('the same after its edit: %s, %r' % (name, given), both[0] == both[1] and both[0][0] < 123, both)
+        check('the edit is shown: ' + name, all(line in page for _, new in EDITS[name] for line in shown(new)))
+    for name in sorted(os.listdir(os.path.join(root, 'examples', 'verify'))):
+        if name.endswith('_shown.c'):
+            with open(os.path.join(root, 'examples', 'verify', name), 'rb') as file:
+                status, out, err = verified([(name, file.read())])
+            check('defined: ' + name, status == 0 and err == '', status, out, err)
+    calculators()
+    print('%d of these programs are defined as they stand: %s' % (len(as_they_stand), ', '.join(as_they_stand)))
 
 
 def check(name, holds, *more):
@@ -198,12 +255,12 @@ def verified(files):
         return cc(work, 'verify', *[name for name, _ in files])
 
 
-def interpreted(files, given):
+def interpreted(files, given, most=MOST):
     with tempfile.TemporaryDirectory() as work:
         for name, text in files:
             with open(os.path.join(work, name), 'wb') as file:
                 file.write(text)
-        return cc(work, 'interp', *[name for name, _ in files], '--max', MOST, given=given)
+        return cc(work, 'interp', *[name for name, _ in files], '--max', most, given=given)
 
 
 def is_sound(files, given):

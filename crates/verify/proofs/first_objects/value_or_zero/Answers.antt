@@ -1,4 +1,4 @@
-use Rattle.std.proofs.Common.{◌≡◌, ◌∙◌, ℤ, pos, get_or, to_z, of_z, w64, rules}
+use Rattle.std.proofs.Common.{◌≡◌, ◌∙◌, pos, get_or, to_z, of_z, w64, rules}
 use Rattle.std.proofs.Math.Facts.{to_z-of_z}
 use Rattle.verify.proofs.FirstFacts.{zero_past, value_there}
 use Rattle.verify.proofs.first_objects.value_or_zero.Goals as goal
