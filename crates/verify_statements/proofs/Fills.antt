@@ -1,24 +1,23 @@
 -- First values of objects of a block, once each part is shown.
 use Rattle.std.proofs.Common.{◌≡◌, ◌≤◌, ◌<◌, ◌+◌, ◌-◌, ◌++◌, ℕ, zero, suc, ℤ, pos, List, [], ◌∷◌, map, length, refl, sym, ap, subst, ◌∙◌, arith, add-one}
-use Rattle.std.specs.Prelude.{Option, Some, None, Bool, true, false, slice_get, ◌*◌}
+use Rattle.std.specs.Prelude.{Option, Some, None, Bool, true, slice_get, ◌*◌}
 use Rattle.ctypes.specs.declared.types.IntType.{IntType}
 use Rattle.ctypes.specs.Types.{converted}
 use Rattle.ctypes.proofs.Uses.{converted_fits}
 use Rattle.typing_spec.specs.Types.{ObjectType, elements_in}
 use Rattle.typing_spec.specs.Program as typed
 use Rattle.typing_spec.specs.Program.{Value, Initialiser, Initialisers}
-use Rattle.csem.specs.Store.{Tree, Element, Array, Row, no_parts, and_part, parts, part_of, part_in, at_path, change_part, change_in, put_at, put_in, put, Store, Reference, whole, into, repeated, filled}
-use Rattle.csem.specs.Machine.{State, Ended, Undefined, TicksUsed, Run, Goes, Stops, then_do, tick, ticks, stored}
+use Rattle.csem.specs.Store.{Tree, Element, Array, Row, no_parts, and_part, parts, part_of, at_path, change_part, change_in, put_at, put_in, put, Store, Reference, whole, into, repeated, filled}
+use Rattle.csem.specs.Machine.{State, Ended, Undefined, TicksUsed, Run, Goes, Stops, then_do, ticks, stored}
 use Rattle.csem.specs.Expressions.{evaluate}
-use Rattle.csem.specs.Statements.{zeros, clear, characters, text_or_none, initialise, initialise_all}
+use Rattle.csem.specs.Statements.{zeros, characters, text_or_none, initialise, initialise_all}
 use Rattle.csem.specs.Meaning.{calling}
 use Rattle.verify_logic.specs.declared.abstract_values.Interval.{Interval}
 use Rattle.verify_logic.specs.declared.abstract_values.AbsValue.{AbsValue}
-use Rattle.verify_logic.specs.States.{Known, Frame, In, just, Below, range_of, EachPart, TreeIs, or_scalar, shape_of, Holds, Reaches, Ends, Entails, Implies, Along, Refers, ObjectIs, Contents, Replaces}
+use Rattle.verify_logic.specs.States.{Known, Frame, In, just, Below, range_of, EachPart, TreeIs, shape_of, Holds, Reaches, Ends, Entails, Implies, Along, Refers, ObjectIs, Contents, Replaces}
 use Rattle.verify_logic.specs.Judgements.{Evaluates, Converts}
 use Rattle.verify_logic.specs.Statements.{Initialises}
 use Rattle.verify_logic.proofs.Runs.{then_ends, tick_ends, weaker}
-use Rattle.verify_logic.proofs.Calls.{ticks_end}
 use Rattle.verify_logic.proofs.Rules.{into_refers}
 use Rattle.verify_logic.proofs.Objects.{below, path_is, put_is, tree_entails, entails_rule}
 use Rattle.verify_statements.specs.Quiet.{quiet}

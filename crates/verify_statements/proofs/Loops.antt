@@ -1,14 +1,13 @@
 -- Loops, once each part is shown.
-use Rattle.std.proofs.Common.{◌≡◌, ℕ, zero, suc, ℤ, List, sym, subst}
+use Rattle.std.proofs.Common.{◌≡◌, ℕ, zero, suc, ℤ, subst}
 use Rattle.std.specs.Prelude.{Option, Some, None}
 use Rattle.typing_spec.specs.Program as typed
 use Rattle.typing_spec.specs.Program.{Value, Statement, Statements}
 use Rattle.ctypes.specs.Types.{truth}
-use Rattle.csem.specs.Machine.{State, Run, Goes, then_do, tick}
+use Rattle.csem.specs.Machine.{State, Run, Goes, then_do}
 use Rattle.csem.specs.Expressions.{evaluate, evaluate_or}
 use Rattle.csem.specs.Statements.{Flow, Normal, Broken, Continued, Returned, after_body, turns, execute, execute_all}
 use Rattle.csem.specs.Meaning.{calling}
-use Rattle.verify_logic.specs.declared.abstract_values.AbsValue.{AbsValue}
 use Rattle.verify_logic.specs.States.{Known, Frame, ValueIs, Reaches, Ends, Implies}
 use Rattle.verify_logic.specs.Judgements.{Tests, either_way}
 use Rattle.verify_logic.specs.Statements.{Ways, Leaves, Executes, ExecutesAll, WaysImply, TestsOr, EvaluatesOr}

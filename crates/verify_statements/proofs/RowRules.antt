@@ -1,7 +1,7 @@
 -- First values of arrays of one row, once each element is shown.
-use Rattle.std.proofs.Common.{◌≡◌, ◌≤◌, ◌<◌, ◌+◌, ◌-◌, ◌++◌, ℕ, zero, suc, ℤ, pos, ◌≤ℤ◌, List, [], ◌∷◌, map, length, get_or, refl, sym, ap, subst, ◌∙◌, arith, add-one}
+use Rattle.std.proofs.Common.{◌≡◌, ◌≤◌, ◌<◌, ◌+◌, ◌-◌, ◌++◌, ℕ, zero, suc, ℤ, pos, List, [], ◌∷◌, map, length, refl, sym, ap, subst, ◌∙◌, arith, add-one}
 use Rattle.std.proofs.lemmas.Int.{ints}
-use Rattle.std.specs.Prelude.{◌-ℤ◌, Option, Some, None, true, false, slice_get, slice_set, ◌*◌}
+use Rattle.std.specs.Prelude.{◌-ℤ◌, Option, Some, None, true, slice_get, slice_set, ◌*◌}
 use Rattle.std.specs.declared.vec.Vec.{Vec}
 use Rattle.std.specs.declared.alloc.Global.{Global}
 use Rattle.ctypes.specs.declared.types.IntType.{IntType}
@@ -12,14 +12,13 @@ use Rattle.typing_spec.specs.Program.{Value, Initialiser, Initialisers}
 use Rattle.typed_ast.specs.declared.initialisers.Initialiser as held
 use Rattle.typed_ast.specs.View.{initialiser_of, initialisers_of}
 use Rattle.csem.specs.Store.{Tree, Element, Array, Row, no_parts, and_part, parts, part_of, value_of, at_path, Store, Reference, into}
-use Rattle.csem.specs.Machine.{State, Run, Goes, then_do, tick, ticks, stored}
-use Rattle.csem.specs.Expressions.{evaluate}
+use Rattle.csem.specs.Machine.{State, Goes, then_do, tick, ticks, stored}
 use Rattle.csem.specs.Statements.{zeros, characters, text_or_none, initialise, initialise_all}
 use Rattle.csem.specs.Meaning.{calling}
 use Rattle.verify_logic.specs.declared.abstract_values.Interval.{Interval}
 use Rattle.verify_logic.specs.declared.abstract_values.AbsValue.{AbsValue}
 use Rattle.verify_logic.specs.declared.abstract_values.Fact.{Fact}
-use Rattle.verify_logic.specs.States.{Known, Frame, In, just, ValueIs, HasValueIn, EachPart, TreeIs, ObjectIs, ObjectsAre, or_scalar, shape_of, shapes_of, Reaches, Ends, Along, Refers, SubscriptIs, FactsAre, ReadsAll, Writes}
+use Rattle.verify_logic.specs.States.{Known, Frame, In, just, HasValueIn, EachPart, TreeIs, ObjectIs, ObjectsAre, or_scalar, shape_of, shapes_of, Reaches, Ends, Along, SubscriptIs, FactsAre, ReadsAll, Writes}
 use Rattle.verify_logic.specs.Judgements.{Evaluates, Converts}
 use Rattle.verify_logic.specs.Statements.{Ways, Executes, RenewsOne, Initialises, only_normal}
 use Rattle.verify_logic.proofs.Runs.{then_ends, tick_ends, weaker}

@@ -1,5 +1,5 @@
 -- Rules as the functions have them.
-use Rattle.std.proofs.Common.{◌≡◌, ◌≤◌, ◌<◌, ◌+◌, ◌-◌, ℕ, zero, suc, ℤ, List, [], ◌∷◌, map, length, refl, ap, sym, subst, ◌∙◌, arith}
+use Rattle.std.proofs.Common.{◌≡◌, ◌≤◌, ◌<◌, ◌+◌, ℕ, zero, suc, List, [], ◌∷◌, map, length, refl, sym, subst, ◌∙◌, arith}
 use Rattle.std.specs.Prelude.{Option, Some, None, true, false, IfOk, IfSome, slice_get, Result, Ok, Err}
 use Rattle.ctypes.specs.declared.types.IntType.{IntType}
 use Rattle.typing_spec.specs.Types.{ObjectType}
@@ -9,18 +9,17 @@ use Rattle.typed_ast.specs.declared.types.ObjectType as held_type
 use Rattle.typed_ast.specs.declared.statements.Statement as held
 use Rattle.typed_ast.specs.declared.expressions.Value as held_value
 use Rattle.typed_ast.specs.View.{object_type_of, option_value, statement_of, statements_of, value_of}
-use Rattle.csem.specs.Machine.{State}
 use Rattle.verify_logic.specs.declared.abstract_values.Interval.{Interval}
 use Rattle.verify_logic.specs.declared.abstract_values.AbsValue.{AbsValue}
-use Rattle.verify_logic.specs.States.{Known, Frame, ValueIs, Reaches, Implies, Entails, shape_of, Writes, Replaces}
+use Rattle.verify_logic.specs.States.{Known, Frame, Reaches, Implies, Entails, shape_of, Writes, Replaces}
 use Rattle.verify_logic.specs.Judgements.{Evaluates, Tests, Converts}
 use Rattle.verify_logic.specs.Statements.{Ways, Executes, ExecutesAll, Continues, Follows, WaysImply, Renews, RenewsOne, Initialises, EvaluatesOr, TestsOr, only_normal}
-use Rattle.verify_logic.proofs.StatementRules.{executes_more, begins, ended, followed, follows_rule, block_rule, branch_rule, branches_rule, with_normal, only_returned, return_value_rule, evaluates_some, evaluates_none, tests_none}
+use Rattle.verify_logic.proofs.StatementRules.{begins, ended, followed, follows_rule, block_rule, branches_rule, with_normal, only_returned, return_value_rule, evaluates_some, evaluates_none, tests_none}
 use Rattle.verify_logic.proofs.Runs.{weaker}
 use Rattle.verify_logic.proofs.Objects.{implies_same}
 use Rattle.csem.specs.Expressions.{evaluate_or}
 use Rattle.csem.specs.Meaning.{calling}
-use Rattle.verify_logic.proofs.Begun.{define_rule, one_value_rule, shape_at, renew_rule, none_renewed, more_renewed}
+use Rattle.verify_logic.proofs.Begun.{define_rule, one_value_rule, shape_at, renew_rule}
 use Rattle.verify_expressions.specs.declared.stop.Stop.{Stop}
 use Rattle.verify_expressions.specs.declared.state.AbsState.{AbsState}
 use Rattle.verify_expressions.specs.declared.conditions.Tested.{Tested}

@@ -8,7 +8,6 @@ use Rattle.typed_ast.specs.declared.statements.Statement as held
 use Rattle.typed_ast.specs.View.{statement_of, statements_of}
 use Rattle.csem.specs.Statements.{labels_at, labels_of}
 use Rattle.verify_logic.specs.declared.abstract_values.Interval.{Interval}
-use Rattle.verify_logic.specs.declared.abstract_values.AbsValue.{AbsValue}
 use Rattle.verify_logic.specs.States.{Known, Frame, Implies}
 use Rattle.verify_logic.specs.Judgements.{Evaluates}
 use Rattle.verify_logic.specs.Statements.{Ways, Executes, Enters, Follows, Renews, has_default}

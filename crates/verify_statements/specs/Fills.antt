@@ -1,5 +1,5 @@
 -- What is shown of first values of objects of a block, elements and rows among them (6.7.9).
-use Rattle.std.specs.Prelude.{◌≡◌, ℕ, zero, suc, ◌+◌, List, [], ◌∷◌, Option, true}
+use Rattle.std.specs.Prelude.{◌≡◌, ℕ, zero, suc, ◌+◌, List, ◌∷◌, Option, true}
 use Rattle.ctypes.specs.declared.types.IntType.{IntType}
 use Rattle.typing_spec.specs.Program.{Initialiser, Initialisers, no_initialisers}
 use Rattle.csem.specs.Store.{Tree, Array, Row, no_parts, and_part, parts, Store, Reference, put}
@@ -8,7 +8,7 @@ use Rattle.csem.specs.Statements.{initialise, initialise_all}
 use Rattle.csem.specs.Meaning.{calling}
 use Rattle.verify_logic.specs.declared.abstract_values.Interval.{Interval}
 use Rattle.verify_logic.specs.declared.abstract_values.AbsValue.{AbsValue}
-use Rattle.verify_logic.specs.States.{Known, Frame, EachPart, TreeIs, Reaches, Ends, Entails, Refers, Contents, Replaces}
+use Rattle.verify_logic.specs.States.{Known, Frame, EachPart, TreeIs, Reaches, Ends, Refers, Contents, Replaces}
 
 -- where nothing is said of object x but that its elements are such values
 pub record Takes (o : Option Known) (x : ℕ) (k : AbsValue) : Type 0 where

@@ -1,11 +1,10 @@
 -- What is shown of loops (6.8.5).
-use Rattle.std.specs.Prelude.{ℕ, ℤ, List, Option}
+use Rattle.std.specs.Prelude.{ℕ, ℤ, Option}
 use Rattle.typing_spec.specs.Program.{Value, Statement}
 use Rattle.csem.specs.Machine.{State}
 use Rattle.csem.specs.Expressions.{evaluate_or}
 use Rattle.csem.specs.Statements.{execute, turns}
 use Rattle.csem.specs.Meaning.{calling}
-use Rattle.verify_logic.specs.declared.abstract_values.AbsValue.{AbsValue}
 use Rattle.verify_logic.specs.States.{Known, Frame, ValueIs, Reaches, Ends, Implies}
 use Rattle.verify_logic.specs.Statements.{Ways, Leaves}
 

@@ -1,5 +1,5 @@
 -- What is shown of first values of arrays of one row, element by element (6.7.9p14, p17, p21).
-use Rattle.std.specs.Prelude.{◌≡◌, ℕ, zero, suc, ◌+◌, ◌<◌, List, [], ◌∷◌, Option}
+use Rattle.std.specs.Prelude.{◌≡◌, ℕ, ◌+◌, ◌<◌, List, [], ◌∷◌, Option}
 use Rattle.ctypes.specs.declared.types.IntType.{IntType}
 use Rattle.typing_spec.specs.Program.{Initialiser, Initialisers}
 use Rattle.csem.specs.Store.{Reference, into}

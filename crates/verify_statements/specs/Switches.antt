@@ -1,8 +1,7 @@
 -- What is shown of a switch (6.8.1, 6.8.4.2).
-use Rattle.std.specs.Prelude.{ℕ, List, Option, Bool, true, false}
+use Rattle.std.specs.Prelude.{Option, Bool, true, false}
 use Rattle.typing_spec.specs.Program as typed
 use Rattle.typing_spec.specs.Program.{Statement, Statements}
-use Rattle.verify_logic.specs.declared.abstract_values.AbsValue.{AbsValue}
 use Rattle.verify_logic.specs.States.{Known, Frame, Implies}
 use Rattle.verify_logic.specs.Statements.{Ways, Enters, Follows}
 

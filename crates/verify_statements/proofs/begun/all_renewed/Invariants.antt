@@ -1,6 +1,5 @@
-use Rattle.std.proofs.Common.{List, Option}
+use Rattle.std.proofs.Common.{Option}
 use Rattle.verify_logic.specs.States.{Known}
-use Rattle.verify_logic.specs.declared.abstract_values.AbsValue.{AbsValue}
 use Rattle.verify_logic.specs.Statements.{Renews}
 use Rattle.verify_expressions.specs.Views.{frame_of, state_of}
 use Rattle.verify_statements.proofs.begun.all_renewed.Given as goal
