@@ -12,6 +12,9 @@ use verify_logic::{Fact, Interval};
 /// Of how many elements of an array something may be known, one by one.
 pub const FOLLOWED_ELEMENTS: u32 = 64;
 
+/// The subscript at which reading has passed the last of them.
+const PAST_FOLLOWED: u32 = FOLLOWED_ELEMENTS + 1;
+
 /// Of how many elements in all.
 const MOST_FACTS: usize = 1024;
 
@@ -361,7 +364,7 @@ pub fn elements_read(facts: &[Fact], x: usize, j: Interval) -> Option<Interval>
     };
     let mut all = nothing();
     let mut near = 0;
-    for n in low..FOLLOWED_ELEMENTS {
+    for n in low..PAST_FOLLOWED {
         let past = is_past(n, j);
         if past {
             return Some(all);
