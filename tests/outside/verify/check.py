@@ -159,8 +159,13 @@ def nest(depth):
 
 
 CALCULATIONS = ('', '7', '1+2*3', '(1+2)*3-4/2', '2*(3-(4+5))*2', '100/7/2', '10-20', '7-3-2', '(10-20)/3', '12*(3)+1', '8/0+1', '((((5))))-6')
-# A program for gcc, and one that is not found defined (VERIFY says so).
-NOT_SHOWN = ('library.c', 'console.c')
+# A program for gcc.
+NOT_SHOWN = ('library.c',)
+# Programs that are written anew in examples/verify, and lines of input for both.
+ANEW = {
+    'LANGUAGE/calculator.c': CALCULATIONS,
+    'examples/console.c': ('', 'quit 7', 'set 3 5\nadd 3 6\nget 3\nsum\necho hello  you\ncount\nhelp\nfoo\nset 11 2\nset 1\nget\nquit', 'add 0 4294967295\nadd 0 2\nget 0\n\nquitx\nquit 300'),
+}
 
 
 def documented():
@@ -193,14 +198,16 @@ def shown(text):
     return [line.strip() for line in text.split('\n') if line.strip() not in ('', '{', '}')]
 
 
-def calculators():
-    """The calculator without recursion says what that of the documents says."""
+def anew():
+    """What is written anew does what the program of the documents does."""
     root = os.path.join(HERE, '..', '..', '..')
-    files = dict(documented())['LANGUAGE/calculator.c']
-    with open(os.path.join(root, 'examples', 'verify', 'calculator_shown.c'), 'rb') as file:
-        other = [('calculator.c', file.read())]
-    for line in CALCULATIONS:
-        check('calculated: ' + line, interpreted(files, line.encode() + b'\n') == interpreted(other, line.encode() + b'\n'), line)
+    for name, files in documented():
+        if name in ANEW:
+            other = name.split('/')[1].replace('.c', '_shown.c')
+            with open(os.path.join(root, 'examples', 'verify', other), 'rb') as file:
+                files2 = [(files[0][0], file.read())]
+            for line in ANEW[name]:
+                check('anew: %s, %r' % (name, line), interpreted(files, line.encode() + b'\n') == interpreted(files2, line.encode() + b'\n'), line)
 
 
 def documents():
@@ -212,7 +219,7 @@ def documents():
     for name, files in documented():
         status, out, err = verified(files)
         if name not in EDITS:
-            if name != 'LANGUAGE/calculator.c':
+            if name not in ANEW:
                 check('defined as it stands: ' + name, status == 0 and err == '', status, out, err)
                 as_they_stand.append(name)
             continue
@@ -229,7 +236,7 @@ def documents():
             with open(os.path.join(root, 'examples', 'verify', name), 'rb') as file:
                 status, out, err = verified([(name, file.read())])
             check('defined: ' + name, status == 0 and err == '', status, out, err)
-    calculators()
+    anew()
     print('%d of these programs are defined as they stand: %s' % (len(as_they_stand), ', '.join(as_they_stand)))
 
 
@@ -289,6 +296,8 @@ def written():
     for depth in (3, 8, 60):
         status, out, err = verified([('a.c', nest(depth).encode() + b'\n')])
         check('a nest of %d loops' % depth, err == '' and status == 0 and out.startswith('a.c: defined on every input; stack at most ') or depth == 60 and status == 3 and 'not followed' in out, status, out, err)
+    many = ''.join('static char a%d[%d];\n' % (n, n) for n in range(1, 41)) + 'int rv_getbyte(void);\nint main(void) { unsigned n = 0; while (rv_getbyte() >= 0) n++; return n & 1; }\n'
+    check('arrays of forty lengths', verified([('a.c', many.encode())])[0] == 0)
     check('a fault', verified([('a.c', b'int main(void) { return x; }\n')])[0::2] == (1, 'a.c:1: 528 undeclared name\n'))
 
 
