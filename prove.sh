@@ -1,5 +1,5 @@
 #!/bin/sh
-# The gate: `rt ci` proves every crate from nothing, tries the wrong bodies of crates/NAME/must-fail, and runs the programs;
+# The gate: `rt ci` (by tests/rt_ci.py) proves every crate from nothing, tries the wrong bodies of crates/NAME/must-fail, and runs the programs;
 # then the program that this built is compared with release/cc, what tests/edits/TRIED says was tried is compared with this
 # tree, and sh test.sh checks the built program and the documents from outside. The last line counts all. It needs the kit.
 usage='usage: [ALLOW_SKIPPED=1] sh prove.sh, which takes no words'
@@ -49,7 +49,7 @@ if [ -t 2 ]; then
     sh tests/how_far.sh "$logs/ci" &
     teller=$!
 fi
-{ rt ci 2>&1; echo $? >"$logs/ci.status"; } | tee "$logs/ci" | sed -u "s/^/$back/"
+{ python3 tests/rt_ci.py 2>&1; echo $? >"$logs/ci.status"; } | tee "$logs/ci" | sed -u "s/^/$back/"
 if [ -n "$back" ]; then
     kill $teller
     printf '%s' "$back" >&2

@@ -1,0 +1,68 @@
+#!/usr/bin/env python3
+"""rt_ci.py: runs `rt ci` of the kit, where two of its questions about a crate are answered once in each call.
+
+What a crate stands on (`below`), and the sum of all that it is made from (`stamp`), the kit's rt asks of each library of the crate, of
+each library of these, and so on: as often as there are ways down. With the crates of this repository these are 3.3 million, which
+takes hours of one processor. Here each crate is asked once in each such question; the answers are the same. Where the kit's rt has no such
+functions it is run as it is.
+
+It also says how many checks go side by side (RT_JOBS, where that is not set): one a processor, as far as memory holds 4.5 GB for each. By
+the kit's own estimate of memory, two of the upper crates fill 23 GB, and none has been seen to take 5."""
+import importlib.machinery
+import importlib.util
+import os
+import shutil
+import sys
+import threading
+
+
+def asked_once(method):
+    """The method, which within one call from outside runs once for each crate."""
+    state = threading.local()
+
+    def asked(crate):
+        known = getattr(state, 'known', None)
+        if known is None:
+            state.known = {}
+            try:
+                return asked(crate)
+            finally:
+                state.known = None
+        if crate.folder not in known:
+            known[crate.folder] = method(crate)
+        found = known[crate.folder]
+        return list(found) if isinstance(found, list) else found
+
+    return asked
+
+
+def owner(kind, name):
+    """The class that has the method of this name."""
+    return next(it for it in kind.__mro__ if name in vars(it))
+
+
+def lanes():
+    """A check a processor, as far as memory holds them."""
+    with open('/proc/meminfo', encoding='utf-8') as file:
+        free = next((int(line.split()[1]) for line in file if line.startswith('MemAvailable:')), 0)
+    return max(1, min(len(os.sched_getaffinity(0)), free // 4_500_000))
+
+
+def main():
+    os.environ.setdefault('RT_JOBS', str(lanes()))
+    rt = os.path.realpath(shutil.which('rt') or 'rt')
+    loader = importlib.machinery.SourceFileLoader('rt', rt)
+    try:
+        kit = importlib.util.module_from_spec(importlib.util.spec_from_loader('rt', loader))
+        loader.exec_module(kit)
+        for name in ('below', 'stamp'):
+            kind = owner(kit.Crate, name)
+            setattr(kind, name, asked_once(vars(kind)[name]))
+    except (ImportError, AttributeError, StopIteration, SyntaxError):
+        os.execvp('rt', ['rt', 'ci'])
+    sys.argv = [rt, 'ci']
+    return kit.main(['ci'])
+
+
+if __name__ == '__main__':
+    sys.exit(main())
