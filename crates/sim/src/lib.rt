@@ -6,6 +6,7 @@ mod decoded;
 mod laws;
 mod machine;
 mod moves;
+mod places;
 mod registers;
 mod runs;
 mod stretches;
