@@ -16,3 +16,4 @@ pub use laws::{
     runs_stop, ticks_are_steps,
 };
 pub use machine::{Machine, Outcome};
+pub use tick::environment_call;
