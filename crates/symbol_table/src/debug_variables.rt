@@ -101,7 +101,7 @@ fn put_blocks(
     close(entries, &mut open, 0xFFFF_FFFF)
 }
 
-/// The parameters and the blocks of a function.
+/// The parameters, the variables and the blocks of a function.
 pub(crate) fn put_function_variables(
     alloc: Global,
     entries: &mut Vec<u8>,
@@ -114,6 +114,13 @@ pub(crate) fn put_function_variables(
         types,
         PARAMETER,
         variables.parameters.as_slice(),
+    )?;
+    put_variables(
+        alloc,
+        entries,
+        types,
+        VARIABLE,
+        variables.variables.as_slice(),
     )?;
     put_blocks(alloc, entries, types, variables.blocks.as_slice())
 }

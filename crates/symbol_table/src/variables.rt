@@ -39,7 +39,9 @@ pub struct FunctionVariables {
     /// The type of its result; none of a function without one.
     pub result: Option<IntType>,
     pub parameters: Vec<Variable>,
-    /// Those that have variables, each before those within it.
+    /// Those of its body, without those of blocks within it.
+    pub variables: Vec<Variable>,
+    /// The blocks within its body that have variables, each before those within it.
     pub blocks: Vec<Block>,
 }
 
@@ -141,24 +143,39 @@ fn innermost(
     Ok(found)
 }
 
-/// The blocks of a function that have variables.
-fn blocks(
+/// The variables that are in the scope with this number, and in no scope within it.
+fn variables_of(
     alloc: Global,
     function: &typed_ast::Function,
     code: &FunctionCode,
     names: &FunctionNames,
-) -> Result<Vec<Block>, AllocError> {
-    let inner = innermost(alloc, function.objects.len(), code.scopes.as_slice())?;
-    let mut blocks = Vec::new(alloc);
-    for (number, scope) in code.scopes.iter().enumerate() {
-        let mut variables = Vec::new(alloc);
+    inner: &[usize],
+    number: usize,
+) -> Result<Vec<Variable>, AllocError> {
+    let mut variables = Vec::new(alloc);
+    if let Some(scope) = code.scopes.get(number) {
         let end = scope.first.saturating_add(scope.count);
         for object in scope.first..end.min(inner.len()) {
             if inner.get(object).copied() == Some(number.saturating_add(1)) {
                 put_object(alloc, function, code, names, object, &mut variables)?;
             }
         }
-        if !variables.is_empty() {
+    }
+    Ok(variables)
+}
+
+/// Puts the blocks behind the first one, the body, that have variables.
+fn put_blocks(
+    alloc: Global,
+    function: &typed_ast::Function,
+    code: &FunctionCode,
+    names: &FunctionNames,
+    inner: &[usize],
+    blocks: &mut Vec<Block>,
+) -> Result<(), AllocError> {
+    for (number, scope) in code.scopes.iter().enumerate() {
+        let variables = variables_of(alloc, function, code, names, inner, number)?;
+        if number != 0 && !variables.is_empty() {
             blocks.push(Block {
                 start: scope.start,
                 end: scope.end,
@@ -166,7 +183,26 @@ fn blocks(
             })?;
         }
     }
-    Ok(blocks)
+    Ok(())
+}
+
+/// The variables of a function. Its first scope is its body.
+fn found_variables(
+    alloc: Global,
+    function: &typed_ast::Function,
+    code: &FunctionCode,
+    names: &FunctionNames,
+) -> Result<FunctionVariables, AllocError> {
+    let inner = innermost(alloc, function.objects.len(), code.scopes.as_slice())?;
+    let inner = inner.as_slice();
+    let mut blocks = Vec::new(alloc);
+    put_blocks(alloc, function, code, names, inner, &mut blocks)?;
+    Ok(FunctionVariables {
+        result: function.function_type.result,
+        parameters: parameters(alloc, function, code, names)?,
+        variables: variables_of(alloc, function, code, names, inner, 0)?,
+        blocks,
+    })
 }
 
 /// The variables of the function with this number. Where a name is not known, the variable is left out.
@@ -178,14 +214,11 @@ pub(crate) fn function_variables(
     code: &FunctionCode,
 ) -> Result<FunctionVariables, AllocError> {
     match (program.functions.get(number), names.functions.get(number)) {
-        (Some(function), Some(named)) => Ok(FunctionVariables {
-            result: function.function_type.result,
-            parameters: parameters(alloc, function, code, named)?,
-            blocks: blocks(alloc, function, code, named)?,
-        }),
+        (Some(function), Some(named)) => found_variables(alloc, function, code, named),
         _ => Ok(FunctionVariables {
             result: None,
             parameters: Vec::new(alloc),
+            variables: Vec::new(alloc),
             blocks: Vec::new(alloc),
         }),
     }

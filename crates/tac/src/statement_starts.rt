@@ -186,7 +186,7 @@ fn put_statement(
             let value = value_size(e, shape_for(waits_for_objects(e, *first, *count)));
             let tests = plus(plus(next, value), 1);
             let inside = plus(tests, tests_size(all));
-            put_block(scope, found, (*first, *count, at), all, inside)
+            put_block(scope, found, (*first, *count, inside), all, inside)
         }
         Statement::While(_, e, a) => put_loop(scope, found, place, e, a, next),
         Statement::DoWhile(_, a, e) => {
