@@ -10,6 +10,7 @@ It also says how many checks go side by side (RT_JOBS, where that is not set): o
 the kit's own estimate of memory, two of the upper crates fill 23 GB, and none has been seen to take 5."""
 import importlib.machinery
 import importlib.util
+import inspect
 import os
 import shutil
 import sys
@@ -20,7 +21,9 @@ def asked_once(method):
     """The method, which within one call from outside runs once for each crate."""
     state = threading.local()
 
-    def asked(crate):
+    def asked(crate, *more, **named):
+        if more or named:
+            return method(crate, *more, **named)
         known = getattr(state, 'known', None)
         if known is None:
             state.known = {}
@@ -57,7 +60,8 @@ def main():
         loader.exec_module(kit)
         for name in ('below', 'stamp'):
             kind = owner(kit.Crate, name)
-            setattr(kind, name, asked_once(vars(kind)[name]))
+            if inspect.isfunction(vars(kind)[name]):
+                setattr(kind, name, asked_once(vars(kind)[name]))
     except (ImportError, AttributeError, StopIteration, SyntaxError):
         os.execvp('rt', ['rt', 'ci'])
     sys.argv = [rt, 'ci']
