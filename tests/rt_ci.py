@@ -2,8 +2,8 @@
 """rt_ci.py: runs `rt ci` of the kit, where two of its questions about a crate are answered once in each call.
 
 What a crate stands on (`below`), and the sum of all that it is made from (`stamp`), the kit's rt asks of each library of the crate, of
-each library of these, and so on: as often as there are ways down. With the crates of this repository these are 3.3 million, which
-takes hours of one processor. Here each crate is asked once in each such question; the answers are the same. Where the kit's rt has no such
+each library of these, and so on: as often as there are ways down. With the crates of this repository these are 3.3 million, by
+estimate hours of one processor. Here each crate is asked once in each such question; the answers are the same. Where the kit's rt has no such
 functions it is run as it is.
 
 It also says how many checks go side by side (RT_JOBS, where that is not set): one a processor, as far as memory holds 4.5 GB for each. By
