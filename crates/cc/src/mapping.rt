@@ -16,7 +16,14 @@ use srcset::{Fault, FileSet, Names};
 use std::alloc::Global;
 use typed_ast::Program;
 
-/// Where the functions, the statements and the objects of the program in the file `main` of the set lie in the file that `compile_with`
+/// A typed program, and where its parts lie in the executable file.
+#[derive(Drop)]
+pub struct Mapped {
+    pub program: Program,
+    pub map: CodeMap,
+}
+
+/// The typed program of the file `main` of the set, and where its functions, statements and objects lie in the file that `compile_with`
 /// makes of it. The names are numbered in `names`, which is to have none. It refuses as `compile_with` does.
 pub fn map_of(
     alloc: Global,
@@ -24,12 +31,12 @@ pub fn map_of(
     main: &str,
     names: &mut Names,
     stack: StackSize,
-) -> Result<CodeMap, Fault>
+) -> Result<Mapped, Fault>
     requires new { names.old ≡ [] }
     ensures refused { IfErr result (λ fault. IsRefused stack set.now main.now fault) }
 {
     match mapped(alloc, set, main, names, stack) {
-        Ok(map) => Ok(map),
+        Ok(mapped) => Ok(mapped),
         Err(stop) => Err(stop.to_fault(alloc, main)),
     }
 }
@@ -60,13 +67,13 @@ fn mapped(
     main: &str,
     names: &mut Names,
     stack: StackSize,
-) -> Result<CodeMap, Stop>
+) -> Result<Mapped, Stop>
     requires new { names.old ≡ [] }
     ensures stops { IfErr result (Stops stack set.now main.now) }
 {
     let program = checked_unit(alloc, set, main, names, stack)?;
     match code_map(alloc, &program, stack) {
-        Ok(map) => Ok(map),
+        Ok(map) => Ok(Mapped { program, map }),
         Err(_) => Err(Stop::Memory),
     }
 }

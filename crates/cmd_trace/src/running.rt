@@ -14,7 +14,7 @@ use std::alloc::{AllocError, Global};
 use std::io::{BufReader, BufWriter, Stdin, Stdout, Write};
 use std::{fs, io};
 use symbol_table::{SymbolTable, symbol_table};
-use traced_run::{TraceEnd, machine_text, place_text, traced_run};
+use traced_run::{TextTrace, TraceEnd, machine_text, place_text, traced_run};
 
 /// How a run is told.
 #[derive(Clone, Copy)]
@@ -180,11 +180,21 @@ fn run_as_asked<P: Port>(
 ) -> End {
     match form.trace {
         Trace::File(path) => match BufWriter::new(rt.alloc(), OutFile::plain(rt, path)) {
-            Ok(mut out) => run_to(rt.alloc(), machine, port, form.max, map, &mut out),
+            Ok(out) => run_to(
+                machine,
+                port,
+                form.max,
+                TextTrace::new(rt.alloc(), map, out),
+            ),
             Err(_) => End::Memory,
         },
         Trace::Shown => match BufWriter::new(rt.alloc(), rt.stderr()) {
-            Ok(mut out) => run_to(rt.alloc(), machine, port, form.max, map, &mut out),
+            Ok(out) => run_to(
+                machine,
+                port,
+                form.max,
+                TextTrace::new(rt.alloc(), map, out),
+            ),
             Err(_) => End::Memory,
         },
         Trace::None => {
@@ -194,18 +204,17 @@ fn run_as_asked<P: Port>(
     }
 }
 
-/// A run with its trace to a writer, whose last lines are handed on.
-fn run_to<P: Port, W: Write>(
-    alloc: Global,
+/// A run with its trace, whose last lines are flushed.
+fn run_to<P: Port, W: Write + Drop>(
     machine: &mut Machine,
     port: &mut P,
     max: u64,
-    map: Option<&SymbolTable>,
-    out: &mut W,
+    trace: TextTrace<'_, W>,
 ) -> End {
-    match traced_run(alloc, machine, port, max, map, out) {
+    let mut trace = trace;
+    match traced_run(machine, port, max, &mut trace) {
         Ok(end) => {
-            if out.flush().is_ok() {
+            if trace.finish() {
                 End::Told(end)
             } else {
                 End::Told(TraceEnd::Unwritten)

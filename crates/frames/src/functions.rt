@@ -9,11 +9,12 @@ ghost use Rattle.frames_code.specs.Code as flat;
 ghost use Rattle.frames_code.specs.Sound as flat_sound;
 ghost use Rattle.frames.specs.Flattened.{IsCodeOf};
 ghost use Rattle.frames.specs.Translated.{translated, argument, moves_from, flat_function, flat_program};
+ghost use Rattle.frames.specs.Layout.{layout_of};
 ghost use Rattle.frames.specs.layer.Alone.{starts_in};
 ghost use Rattle.frames.specs.inside.Held.{layout_in, InstructionIsNear};
 
 use crate::instructions::translate;
-use crate::layout::Layout;
+use crate::layout::{Home, Layout};
 use crate::starts::Starts;
 use crate::statics::data;
 use frames_code::{FlatProgram, Operand, Target};
@@ -103,6 +104,15 @@ pub fn flatten_function(
         area: layout.area,
         outgoing: function.temporaries.saturating_sub(8),
     })
+}
+
+/// Where the objects of a function lie: in words of its frame, or among its arrays. It is the layout of `flatten_function`, for debuggers.
+pub fn object_homes(alloc: Global, function: &tac_code::Function) -> Result<Vec<Home>, AllocError>
+    requires fits { (p : three_address.Program) × FunctionFits p (three_address.function_of function.now) }
+    ensures { IfOk result (λ homes. homes.items ≡ (layout_of (three_address.function_of function.now)).homes) }
+{
+    let layout = Layout::new(alloc, function)?;
+    Ok(layout.homes)
 }
 
 fn put_functions(

@@ -86,7 +86,7 @@ fn are_quick(all: &[Statement]) -> bool
     true
 }
 
-/// Whether a statement is done here: it calls nothing, and it has no `switch` and no initialiser but single values.
+/// Whether a statement is done here: it calls nothing, and it has no initialiser but single values.
 #[cycle(quick_statements)]
 pub fn is_quick_statement(a: &Statement) -> bool
     ensures { result ≡ quick_statement (statement_of a.now) }
@@ -101,7 +101,7 @@ pub fn is_quick_statement(a: &Statement) -> bool
         Statement::IfElse(_, e, a, b) => is_quick(e)
             && is_quick_statement(a)
             && is_quick_statement(b),
-        Statement::Switch(_, _, _, _, _, _) => false,
+        Statement::Switch(_, _, e, _, _, all) => is_quick(e) && are_quick(all),
         Statement::Case(_, _) => true,
         Statement::Default(_) => true,
         Statement::While(_, e, a) => is_quick(e) && is_quick_statement(a),

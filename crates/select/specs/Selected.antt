@@ -1,5 +1,6 @@
 -- The items of each flat instruction.
-use Rattle.std.specs.Prelude.{ℕ, zero, suc, ◌+◌, ◌*◌, ◌-◌, ◌/◌, ◌%◌, ◌^◌, ◌==◌, nat_lt, nat_le, if◌then◌else◌, List, [], ◌∷◌, ◌++◌, Option, Some, None, Bool, true, false}
+use Rattle.std.specs.Prelude.{ℕ, zero, suc, ◌+◌, ◌*◌, ◌-◌, ◌/◌, ◌%◌, ◌^◌, ◌==◌, ◌&&◌, nat_lt, nat_le, if◌then◌else◌, List, [], ◌∷◌, ◌++◌, Option, Some, None, Bool, true, false}
+use Rattle.std.specs.Int.{w32, trailing_zeros}
 use Rattle.std.specs.List.{list_any}
 use Rattle.rv32.specs.declared.instr.Instr.{Instr}
 use Rattle.rv32.specs.declared.instr.Instr.TheVariants as instr
@@ -49,6 +50,10 @@ operate_on o rd left right = item.Plain (instr.Op o rd left right)
 abbrev pub shifted : ShiftOp → ℕ → ℕ → ℕ → Item
 shifted o rd left amount = item.Plain (instr.Shift o rd left amount)
 
+-- rd = a constant of more than 12 bits: by LUI alone where the low 12 are zero, else by LUI and ADDI
+abbrev pub load_constant : ℕ → ℕ → Item
+load_constant rd v = if v % 0x1000 == 0 then item.Plain (instr.Lui rd v) else item.Constant rd v
+
 -- ---- registers (RISC-V ELF psABI, "Integer Register Convention")
 
 -- s0 to s11 are x8, x9, and x18 to x27
@@ -84,7 +89,7 @@ abbrev pub store_word : ℕ → ℕ → List Item
 store_word s o = far 7 o ++ (item.Plain (instr.Store store_kind.Word s (base_of 7 o) (lower_of o)) ∷ [])
 
 abbrev pub address_of : ℕ → ℕ → List Item
-address_of rd o = if nat_lt o 0x800 then add_to rd 2 o ∷ [] else item.Constant rd o ∷ operate_on register_op.Add rd rd 2 ∷ []
+address_of rd o = if nat_lt o 0x800 then add_to rd 2 o ∷ [] else load_constant rd o ∷ operate_on register_op.Add rd rd 2 ∷ []
 
 -- ---- operands and targets
 
@@ -101,7 +106,7 @@ home_of f (target.Temporary k) = if nat_lt k 8 then home.Register (argument k) e
 home_of f (target.Cell c) = if nat_lt c f.resident then home.Register (kept c) else home.Frame (cell_home f c)
 
 abbrev pub set_to : ℕ → ℕ → Item
-set_to rd v = if nat_lt ((v + 0x800) % 2 ^ 32) 0x1000 then add_to rd 0 v else item.Constant rd v
+set_to rd v = if nat_lt ((v + 0x800) % 2 ^ 32) 0x1000 then add_to rd 0 v else load_constant rd v
 
 -- what makes a value be in the register that it is then read from; x is free
 abbrev pub fetch : ℕ → Source → List Item
@@ -243,13 +248,22 @@ reference f d (location.Statics o) = item.DataAddress (made_in d) o ∷ keep d
 reference f d (location.Frame o) = address_of (made_in d) (area_home f + o) ++ keep d
 reference f d (location.At x) = move d (source_of f x)
 
+-- k, where it is below 32 and the size is 2 to the power of it
+abbrev pub power_or_none : ℕ → ℕ → Option ℕ
+power_or_none k size = if nat_lt k 32 && (2 ^ k == size) then Some k else None
+
+-- the power that a size is of two, where it is one: as many as the zeros that its digits end with
+abbrev pub log2_of : ℕ → Option ℕ
+log2_of size = power_or_none (trailing_zeros w32 size) size
+
+-- register a times a size, in x6: by a shift where the size is a power of two, else by a product; x7 is free
+abbrev pub shift_or_multiply : Option ℕ → ℕ → ℕ → List Item
+shift_or_multiply (Some k) a size = shifted shift_op.Left 6 a k ∷ []
+shift_or_multiply None a size = set_to 7 size ∷ operate_on register_op.Mul 6 a 7 ∷ []
+
 -- register a times a size, in x6 or in a itself; x6 and x7 are free, but that a may be x6
 abbrev pub scale : ℕ → ℕ → List Item
-scale a size =
-    if size == 1 then [] else
-    if size == 2 then shifted shift_op.Left 6 a 1 ∷ [] else
-    if size == 4 then shifted shift_op.Left 6 a 2 ∷ [] else
-    item.Constant 7 (size % 2 ^ 32) ∷ operate_on register_op.Mul 6 a 7 ∷ []
+scale a size = if size == 1 then [] else shift_or_multiply (log2_of size) a size
 
 abbrev pub scaled_in : ℕ → ℕ → ℕ
 scaled_in a size = if size == 1 then a else 6
@@ -292,7 +306,7 @@ exit = add_to 17 0 93 ∷ item.Plain instr.Ecall ∷ []
 -- sp changes by a multiple of 16, modulo 2^32; x7 is free
 abbrev pub change_sp : ℕ → List Item
 change_sp by =
-    if nat_lt ((by + 0x800) % 2 ^ 32) 0x1000 then add_to 2 2 by ∷ [] else item.Constant 7 by ∷ operate_on register_op.Add 2 2 7 ∷ []
+    if nat_lt ((by + 0x800) % 2 ^ 32) 0x1000 then add_to 2 2 by ∷ [] else load_constant 7 by ∷ operate_on register_op.Add 2 2 7 ∷ []
 
 -- the last word of a frame, for the address to return to
 abbrev pub return_home : Function → ℕ

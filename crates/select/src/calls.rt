@@ -12,7 +12,7 @@ ghost use Rattle.select.specs.Selected as selected;
 
 use crate::places::kept;
 use crate::words::{
-    add_to, address_of, load_word, operate_on, put, stack_pointer, store_word, zero,
+    add_to, address_of, load_constant, load_word, operate_on, put, stack_pointer, store_word, zero,
 };
 use asm::Item;
 use frames_code::{Function, Instruction};
@@ -57,10 +57,7 @@ fn change_sp(items: &mut Vec<Item>, by: u32) -> Result<(), AllocError>
         put(
             items,
             &[
-                Item::Constant {
-                    rd: free,
-                    value: by,
-                },
+                load_constant(free, by),
                 operate_on(RegisterOp::Add, stack_pointer(), stack_pointer(), free),
             ],
         )

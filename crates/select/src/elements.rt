@@ -11,7 +11,7 @@ use crate::operations::put_move;
 use crate::places::{Home, Source, source_of};
 use crate::words::{
     address_of, base_of, fetch, keep, lower_of, made_in, operate_on, put, put_far, put_one,
-    register_of, shifted,
+    register_of, set_to,
 };
 use asm::Item;
 use frames_code::{Function, Location, Width};
@@ -180,30 +180,55 @@ pub fn put_reference(
     }
 }
 
+/// By how many bits a shift multiplies by a size, where it is a power of two.
+fn log2_of(size: u32) -> Option<Five>
+    ensures { result ≡ selected.log2_of size }
+{
+    let power = size.trailing_zeros();
+    if power < 32 && 1u32 << power == size {
+        Some(Five::new(power as u8))
+    } else {
+        None
+    }
+}
+
+/// A register times a size that is not 1.
+fn put_product(items: &mut Vec<Item>, register: Five, size: u32) -> Result<(), AllocError>
+    ensures { OnOk result (items.new.items ≡ items.old.items ++ selected.shift_or_multiply (selected.log2_of size) register size) }
+{
+    let rd = Five::new(6);
+    match log2_of(size) {
+        Some(amount) => put_one(
+            items,
+            Item::Plain(Instr::Shift {
+                op: ShiftOp::Left,
+                rd,
+                left: register,
+                amount,
+            }),
+        ),
+        None => {
+            let free = Five::new(7);
+            put(
+                items,
+                &[
+                    set_to(free, size),
+                    operate_on(RegisterOp::Mul, rd, register, free),
+                ],
+            )
+        }
+    }
+}
+
 /// A register times the size of an element.
 fn put_scale(items: &mut Vec<Item>, register: Five, size: usize) -> Result<(), AllocError>
     requires { size < 2 ^ 32 }
     ensures { OnOk result (items.new.items ≡ items.old.items ++ selected.scale register size) }
 {
-    let rd = Five::new(6);
     if size == 1 {
         Ok(())
-    } else if size == 2 {
-        put_one(items, shifted(ShiftOp::Left, rd, register, 1))
-    } else if size == 4 {
-        put_one(items, shifted(ShiftOp::Left, rd, register, 2))
     } else {
-        let free = Five::new(7);
-        put(
-            items,
-            &[
-                Item::Constant {
-                    rd: free,
-                    value: size as u32,
-                },
-                operate_on(RegisterOp::Mul, rd, register, free),
-            ],
-        )
+        put_product(items, register, size as u32)
     }
 }
 

@@ -82,6 +82,20 @@ pub fn shifted(op: ShiftOp, rd: Five, left: Five, amount: u8) -> Item
     })
 }
 
+/// `rd` becomes a constant of more than 12 bits.
+pub fn load_constant(rd: Five, value: u32) -> Item
+    ensures { result ≡ selected.load_constant rd value }
+{
+    if value % 0x1000 == 0 {
+        Item::Plain(Instr::Lui {
+            rd,
+            upper: Upper::new(value),
+        })
+    } else {
+        Item::Constant { rd, value }
+    }
+}
+
 /// The part of an offset that is a multiple of 4096.
 fn upper_of(offset: u32) -> Upper
     requires { offset < most_offset }
@@ -171,7 +185,7 @@ pub fn address_of(items: &mut Vec<Item>, rd: Five, offset: u32) -> Result<(), Al
         put(
             items,
             &[
-                Item::Constant { rd, value: offset },
+                load_constant(rd, offset),
                 operate_on(RegisterOp::Add, rd, rd, stack_pointer()),
             ],
         )
@@ -185,7 +199,7 @@ pub fn set_to(rd: Five, value: u32) -> Item
     if value.wrapping_add(0x800) < 0x1000 {
         add_to(rd, zero(), Short::new(value))
     } else {
-        Item::Constant { rd, value }
+        load_constant(rd, value)
     }
 }
 

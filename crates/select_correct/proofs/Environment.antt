@@ -26,7 +26,7 @@ use Rattle.select_exec.proofs.Bridge.{bool_cases}
 use Rattle.select_exec.proofs.Words.{with_other, byte_off, byte_back, byte_bytes, word_same}
 use Rattle.select_exec.proofs.Steps.{comes_now, on_immediate, on_op, on_load_byte, on_store_byte, on_branch, on_put, on_get}
 use Rattle.select_exec.proofs.Placing.{stands_parts, after_items}
-use Rattle.select.specs.Selected.{add_to, operate_on, kept, address_of, byte_home}
+use Rattle.select.specs.Selected.{add_to, operate_on, load_constant, kept, address_of, byte_home}
 use Rattle.select_correct.specs.Matches.{Ground, Ready, Shows, Matched, Matches, address, shown, temporary_at}
 use Rattle.select_correct.specs.Costs.{row}
 use Rattle.select_correct.specs.Laws.{Anything, Follows, AreBytes, GetFollows}
@@ -69,12 +69,21 @@ get_tail =
     item.Plain (instr.Load load_kind.ByteUnsigned 11 11 0) ∷ add_to 10 10 (2 ^ 32 - 1) ∷ item.Plain (instr.Immediate immediate_op.LessUnsigned 10 10 1) ∷
     add_to 10 10 (2 ^ 32 - 1) ∷ operate_on register_op.Or 10 10 11 ∷ []
 
+constant_near : (T : ℕ → Option Instr) (env : ℕ → ℕ) (seg rd v here mid : ℕ) → Stands T env seg (load_constant rd v ∷ []) here mid → mid ≤ here + 8
+constant_near T env seg rd v here mid st =
+    bool_cases (eqb (v % 0x1000) 0)
+    (λ t. let one : Stands T env seg (item.Plain (instr.Lui rd v) ∷ []) here mid = rw t at st in omega (arith, one.1.1, one.2))
+    (λ t. let two : Stands T env seg (item.Constant rd v ∷ []) here mid = rw t at st in omega (arith, two.1.next_is, two.2))
+
 -- the address of a byte of the frame takes at most three instructions
 address_near : (T : ℕ → Option Instr) (env : ℕ → ℕ) (seg rd o here mid : ℕ) → Stands T env seg (address_of rd o) here mid → mid ≤ here + 12
 address_near T env seg rd o here mid st =
     bool_cases (nat_lt o 0x800)
     (λ t. let one : Stands T env seg (add_to rd 2 o ∷ []) here mid = rw t at st in omega (arith, one.1.1, one.2))
-    (λ t. let two : Stands T env seg (item.Constant rd o ∷ operate_on register_op.Add rd rd 2 ∷ []) here mid = rw t at st in omega (arith, two.1.next_is, two.2.1.1, two.2.2))
+    (λ t.
+    let long : Stands T env seg (load_constant rd o ∷ operate_on register_op.Add rd rd 2 ∷ []) here mid = rw t at st in
+    let two = stands_parts T env seg (load_constant rd o ∷ []) (operate_on register_op.Add rd rd 2 ∷ []) here mid long in
+    omega (arith, constant_near T env seg rd o here two.0 two.1, two.2.1.1, two.2.2))
 
 module _ (F : Fixed) (env : ℕ → ℕ) (seg : ℕ) (i : List ℕ) (h : List Event) (Q : Light → Type 0) where
   -- an addition that stands up to where the next item does

@@ -1,6 +1,7 @@
 //! An ELF file of symbols beside an executable file, for debuggers and disassemblers.
 
-use crate::debug_lines::{ABBREVIATIONS, line_table};
+use crate::debug_entries::{ABBREVIATIONS, info_section};
+use crate::debug_lines::line_section;
 use crate::functions::{Object, SymbolTable};
 use std::alloc::{AllocError, Global};
 
@@ -50,19 +51,20 @@ struct Symbol {
 
 /// An ELF32 file with the code of a program, and a symbol for each of its functions and of its objects with static storage, and for
 /// `_start`, where it begins: for `objdump -d`, and for a debugger beside the executable file, whose addresses it has. Its line table
-/// has the line of each statement. Its section of data has no bytes.
+/// has the line of each statement, and its entries the types and the places of variables. Its section of data has no bytes.
 pub fn symbol_file(alloc: Global, map: &SymbolTable) -> Result<Vec<u8>, AllocError> {
     let mut names = Vec::new(alloc);
     let mut symbols = Vec::new(alloc);
     put_symbols(map, &mut names, &mut symbols)?;
-    let lines = line_table(alloc, map)?;
+    let info = info_section(alloc, map)?;
+    let lines = line_section(alloc, map)?;
     let contents = [
         map.text.as_slice(),
         symbols.as_slice(),
         names.as_slice(),
         ABBREVIATIONS,
-        lines.info.as_slice(),
-        lines.lines.as_slice(),
+        info.as_slice(),
+        lines.as_slice(),
         SECTION_NAMES,
     ];
     let mut file = Vec::new(alloc);

@@ -1,5 +1,5 @@
 -- A run, and one step more.
-use Rattle.std.proofs.Common.{ℕ, List, Option, ◌≡◌, ◌≢◌, ◌<◌, ◌≤◌, ◌+◌, ◌-◌, ap, ◌∙◌, refl, subst, arith}
+use Rattle.std.proofs.Common.{ℕ, List, [], ◌∷◌, ◌++◌, Option, ◌≡◌, ◌≢◌, ◌<◌, ◌≤◌, ◌+◌, ◌-◌, ap, ◌∙◌, refl, subst, sym, arith}
 use Rattle.io_ports.specs.Port.{PortView}
 use Rattle.rv32.specs.Step.{Machine}
 use Rattle.sim.proofs.Composing.{rvrun-add}
@@ -7,6 +7,8 @@ use Rattle.sim.specs.Runs.{World, Running, Ended, Trapped, rvrun, goes_on}
 use Rattle.sim.specs.Meets.{At, RunMeets}
 use Rattle.sim.specs.declared.machine.Outcome.{Outcome}
 use Rattle.sim.specs.declared.machine.Outcome.TheVariants as outcome
+use Rattle.traced_run.specs.declared.tracing.TraceEnd.TheVariants.{Stopped}
+use Rattle.traced_run.specs.Traced.{machine_in, machines_of, TracesUntil, TracesMachines}
 
 -- k steps from where j lead to
 rvrun_on : (j k n : ℕ) (w v : World) → rvrun j w ≡ Running v → n ≡ j + k → rvrun n w ≡ rvrun k v
@@ -40,3 +42,16 @@ pub goes : (o : Option (List ℕ)) (w v : World) (k : ℕ) (x : Outcome) (m : Ma
 goes o w v k x m port r e t =
     let P : Outcome → Type 0 = λ y. RunMeets o w (k + 1) y m port in
     subst P e (behind o w v k 1 x m port r t)
+
+-- what holds of the machines up to a step holds of all, where the run stopped there
+pub until : (T : List Machine → Type 0) (o : Option (List ℕ)) (w : World) (max : ℕ) (x : Outcome) (m : Machine) (port : PortView) → x ≢ outcome.Budget
+    → TracesUntil T o w max x m port → TracesMachines T o w max (Stopped x) m port
+until T o w max outcome.Budget m port ends t = absurd (ends refl)
+until T o w max (outcome.Ended s) m port ends t = t
+until T o w max (outcome.Trapped pc c) m port ends t = t
+until T o w max (outcome.Port x) m port ends t = t
+
+-- one machine more
+pub one_more : (T : List Machine → Type 0) (k : ℕ) (w v : World) (m : Machine) → rvrun k w ≡ Running v → m ≡ v.machine
+    → T (machines_of k w ++ (m ∷ [])) → T (machines_of (k + 1) w)
+one_more T k w v m r e t = subst (λ (n : Machine). T (machines_of k w ++ (n ∷ []))) (e ∙ sym (ap machine_in r)) t

@@ -3,7 +3,9 @@
 
 mod instruction;
 mod shown;
+mod text_trace;
 mod tracing;
 
 pub use shown::{machine_text, place_text};
-pub use tracing::{TraceEnd, traced_run};
+pub use text_trace::TextTrace;
+pub use tracing::{TraceEnd, Tracer, traced_run};

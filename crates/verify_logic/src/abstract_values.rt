@@ -24,3 +24,13 @@ pub struct AbsValue {
     /// A value that an element has lies in it.
     pub interval: Interval,
 }
+
+/// What is known of one element of an array of one row: it has a value in the interval.
+#[derive(Clone, Copy, PartialEq, Eq, Debug)]
+pub struct Fact {
+    /// The number of the object in the store.
+    pub object: usize,
+    /// The subscript of the element.
+    pub index: u32,
+    pub interval: Interval,
+}

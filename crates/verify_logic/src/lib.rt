@@ -5,5 +5,5 @@
 mod abstract_values;
 mod operands;
 
-pub use abstract_values::{AbsValue, ArrayArgument, Interval};
+pub use abstract_values::{AbsValue, ArrayArgument, Fact, Interval};
 pub use operands::{Operand, Relation};

@@ -1,10 +1,10 @@
 -- What a part of a program that is evaluated at once comes to: what is left of the run behind it.
-use Rattle.std.specs.Prelude.{◌≡◌, ◌≢◌, Bool, true, ℕ, ◌+◌, ℤ, List, map, Option, Some, None, Result, Ok, Err, ⊤}
+use Rattle.std.specs.Prelude.{◌≡◌, ◌≢◌, Bool, true, ℕ, ◌+◌, ◌-◌, ℤ, List, length, map, nat_lt, Option, Some, None, Result, Ok, Err, ⊤}
 use Rattle.typing_spec.specs.Program as typed
 use Rattle.typed_ast.specs.View.{program_of, object_type_of}
 use Rattle.csem.specs.History.{Entry}
 use Rattle.csem.specs.Machine as machine
-use Rattle.csem.specs.Machine.{State, Run, Goes, Stops, then_do, tick}
+use Rattle.csem.specs.Machine.{State, Run, Goes, Stops, then_do, choose, tick}
 use Rattle.interp_store.specs.declared.scene.Scene.{Scene}
 use Rattle.interp_store.specs.declared.stop.Stop.{Stop}
 use Rattle.interp_store.specs.declared.stop.Stop.TheVariants as stop
@@ -13,7 +13,7 @@ use Rattle.interp_store.specs.layer.Agrees.{state_in}
 use Rattle.interp_store.specs.layer.Presents.{call_in}
 use Rattle.csem.specs.Store.{Reference, whole}
 use Rattle.csem.specs.Expressions.{find, evaluate}
-use Rattle.csem.specs.Statements.{Flow, Normal, Broken, Continued, Returned, execute, execute_all}
+use Rattle.csem.specs.Statements.{Flow, Normal, Broken, Continued, Returned, after_switch, labels_at, labels_of, label_for, execute, execute_all, execute_from}
 use Rattle.typing_spec.specs.Types.{ObjectType}
 use Rattle.interp_eval.specs.declared.clock.Clock.{Clock}
 use Rattle.interp_eval.specs.declared.clock.Scope.{Scope}
@@ -102,6 +102,24 @@ way_out Normal = None
 way_out Continued = None
 way_out Broken = Some Normal
 way_out (Returned v) = Some (Returned v)
+
+-- ---- switches (6.8.4.2)
+
+-- the statements from the label of this number on
+abbrev pub from_label : Option ℕ → typed.Statements → typed.Statements
+from_label label typed.no_statements = typed.no_statements
+from_label None (typed.and_statement a more) = typed.no_statements
+from_label (Some k) (typed.and_statement a more) =
+    choose (nat_lt k (length (labels_at a))) (typed.and_statement a more) (from_label (Some (k - length (labels_at a))) more)
+
+-- those from the label on to which this value jumps
+abbrev pub selected : ℤ → typed.Statements → State → Run typed.Statements
+selected v all s = then_do (label_for v (labels_of all) 0 None s) (λ label s. Goes (from_label label all) s)
+
+-- what a switch does in its block
+abbrev pub jumped : List ObjectType → ℤ → typed.Statements → typed.Program → State → Run Flow
+jumped objects v all p s =
+    then_do (label_for v (labels_of all) 0 None s) (λ label s. then_do (execute_from p (call_in p) objects label all s) after_switch)
 
 -- ---- whole objects and their elements
 
