@@ -1,18 +1,17 @@
 -- At no instruction of a file's run is anything in the stack below the stack pointer loaded or stored.
-use Rattle.std.proofs.Common.{◌≡◌, ◌⊎◌, inl, inr, ⊎_elim, ℕ, zero, suc, ◌+◌, ◌-◌, ◌*◌, ◌%◌, ◌^◌, ◌<◌, ◌≤◌, List, [], ◌∷◌, length, Bool, true, false, ◌&&◌, ◌||◌, Option, Some, None, Ok, refl, sym, ap, ◌∙◌, subst, arith}
-use Rattle.std.specs.Prelude.{replicate, if◌then◌else◌, ◌==◌, slice_get}
+use Rattle.std.proofs.Common.{◌≡◌, ◌⊎◌, ⊎_elim, ℕ, zero, suc, ◌+◌, ◌-◌, ◌*◌, ◌%◌, ◌^◌, ◌<◌, ◌≤◌, List, [], ◌∷◌, length, Bool, true, false, ◌&&◌, Option, Some, None, refl, sym, ap, ◌∙◌, subst, arith}
+use Rattle.std.specs.Prelude.{replicate, if◌then◌else◌, ◌==◌}
 use Rattle.std.proofs.Math.Nat.{lt_of_mul-lt-mul_left}
 use Rattle.std.proofs.lemmas.Bool.{cases_lt}
 use Rattle.csem_events.specs.Events.{Event}
 use Rattle.rv32.specs.declared.instr.Instr.{Instr}
 use Rattle.rv32.specs.declared.instr.Instr.TheVariants.{Load, Store, Ecall}
-use Rattle.rv32.specs.declared.state.Cause.{Cause}
 use Rattle.rv32.specs.Words.{decode_of}
 use Rattle.rv32.specs.Space.{Space, all_four, word_at}
 use Rattle.rv32.specs.Step.{Machine, register}
-use Rattle.memory_map.specs.MemoryMap.{text_start, data_start, stack_end, stack_start}
+use Rattle.memory_map.specs.MemoryMap.{text_start, stack_end, stack_start}
 use Rattle.elf_out.specs.Layout.{Parts}
-use Rattle.elf_out.specs.Program.{program_space, program_image, is_within, is_data, is_stack}
+use Rattle.elf_out.specs.Program.{program_space, program_image, is_within, is_data}
 use Rattle.asm.specs.Placed.{Stands}
 use Rattle.frames_code.specs.declared.code.Instruction.{Instruction}
 use Rattle.frames_code.specs.declared.code.Instruction.TheVariants as instruction
@@ -21,20 +20,20 @@ use Rattle.frames_code.specs.Costs.{next_of, cost_on}
 use Rattle.frames_code.specs.Run as flat
 use Rattle.frames_code.specs.Run.{Frame, State, Progress, running, ended, stuck, entered, function_at, bytes_of, run, step, start, act, ◌>>=◌}
 use Rattle.sim.specs.Runs as sim
-use Rattle.sim.specs.Runs.{World, Running, Ended, Trapped, rvrun, start_world, tick_of}
+use Rattle.sim.specs.Runs.{World, Running, Ended, rvrun, start_world, tick_of}
 use Rattle.select_exec.specs.Light.{Fixed, Light, Go, Done, Fell, light_run}
-use Rattle.select_exec.specs.Whole.{Permits, fixed}
+use Rattle.select_exec.specs.Whole.{Permits}
 use Rattle.select_exec.specs.Worlds.{Registers, world, Follows}
 use Rattle.select_exec.proofs.Worlds.{real_follows}
 use Rattle.select_exec.proofs.Keeping.{runs_keep}
 use Rattle.select_exec.proofs.Placing.{stands_parts}
 use Rattle.select_exec.proofs.Steps.{run_plus}
-use Rattle.select.specs.Selected.{items_of, shortened, exit, return_home}
+use Rattle.select.specs.Selected.{shortened, exit, return_home}
 use Rattle.select.specs.Program.{functions_items}
 use Rattle.select_correct.specs.Laws.{AreBytes}
 use Rattle.select_correct.specs.Matches.{Ground, Ready, FrameHolds, Waits, Matched, Matches, HasRoom, address, first_of, file_of, file_below, return_at}
-use Rattle.select_correct.specs.Costs.{row, step_cost, most_if, most_next, most_start, least_if, least_spent, opening_cost}
-use Rattle.select_correct.specs.Runs.{Laid, StandsWith, ground_at, slack}
+use Rattle.select_correct.specs.Costs.{row, step_cost, most_if, most_next, least_if, least_spent}
+use Rattle.select_correct.specs.Runs.{slack}
 use Rattle.select_correct.specs.Standing.{StandsAt}
 use Rattle.select_correct.proofs.Fits.{function_fits}
 use Rattle.select_correct.proofs.Frames.{sum_is}
@@ -54,12 +53,11 @@ use Rattle.cc_laws.proofs.Permissions as kept
 use Rattle.cc_laws.proofs.Permissions.{world_of, run_permits}
 use Rattle.cc_laws.proofs.Composed.{rvrun_more, rvrun_on}
 use Rattle.cc_laws.proofs.Steps.{inside_now}
-use Rattle.cc_laws.proofs.Whole.{kept_inside}
 use Rattle.cc_laws.proofs.Loosening.{loose, loose_world, loose_progress, Allows, NeverTrapped, runs_as_loosely, inside_more}
 use Rattle.cc_laws.proofs.Touching.{or_more}
 use Rattle.cc_laws.proofs.Following as following
 use Rattle.cc_laws.proofs.Following.{lower_left, lower_right, lower_both}
-use Rattle.cc_laws.proofs.Stretches.{IsIdle, IsFine, done_stays, fell_stays}
+use Rattle.cc_laws.proofs.Stretches.{IsIdle, IsFine, fell_stays}
 use Rattle.cc_laws.proofs.Levels.{IsLevel, GoesAt, level_shortened, level_or_not, level, returns_fine, calls_fine, starts_fine, exits_fine, exits_done}
 
 -- ---- what is idle is inside, whatever the stack pointer

@@ -1,11 +1,10 @@
 -- Of the items of a flat instruction, each instruction loads or stores nothing below the stack pointer's least, or is idle.
-use Rattle.std.proofs.Common.{◌≡◌, ◌⊎◌, inl, inr, ⊎_elim, ◌≤◌, ◌<◌, ℕ, zero, suc, ◌+◌, ◌-◌, ◌*◌, ◌/◌, ◌%◌, ◌^◌, List, [], ◌∷◌, ◌++◌, Bool, true, false, Option, Some, refl, sym, ap, ◌∙◌, subst, arith}
+use Rattle.std.proofs.Common.{◌≡◌, ◌⊎◌, inl, inr, ⊎_elim, ◌≤◌, ◌<◌, ℕ, zero, suc, ◌+◌, ◌-◌, ◌*◌, ◌/◌, ◌%◌, ◌^◌, List, [], ◌∷◌, ◌++◌, Bool, true, false, Some, refl, sym, ap, ◌∙◌, subst, arith}
 use Rattle.std.specs.Prelude.{if◌then◌else◌, ◌==◌}
 use Rattle.std.proofs.lemmas.Bool.{cases_lt}
 use Rattle.std.proofs.lemmas.List.{append_assoc}
 use Rattle.std.proofs.lemmas.List.Sums.{sum_by-append}
 use Rattle.csem_events.specs.Events.{Event}
-use Rattle.rv32.specs.declared.instr.Instr.{Instr}
 use Rattle.rv32.specs.declared.instr.Instr.TheVariants.{Auipc, Jalr, Branch}
 use Rattle.rv32.specs.declared.instr.Instr.TheVariants as instr
 use Rattle.rv32.specs.declared.instr.Test.{Test}
@@ -18,19 +17,17 @@ use Rattle.asm.specs.declared.item.Item.TheVariants as item
 use Rattle.asm.specs.Layout.{size, longest}
 use Rattle.asm.specs.Placed.{Short, Long, Calls, Loads, Stands, opposite}
 use Rattle.frames_code.specs.declared.code.Operand.{Operand}
-use Rattle.frames_code.specs.declared.code.Target.{Target}
 use Rattle.frames_code.specs.declared.code.Instruction.{Instruction}
 use Rattle.frames_code.specs.declared.code.Instruction.TheVariants as instruction
 use Rattle.frames_code.specs.Code.{Function, frame_bytes}
 use Rattle.select_exec.specs.Light.{Fixed, Light, Go, Done, Fell, reg, with_reg, sum32, act, light_step, light_run}
 use Rattle.select_exec.proofs.Steps.{run_plus}
-use Rattle.select_exec.proofs.Words.{with_same}
 use Rattle.select_exec.proofs.Placing.{stands_parts}
-use Rattle.select.specs.Selected.{source_of, home_of, fetch, keep, made_in, register_of, address_of, combine, narrow, reach, scale, element, put_byte, get_byte, change_sp, saves, restores, keep_return, take_return, entry, leave, exit, byte_home, items_of, shortened, is_same, add_to, branch}
+use Rattle.select.specs.Selected.{source_of, home_of, fetch, made_in, register_of, address_of, combine, narrow, reach, scale, put_byte, change_sp, saves, restores, keep_return, take_return, entry, leave, exit, byte_home, items_of, shortened, is_same, add_to}
 use Rattle.select_correct.specs.Costs.{row, item_count, opening_cost}
 use Rattle.select_correct.proofs.Lengths.{rows_are_lengths}
-use Rattle.cc_laws.proofs.Quiet.{Word, Words, OfAll, AreWords, words, IsQuiet, IsBare, AreQuiet, quiet_both, five, six, ten, eleven, twelve, seventeen, fetch_quiet, keep_quiet, move_quiet, home_off, combine_quiet, narrow_quiet, reach_quiet, reference_quiet, scale_quiet, saving_quiet, restoring_quiet, byte_quiet, change_bare}
-use Rattle.cc_laws.proofs.Stretches.{HasSp, HasPc, IsIdle, IsFine, sp_of, pc_of, fine_low, fine_idle, done_stays, fell_stays, branch_step, at_text, quiet_run, bare_run, bare_fine}
+use Rattle.cc_laws.proofs.Quiet.{Words, words, IsQuiet, IsBare, AreQuiet, quiet_both, five, six, ten, eleven, twelve, seventeen, fetch_quiet, keep_quiet, move_quiet, home_off, combine_quiet, narrow_quiet, reach_quiet, reference_quiet, scale_quiet, saving_quiet, restoring_quiet, byte_quiet, change_bare}
+use Rattle.cc_laws.proofs.Stretches.{HasSp, HasPc, IsFine, sp_of, pc_of, fine_low, fine_idle, done_stays, fell_stays, branch_step, at_text, quiet_run, bare_run, bare_fine}
 
 -- ---- instructions that change no frame
 

@@ -1,7 +1,6 @@
 -- Stretches of a run of the light machine on which the stack pointer stays, or on which nothing is loaded or stored.
-use Rattle.std.proofs.Common.{◌≡◌, ◌⊎◌, inl, inr, ⊎_elim, ◌≤◌, ◌<◌, ℕ, zero, suc, ◌+◌, ◌-◌, ◌*◌, ◌/◌, ◌%◌, ◌^◌, ◌&&◌, List, [], ◌∷◌, ◌++◌, Bool, true, false, Option, Some, None, refl, sym, ap, ◌∙◌, subst, arith}
+use Rattle.std.proofs.Common.{◌≡◌, ◌⊎◌, inl, inr, ◌≤◌, ◌<◌, ℕ, zero, suc, ◌+◌, ◌*◌, ◌%◌, ◌^◌, ◌&&◌, List, [], ◌∷◌, Bool, true, false, Some, refl, sym, ap, ◌∙◌, subst, arith}
 use Rattle.std.specs.Prelude.{◌==◌, if◌then◌else◌}
-use Rattle.std.proofs.lemmas.Bool.{cases_lt}
 use Rattle.rv32.specs.declared.instr.Instr.{Instr}
 use Rattle.rv32.specs.declared.instr.Instr.TheVariants.{Lui, Auipc, Jal, Jalr, Branch, Load, Store, Immediate, Shift, Op, Fence, Ecall, Ebreak}
 use Rattle.rv32.specs.declared.instr.LoadKind.{LoadKind}
@@ -13,9 +12,8 @@ use Rattle.rv32.specs.Arithmetic.{compare_of}
 use Rattle.rv32.specs.Space.{all_four, both, half_at, word_at}
 use Rattle.rv32.specs.Words.{sign_extended}
 use Rattle.csem_events.specs.Events.{Event}
-use Rattle.select_exec.specs.Light.{Fixed, Light, Go, Done, Fell, reg, with_reg, with_word, with_half, with_byte, sum32, load, store, goes, gets, call, act, light_step, light_run}
+use Rattle.select_exec.specs.Light.{Fixed, Light, Go, Done, Fell, reg, with_reg, with_word, with_half, with_byte, sum32, load, store, gets, call, act, light_step, light_run}
 use Rattle.select_exec.proofs.Words.{with_other}
-use Rattle.select_exec.proofs.Steps.{run_plus}
 use Rattle.cc_laws.proofs.Quiet.{Word, Words, IsOff, IsQuiet, IsBare, ten}
 
 -- ---- what is said of a light machine: where it goes on, and nothing else
