@@ -35,7 +35,7 @@ pub fn map_of(
     requires new { names.old ≡ [] }
     ensures refused { IfErr result (λ fault. IsRefused stack set.now main.now fault) }
 {
-    match mapped(alloc, set, main, names, stack) {
+    match map_checked(alloc, set, main, names, stack) {
         Ok(mapped) => Ok(mapped),
         Err(stop) => Err(stop.to_fault(alloc, main)),
     }
@@ -61,7 +61,7 @@ pub fn checked_program(
     }
 }
 
-fn mapped(
+fn map_checked(
     alloc: Global,
     set: &FileSet,
     main: &str,
