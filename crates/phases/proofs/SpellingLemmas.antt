@@ -21,7 +21,7 @@ copied_all a b copy n p e h =
     let t : bytes_at a ≡ copy = ap bytes_of p.reads.text_is ∙ rw (map-append, e, append-nil) (sym p.copy_is) in
     rw t (sym (take_all n copy h))
 
--- as many as were asked for
+-- as many as were requested
 pub copied_count : (a b : Cursor) (copy : List ℕ) (n : ℕ) → Copied a copy b → length copy ≡ n → copy ≡ take n (bytes_at a)
 copied_count a b copy n p e =
     let t : bytes_at a ≡ copy ++ bytes_at b = ap bytes_of p.reads.text_is ∙ rw map-append (ap (λ x. x ++ bytes_at b) (sym p.copy_is)) in

@@ -3,7 +3,7 @@ use Rattle.std.specs.Prelude.{ℕ, Bool, List}
 use Rattle.srcset.specs.declared.refusal.Pos.{Pos}
 use Rattle.phases.specs.declared.token.Kind.{Kind}
 
--- a preprocessing token: its kind, its text, whether white space stands before it on its line, and its place
+-- a preprocessing token: its kind, its text, whether white space precedes it on its line, and its place
 pub record Token : Type 0 where
   pub kind : Kind
   pub spelling : List ℕ

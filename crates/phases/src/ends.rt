@@ -16,7 +16,7 @@ use crate::scanning::next_place;
 use crate::token::{Piece, Place};
 use std::alloc::{AllocError, Global};
 
-// What stands here, by the bytes alone where they show it.
+// The piece here, by the raw bytes alone where they determine it.
 #[inline(always)]
 fn front_at<'a>(at: Cursor<'a>, place: Place, first: Step<'a>, hopeless: Hopeless) -> Front<'a>
     requires step { IsStep at first }
@@ -29,7 +29,7 @@ fn front_at<'a>(at: Cursor<'a>, place: Place, first: Step<'a>, hopeless: Hopeles
     at.front(place, first, hopeless)
 }
 
-// Where the token behind this piece stands.
+// The place of the token after this piece.
 #[inline(always)]
 fn place_behind<'a>(
     alloc: Global,

@@ -45,7 +45,7 @@ pub(crate) fn is_prefix(byte: u8) -> bool
     byte == b'L' || byte == b'u' || byte == b'U'
 }
 
-// Whether `byte` closes what `close` closes, after a backslash or not.
+// Whether `byte` is the closing `close`, after a backslash or not.
 #[inline(always)]
 pub(crate) fn closes(close: u8, escaped: bool, byte: u8) -> bool
     ensures { result ≡ closes close escaped byte }

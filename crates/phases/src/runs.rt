@@ -8,7 +8,7 @@ use crate::cursor::{Cursor, Span};
 use crate::lexical::goes_on;
 use crate::reading::is_plain;
 
-/// The line behind a sure byte on this line.
+/// The line after a sure byte on this line.
 #[inline(always)]
 pub(crate) fn next_line(byte: u8, line: u32) -> u32
     requires { line + 1 < 2 ^ 32 }
@@ -82,8 +82,8 @@ fn white_front(bytes: &[u8]) -> usize
     count
 }
 
-// How many bytes from the first on are white space. Mostly it is one or none, and which of the two the processor
-// cannot foresee: so no branch asks for it.
+// The number of leading white-space bytes. Mostly it is one or none, and the processor cannot predict
+// which: so no branch tests for it.
 #[inline(always)]
 pub(crate) fn white_bytes(bytes: &[u8]) -> usize
     ensures { result ≡ white_len bytes.now }

@@ -27,7 +27,7 @@ pub enum Kind {
     Other,
 }
 
-/// Where on its line a token stands, as far as header names depend on it (ISO/IEC 9899:2011 6.4.7).
+/// Where on its line a token is, as far as header names depend on it (ISO/IEC 9899:2011 6.4.7).
 #[derive(Clone, Copy, Debug, PartialEq, Eq)]
 pub enum Place {
     /// First on its line.
@@ -40,7 +40,7 @@ pub enum Place {
     Elsewhere,
 }
 
-/// What stands at the front of a text (ISO/IEC 9899:2011 5.1.1.2, phase 3).
+/// The piece at the front of a text (ISO/IEC 9899:2011 5.1.1.2, phase 3).
 #[derive(Clone, Copy)]
 pub enum Piece {
     /// The end of a line.
@@ -54,7 +54,7 @@ pub enum Piece {
 }
 
 /// The parts of a preprocessing token; the variant says whether the bytes of its spelling are lent or its own.
-/// All parts stand in each variant so that the tag, the kind and the mark share four bytes: with the fields in
+/// All parts are in each variant so that the tag, the kind and the mark share four bytes: with the fields in
 /// this order a token takes 32 bytes.
 #[derive(Drop)]
 enum Held<'a> {
@@ -66,7 +66,7 @@ enum Held<'a> {
         file: usize,
         spelling: &'a [u8],
     },
-    /// Owned by the token and its copies together, so that a spelling stands once however often its token is copied.
+    /// Shared by the token and its copies, so that a spelling is stored once however often its token is copied.
     Owned {
         kind: Kind,
         space_before: bool,
@@ -96,7 +96,7 @@ impl<'a> Model for PpToken<'a> {
 
 impl<'a> PpToken<'a> {
     /// The token with this kind and spelling, at this place. `space_before` says whether white space or
-    /// a comment stands directly before it. Fails only where memory runs out, which only an owned spelling
+    /// a comment directly precedes it. Fails only where memory runs out, which only an owned spelling
     /// can meet.
     #[inline(always)]
     pub fn new(
@@ -128,7 +128,7 @@ impl<'a> PpToken<'a> {
         Ok(PpToken { held })
     }
 
-    /// What kind of token it is.
+    /// The kind of the token.
     pub fn kind(&self) -> Kind
         ensures { result ≡ self.now.kind }
     {
@@ -158,7 +158,7 @@ impl<'a> PpToken<'a> {
         }
     }
 
-    /// Whether white space or a comment stands directly before it on its line.
+    /// Whether white space or a comment directly precedes it on its line.
     pub fn space_before(&self) -> bool
         ensures { result ≡ self.now.space_before }
     {
@@ -179,7 +179,7 @@ impl<'a> PpToken<'a> {
         Pos { file, line }
     }
 
-    /// The same token with this mark: whether white space or a comment stands directly before it.
+    /// The same token with this mark: whether white space or a comment directly precedes it.
     pub fn with_space(self, space_before: bool) -> PpToken<'a>
         ensures { result ≡ record self.entry { space_before = space_before } }
     {

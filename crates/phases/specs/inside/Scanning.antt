@@ -16,7 +16,7 @@ abbrev pub or_later : Option Pos → Option Pos → Option Pos
 or_later None p = p
 or_later (Some q) p = Some q
 
--- what a file holds, by what is scanned of it and what the rest of it holds
+-- the contents of a file, by the part already scanned and the contents of the rest
 abbrev pub whole : Scanner → Found → Found
 whole s f =
     record { lines = s.list.lines ++ before s.list.line f.lines; overlong = or_later s.overlong f.overlong; unclosed = or_later s.unclosed f.unclosed }
@@ -77,7 +77,7 @@ pub record Puts (old : Scanner) (new : Scanner) (at : Cursor) (first : Step) (fr
   pub space_is : new.space ≡ space_after front.piece
   pub file_is : new.file ≡ old.file
 
--- so many characters from here on are scanned
+-- the characters from here on through the end of `s` are scanned
 pub record Goes (old : Scanner) (new : Scanner) (from : Cursor) (s : Span) : Type 0 where
   pub spans : Spans from s.count s.after
   pub file_is : new.file ≡ old.file
