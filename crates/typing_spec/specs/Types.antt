@@ -103,7 +103,7 @@ same_function f g = same_result f.result g.result && (same_truth f.constant g.co
 
 -- ---- the composite type (6.2.7p3), where the types are compatible: a known size is kept
 
--- an array of so many such objects
+-- an array of `n` such objects
 abbrev pub array_of : ℕ → ObjectType → ObjectType
 array_of n t = record { element = t.element; constant = t.constant; lengths = n ∷ t.lengths }
 
