@@ -22,7 +22,7 @@ use Rattle.interp_store.specs.layer.Agrees.{state_in, onto, Agrees, Takes, frame
 pub agrees_as : (m m2 : Moved) (fs gs : List on.Frame) (r : Result Step Stop) (t : State) → m2 ≡ m → Agrees (onto fs m2) r gs t → Agrees (onto fs m) r gs t
 agrees_as m m2 fs gs r t e h = let P : Moved → Type 0 = λ m. Agrees (onto fs m) r gs t in subst P e h
 
--- a frame that was pushed before waits behind it
+-- a frame that was pushed before waits after it
 pub onto_behind : (fs : List on.Frame) (f : on.Frame) (m : Moved) → onto (fs ++ f ∷ []) m ≡ onto fs (behind f m)
 onto_behind fs f (moves pushed step s) = ap (λ l. moves l step s) (append_assoc fs (f ∷ []) pushed)
 onto_behind fs f (halts e s) = refl
@@ -44,7 +44,7 @@ takes_as old new r step step2 e h = λ o.
     agrees_as (step (program_of old.program.now) (state_in old.scene o)) (step2 (program_of old.program.now) (state_in old.scene o)) (frames_of old) (frames_of new) r
     (state_in new.scene o) (e (program_of old.program.now) (state_in old.scene o)) (h o)
 
--- ---- what frames do
+-- ---- the steps of frames
 
 -- a frame that gets a value takes the step of the frame that it is
 pub left_as : (frame f : OperandFrame) (v v2 : ℤ) (old new : Machine) (r : Result Step Stop) → frame ≡ f → v2 ≡ v →

@@ -1,4 +1,4 @@
--- The objects that live, and what they stand for.
+-- The live objects, and the model that represents them.
 use Rattle.std.proofs.Common.{◌≡◌, ℕ, ℤ, zero, suc, ◌+◌, ◌<◌, ◌≤◌, List, [], ◌∷◌, length, map, take, get_or, replicate, Option, Some, None, refl, sym, ap, subst, ◌∙◌, arith}
 use Rattle.std.specs.Prelude.{slice_get, slice_set, option_map, Result, Ok, Err, IfOk, OnOk}
 use Rattle.typing_spec.specs.Types.{elements_in}

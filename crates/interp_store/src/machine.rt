@@ -18,7 +18,7 @@ use crate::stop::Stop;
 use std::alloc::Global;
 use typed_ast::Program;
 
-/// The machine: what waits, and the objects of the run.
+/// The machine: the waiting frames, and the objects of the run.
 #[derive(Drop)]
 pub struct Machine<'p> {
     pub alloc: Global,
@@ -62,7 +62,7 @@ impl<'p> Machine<'p> {
         }
     }
 
-    /// A frame waits for what a node gives.
+    /// Pushes a frame that waits for the result of a node.
     ///
     /// Errors: memory ran out.
     #[inline(always)]
