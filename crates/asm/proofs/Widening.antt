@@ -174,7 +174,7 @@ measured_more places base xs n a before room is = record {
 pub measured_all : (places : List ℕ) (base : ℕ) (xs : List Item) → MeasuredTo places base xs (length xs + 1) → IsMeasured places all_short base xs
 measured_all places base xs m = record { at = λ k le. m.at k (omega arith) }
 
--- what is measured with all branches short is measured with none long
+-- the places measured with all branches short are those measured with none long
 pub short_measured : (places : List ℕ) (base : ℕ) (xs : List Item) (n : ℕ) → IsMeasured places all_short base xs → IsMeasured places (longs (replicate n false)) base xs
 short_measured places base xs n m = record { at = λ k le. m.at k le ∙ same k }
   where

@@ -31,7 +31,7 @@ pub record IsListingOf (base : ℕ) (xs : List Item) (listing : List ℕ) : Type
   pub assembled : IsFewest xs base (bytes_of words)
   pub lines : IsListing base words listing
 
--- a listing of the items from base was written after what was there
+-- a listing of the items from base was written after the earlier contents
 pub record Lists (base : ℕ) (xs : List Item) (before after : Option (List ℕ)) : Type 0 where
   pub listing : List ℕ
   pub is_listing : IsListingOf base xs listing

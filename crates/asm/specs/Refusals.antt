@@ -1,4 +1,4 @@
--- What a refused call says.
+-- The postconditions of a call that fails.
 use Rattle.std.specs.Prelude.{◌≡◌, ◌⊎◌, ℕ, List, [], Option}
 use Rattle.srcset.specs.declared.code.Code.TheVariants as code
 use Rattle.srcset.specs.Writing.{TakesBeginning}

@@ -47,7 +47,7 @@ fn names_known(homes: &[usize], item: Item) -> bool
 }
 
 /// Whether the item names only labels of the table, and marks none that is marked already; its number is put for a label that it marks.
-/// Most items are marks and instructions, which are told by two tests.
+/// Most items are marks and instructions, which two tests recognise.
 fn note(homes: &mut [usize], end: usize, number: usize, item: Item) -> bool
     ensures noted { OnTrue result (IsNoted homes.old homes.new end number item) }
     ensures unfit { OnFalse result (IsUnfit homes.old end item) }
@@ -61,7 +61,7 @@ fn note(homes: &mut [usize], end: usize, number: usize, item: Item) -> bool
     }
 }
 
-/// Puts for each label that is marked the number of the item that marks it; says whether no item stands against a table.
+/// Stores for each label that is marked the number of the item that marks it; returns whether no item violates the table's conditions.
 fn note_items(items: &[Item], homes: &mut [usize]) -> bool
     requires clear { AllAre homes.old (length items.now) (length homes.old) }
     ensures noted { OnTrue result (Noting homes.new items.now (length items.now)) }
@@ -101,7 +101,7 @@ pub fn fill_table(items: &[Item], homes: &mut [usize]) -> bool
     }
 }
 
-/// Whether so many items end below 0x70000000 whatever they are: an item has at most 8 bytes.
+/// Whether `count` items end below 0x70000000 whatever they are: an item has at most 8 bytes.
 fn are_few(count: usize, base: u32) -> bool
     ensures { OnTrue result (base + 8 * count < 0x70000000) }
 {

@@ -222,7 +222,7 @@ fn put_other(
     }
 }
 
-/// Writes the words of one item. Most items are marks and instructions, which are told by two tests.
+/// Writes the words of one item. Most items are marks and instructions, which two tests recognise.
 fn put_item(
     code: &mut Vec<u8>,
     item: Item,

@@ -1,4 +1,4 @@
-//! Where the items stand, and which branches are long.
+//! The addresses of the items, and the choice of long branches.
 
 ghost use Rattle.std.specs.Prelude.{◌≡◌, ◌≤◌, ◌<◌, ◌+◌, ◌*◌, ◌-◌, ◌/◌, ◌%◌, ◌^◌, ℕ, true, false, Bool, length, not, replicate, slice_index, slice_index_or, sum_by, slice_set, vec_len, IfOk};
 ghost use Rattle.std.specs.Bool.{OnTrue, OnFalse};
@@ -227,7 +227,7 @@ fn widen_part(
 /// The bytes of a part: as far as a branch reaches.
 const PART: u32 = 4096;
 
-/// The number of the first item that stands `bytes` or more after the item `low`, or the end.
+/// The number of the first item that is `bytes` or more after the item `low`, or the end.
 fn item_after(items: &[Item], long: &[bool], low: usize, bytes: u32) -> usize
     requires longs { length long.now ≡ length items.now }
     requires inside { low ≤ length items.now }
@@ -243,7 +243,7 @@ fn item_after(items: &[Item], long: &[bool], low: usize, bytes: u32) -> usize
     items.len()
 }
 
-/// The number of the last item that stands `bytes` or more before the item `high`, or the begin.
+/// The number of the last item that is `bytes` or more before the item `high`, or the begin.
 fn item_before(items: &[Item], long: &[bool], high: usize, bytes: u32) -> usize
     requires longs { length long.now ≡ length items.now }
     requires inside { high ≤ length items.now }
@@ -314,7 +314,7 @@ fn settle(items: &[Item], homes: &[usize], base: u32, places: &mut [u32], long: 
     false
 }
 
-/// Makes long what must be long, and measures.
+/// Makes long each branch that needs it, and measures.
 fn relax(items: &[Item], homes: &[usize], base: u32, places: &mut [u32], long: &mut [bool])
     requires table { IsTable homes.now items.now }
     requires room { length places.old ≡ length items.now + 1 }

@@ -90,7 +90,7 @@ fn listing_of(alloc: Global, items: &[Item], homes: &[usize], base: u32) -> Resu
     Ok(bytes)
 }
 
-/// What became of a listing that was handed to the writer.
+/// The result of handing a listing to the writer.
 fn outcome(is_written: bool) -> Result<(), Refusal>
     ensures ok { IsOk result ↔ IsTrue is_written }
     ensures err { IfErr result (λ refusal. refusal ≡ Refusal.Write) }

@@ -1,4 +1,4 @@
-//! Why there is no answer.
+//! The reasons for a failure.
 
 ghost use Rattle.std.specs.Prelude.{◌≡◌, [], Ok, IsErrAnd, MatchResult};
 ghost use Rattle.srcset.specs.Fault.{IsFault};
@@ -32,7 +32,7 @@ impl<T: Drop> From<AllocFailed<T>> for Refusal {
     }
 }
 
-/// What an inner step answered, its refusal as the fault.
+/// The result of an inner step, its error converted to the fault.
 pub fn told<T>(alloc: Global, step: Result<T, Refusal>) -> Result<T, Fault>
     ensures { MatchResult step (λ value. result ≡ Ok value)
         (λ refusal. IsErrAnd result (λ fault. IsFault fault (code_of refusal) [] 0)) }
@@ -54,7 +54,7 @@ impl Refusal {
         }
     }
 
-    /// The fault, which stands in no file.
+    /// The fault, which names no file.
     fn to_fault(self, alloc: Global) -> Fault
         ensures { IsFault result (code_of self) [] 0 }
     {

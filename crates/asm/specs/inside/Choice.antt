@@ -33,7 +33,7 @@ IsNoted was now end k (Constant rd v) = (v < 2 ^ 32) × (now ≡ was)
 IsNoted was now end k (LabelAddress rd l) = (l < length was) × (now ≡ was)
 IsNoted was now end k (DataAddress rd o) = (o < 0x10000000) × (now ≡ was)
 
--- an item stands against the table
+-- an item violates a condition of the table
 abbrev pub IsUnfit : List ℕ → ℕ → Item → Type 0
 IsUnfit homes end (Mark l) = l < length homes → slice_index homes l ≡ end → ⊥
 IsUnfit homes end (Plain i) = ⊥
