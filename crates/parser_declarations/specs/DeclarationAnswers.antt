@@ -1,4 +1,4 @@
--- Where declarations begin, and what the functions that read them answer.
+-- Where declarations begin, and the postconditions of the functions that parse them.
 use Rattle.std.specs.Prelude.{ℕ, ◌+◌, ◌<◌, Option, None, max, List, [], ◌∷◌, map, length, Result, Ok, Err}
 use Rattle.srcset.specs.declared.refusal.Pos.{Pos}
 use Rattle.lexer.specs.declared.token.Token.{Token}
@@ -39,7 +39,7 @@ AnswersDeclaration d ts (Err f) = FailsOf (SpellsDeclaration None Block) Anywher
 abbrev pub StandsDeclaration : ℕ → List Token → Refusal → Type 0
 StandsDeclaration d ts f = StandsOf (λ b. SpellsDeclaration b Block) declaration_depth d ts f
 
--- ---- what stands at the front of a unit: a whole declaration, or a function definition up to the brace of its body
+-- ---- the front of a unit: a whole declaration, or a function definition up to the brace of its body
 
 pub record OpeningTree : Type 0 where
   pub start : Pos

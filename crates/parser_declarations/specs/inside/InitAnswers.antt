@@ -1,4 +1,4 @@
--- What the functions that read initialisers answer.
+-- The postconditions of the functions that parse initialisers.
 use Rattle.std.specs.Prelude.{ℕ, Option, None, List, map, Result, Ok, Err}
 use Rattle.srcset.specs.declared.refusal.Pos.{Pos}
 use Rattle.lexer.specs.declared.token.Token.{Token}

@@ -1,4 +1,4 @@
--- What the functions that read specifiers, sizes and parameters answer.
+-- The postconditions of the functions that parse specifiers, sizes and parameters.
 use Rattle.std.specs.Prelude.{ℕ, ◌<◌, Option, None, List, [], ◌∷◌, map, length, Result, Ok, Err}
 use Rattle.lexer.specs.declared.token.Token.{Token}
 use Rattle.lexer.specs.declared.token.Kind.{Kind}
@@ -30,7 +30,7 @@ pub record SpellsSomeSpecifiers (scope : Scope) (ss : List SpecifierTree) (ts re
   pub some : 0 < length ss
   pub spells : SpellsDeclarationSpecifiers None scope ss ts rest
 
--- no further specifier stands there, and no list of enumerators, which would belong to the last one
+-- the front is no further specifier, and no list of enumerators, which would belong to the last one
 abbrev pub EndsSpecifiers : List SpecifierTree → List Token → Type 0
 EndsSpecifiers ss rest = (BeginsSpecifier rest → ⊥) × NotFront (kind.Punctuator sign.BraceOpen) rest
 
