@@ -1,4 +1,4 @@
--- What the functions that read expressions and type names answer.
+-- The postconditions of the functions that parse expressions and type names.
 use Rattle.std.specs.Prelude.{◌≡◌, ℕ, ◌+◌, ◌<◌, ◌≤◌, None, Some, List, [], ◌∷◌, length, Result, Ok, Err}
 use Rattle.srcset.specs.declared.refusal.Pos.{Pos}
 use Rattle.lexer.specs.declared.token.Token.{Token}
@@ -101,7 +101,7 @@ pub record Passes (n d : ℕ) (ts : List Token) (at : Pos) : Type 0 where
   pub ends : Reaches ts (record { kind = last; pos = at } ∷ cut)
   pub deep : depth_limit < d + depth tree
 
--- the refusal stands: of a depth, some begun tree passes it
+-- the refusal is justified: for a depth, some begun tree exceeds it
 abbrev pub Stands : ℕ → ℕ → List Token → Refusal → Type 0
 Stands n d ts (Syntax left) = Unit {0}
 Stands n d ts (Depth at) = Passes n d ts at
@@ -138,7 +138,7 @@ pub record ReadsSpecifiers (ts : List Token) (at : Pos) (ss : List TypeSpecifier
   pub spells : SpellsSpecifiers ss ts rest
   pub only : (us : List TypeSpecifier) (r : List Token) → SpellsSpecifiers us ts r → (BeginsType r → ⊥) → (us ≡ ss) × (r ≡ rest)
 
--- none can stand there
+-- the tokens spell none
 pub record FailsSpecifiers (ts : List Token) (f : Refusal) : Type 0 where
   pub each : (us : List TypeSpecifier) (r : List Token) → SpellsSpecifiers us ts r → 0 < length us → (BeginsType r → ⊥) → Excuses f 0 0
 
@@ -146,7 +146,7 @@ abbrev pub AnswersSpecifiers : List Token → Result SpecifiersPart Refusal → 
 AnswersSpecifiers ts (Ok p) = ReadsSpecifiers ts p.specifiers.pos p.specifiers.list.items p.rest.now
 AnswersSpecifiers ts (Err f) = FailsSpecifiers ts f
 
--- refusals of what is never too deep
+-- refusals other than those for the depth
 abbrev pub NotDepth : Refusal → Type 0
 NotDepth (Syntax left) = Unit {0}
 NotDepth (Depth at) = ⊥
