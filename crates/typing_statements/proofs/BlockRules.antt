@@ -1,4 +1,4 @@
--- What the items of a block say of it.
+-- The verdict on a block, from those on its items.
 use Rattle.std.proofs.Common.{◌≡◌, ℕ, ◌+◌, ◌-◌, ◌<◌, ◌≤◌, ℤ, List, [], ◌∷◌, ◌++◌, length, drop, get_or, map, Option, Some, None, refl, sym, ap, ◌∙◌, subst, append_assoc, append-nil, rules, Global, Ok, Err, IfOk, IfErr, OnOk}
 use Rattle.std.specs.Prelude.{Box, Vec, Result}
 use Rattle.std.proofs.lemmas.List.{map-append, drop_all}
