@@ -63,7 +63,7 @@ fn base_number(element: IntType) -> usize {
 }
 
 impl Types {
-    /// The entries of the integer types, behind so many bytes of the unit.
+    /// The entries of the integer types, after `before` bytes of the unit.
     pub(crate) fn new(alloc: Global, before: usize) -> Result<Types, AllocError> {
         let mut types = Types {
             entries: Vec::new(alloc),

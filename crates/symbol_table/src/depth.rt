@@ -3,7 +3,7 @@
 use crate::functions::Function;
 use std::alloc::{AllocError, Global};
 
-/// What is summed along a chain of calls.
+/// The quantity summed along a chain of calls.
 #[derive(Clone, Copy, Debug, PartialEq, Eq)]
 pub enum Cost {
     /// The bytes of frames.
@@ -38,7 +38,7 @@ struct Best {
     callee: Option<usize>,
 }
 
-/// What is known of the functions so far.
+/// The results for the functions so far.
 #[derive(Drop)]
 struct Depths {
     // How many of the calls of each function are not settled.
@@ -50,7 +50,7 @@ struct Depths {
     settled: Vec<usize>,
 }
 
-/// The greatest sum of costs along the calls from a function on, where these come to no circle.
+/// The greatest sum of costs along the calls from a function on, where these contain no cycle.
 pub fn deepest(
     alloc: Global,
     functions: &[Function],
