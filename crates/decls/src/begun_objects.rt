@@ -30,7 +30,7 @@ pub struct BegunObject {
     pub what: Storage,
 }
 
-/// The storage of what a name stands for.
+/// The storage of the object that a name denotes.
 fn storage_in(meaning: &Meaning) -> Storage
     ensures { storage_of result ≡ typed.storage_in (meaning_of meaning.now) }
 {
@@ -84,7 +84,7 @@ fn type_of_binding(
     }
 }
 
-/// The declarator of an object, whose name is in scope behind it.
+/// The declarator of an object, whose name is in scope after it.
 ///
 /// Fails
 /// - as `decls_declarators::declared_type` does where its type is none;
