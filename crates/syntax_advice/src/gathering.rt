@@ -67,7 +67,7 @@ fn put_some(
     Ok(())
 }
 
-/// What may be missing behind the last token of the file.
+/// The candidate for a missing token after the last token of the file.
 fn at_end(words: &Words<'_>, number: usize) -> Option<Candidate> {
     let past = number.saturating_add(1);
     if past < words.list.len() {

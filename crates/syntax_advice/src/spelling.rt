@@ -47,7 +47,7 @@ fn keyword_within(alloc: Global, word: &str, distance: usize) -> Result<&'static
     Ok("")
 }
 
-/// What may be meant by a word; empty where nothing is near.
+/// The word that may be meant by a word; empty where nothing is near.
 fn meant(alloc: Global, word: &[u8]) -> Result<&'static str, AllocError> {
     if !is_identifier(word) || word.len() < 2 || word.len() > MAX_WORD {
         return Ok("");
