@@ -1,4 +1,4 @@
--- What a call that writes many bytes leaves.
+-- The output of a call that writes many bytes.
 use Rattle.std.specs.Prelude.{ℕ, ◌≤◌, List, Option, take, length}
 use Rattle.std.specs.Io.KnownBytes.{Appends}
 

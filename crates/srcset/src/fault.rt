@@ -1,4 +1,4 @@
-//! Faults: what the compiler says where it refuses its input.
+//! Faults: the diagnostics of the compiler where it rejects its input.
 ghost use Rattle.std.specs.Prelude.{◌≡◌, ◌++◌, IfOk, OnOk, Some};
 ghost use Rattle.std.specs.Prelude.{◌⊎◌};
 ghost use Rattle.srcset.specs.Fault.{IsFaultOrMemory, IsFaultWith, IsMemoryFault, fault_line, place_text};
@@ -22,7 +22,7 @@ pub struct Fault {
     pub file: String,
     /// The line, counted from 1, or 0 where the fault concerns no line.
     pub line: u32,
-    /// What this fault adds to the text of its code: the tokens of an `#error`, each after a space,
+    /// The text that this fault adds to that of its code: the tokens of an `#error`, each after a space,
     /// and else nothing.
     pub text: String,
 }
@@ -108,7 +108,7 @@ impl fmt::Display for Fault {
     }
 }
 
-// Adds where a fault stands: `FILE:LINE: `, or `cc: ` where there is no file.
+// Appends the place of a fault: `FILE:LINE: `, or `cc: ` where there is no file.
 fn push_place(text: &mut Vec<u8>, file: &str, line: u32) -> Result<(), AllocError>
     ensures { OnOk result (text.new.items ≡ text.old.items ++ place_text file.now line) }
 {

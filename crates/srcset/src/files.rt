@@ -100,7 +100,7 @@ impl FileSet {
         self.files.is_empty()
     }
 
-    /// Adds a file behind those that are there.
+    /// Adds a file after the existing ones.
     ///
     /// The first of these that holds refuses it, and leaves the set as it was: the name is not one
     /// that a file may have (102), it is taken (101), the file has more than 1,048,576 bytes (701),
@@ -158,7 +158,7 @@ fn are_name_bytes(bytes: &[u8]) -> bool
     bytes.iter().all(|b| is_name_byte(*b))
 }
 
-// Whether this byte may stand in a file's name.
+// Whether a file's name may contain this byte.
 fn is_name_byte(b: u8) -> bool
     ensures { result ≡ name_byte b }
 {

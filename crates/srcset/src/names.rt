@@ -1,4 +1,4 @@
-//! Numbers that stand for texts.
+//! String interner.
 ghost use Rattle.std.specs.Prelude.{◌≡◌, ◌↔◌, ℕ, [], ◌∷◌, ◌++◌, Some, Ok, IsTrue, slice_get, IfOk, IfErr, OnOk, OnErr, length};
 ghost use Rattle.std.specs.Option.{option_copied};
 ghost use Rattle.srcset.specs.NameTable.{with_text, shown_text, file_name_of, KeepsNumbers, NumbersOnce};

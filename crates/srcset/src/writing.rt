@@ -8,7 +8,7 @@ use std::io::{ErrorKind, Write};
 /// How often a call that a signal interrupted is tried, in all, so that each call ends.
 pub const TRIES: u32 = 1000;
 
-/// Writes what the writer takes at once, of a text that is not empty. `None` where it refuses.
+/// Writes the bytes of a text, which is not empty, that the writer accepts at once. `None` where it fails.
 fn write_part<W: Write>(writer: &mut W, bytes: &[u8]) -> Option<usize>
     ensures bound { IfSome result (λ count. (1 ≤ count) × (count ≤ length bytes.now)) }
     ensures taken { MatchOption result
