@@ -250,7 +250,7 @@ fn block_items_depth(items: &[BlockItem]) -> u32
 }
 
 impl BlockItem {
-    /// The depth of what stands in a block (6.8.2).
+    /// The depth of an item of a block (6.8.2).
     #[cycle(statement_depth)]
     pub fn depth(&self) -> u32
         ensures { result ≡ capped32 (piece_depth (piece_of self.now)) }
