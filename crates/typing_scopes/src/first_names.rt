@@ -1,4 +1,4 @@
-//! Where the first of several equal names stands, in constant time.
+//! The place of the first of several equal names, in constant time.
 
 ghost use Rattle.std.specs.Prelude.{◌≡◌, IfOk};
 ghost use Rattle.typing_spec.specs.Scope as typed;

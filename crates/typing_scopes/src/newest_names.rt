@@ -1,4 +1,4 @@
-//! Where the newest of several equal names stands, in constant time.
+//! The place of the newest of several equal names, in constant time.
 
 ghost use Rattle.std.specs.Prelude.{◌≡◌, ◌+◌, ◌<◌, ◌≤◌, ℕ, List, [], ◌∷◌, OnOk, OnErr, length, get_or, drop, reverse};
 ghost use Rattle.typing_scopes.specs.NewestNames.{place_of, newest_of, names_of, Hides};

@@ -1,4 +1,4 @@
-//! Scopes: what each name stands for (6.2.1 to 6.2.4), and what the program so far has declared.
+//! Scopes: the meaning of each name (6.2.1 to 6.2.4), and the declarations of the program so far.
 
 ghost use Rattle.std.specs.Prelude.{◌≡◌, List, [], ◌∷◌, ◌++◌, map, OnOk, OnErr, IfOk, IfErr, drop, length};
 ghost use Rattle.typing_spec.specs.Scope as typed;
@@ -25,9 +25,9 @@ pub struct Block {
     level: usize,
 }
 
-/// The names and tags in scope, and what the program so far has declared.
+/// The names and tags in scope, and the declarations of the program so far.
 ///
-/// Names and tags are found in constant time, and leaving a block costs what it declared.
+/// A look-up of a name or tag takes constant time; leaving a block takes time in proportion to its declarations.
 #[derive(Drop)]
 pub struct Scope {
     definitions: FirstNames,
@@ -260,7 +260,7 @@ impl Scope {
             }
         }
     }
-    /// A block begins. It is 801 where it is as deep as a `usize` can tell.
+    /// Enters a block. It is 801 where the depth exceeds a `usize`.
     pub fn inside(&mut self) -> Result<Block, Refusal>
         ensures ok { IfOk result (λ b. (b ≡ block_of self.old) × (self.new ≡ typed.inside self.old)) }
         ensures err { OnErr result (self.new ≡ self.old) }
@@ -294,7 +294,7 @@ impl Scope {
         self.tags.pop();
     }
 
-    /// The names go that came after the first so many.
+    /// Removes the names after the first `count`.
     fn leave_names(&mut self, count: usize)
         ensures { self.new ≡ names_left count self.old }
     {
@@ -303,7 +303,7 @@ impl Scope {
         }
     }
 
-    /// The tags go that came after the first so many.
+    /// Removes the tags after the first `count`.
     fn leave_tags(&mut self, count: usize)
         ensures { self.new ≡ tags_left count self.old }
     {
@@ -312,7 +312,7 @@ impl Scope {
         }
     }
 
-    /// A block ends: its names and tags go, what was declared stays. It costs what the block declared.
+    /// Leaves a block: removes its names and tags, keeps its objects. It costs as much as the block has declarations.
     pub fn outside(&mut self, block: Block)
         ensures { (outer : typed.Scope) (names : List typed.Binding) (tags : List typed.Tag) → block ≡ block_of outer → self.old.bindings ≡ names ++ outer.bindings → self.old.tags ≡ tags ++ outer.tags → self.new ≡ typed.outside outer self.old }
     {
