@@ -51,8 +51,8 @@ pub fn program_of(
     })
 }
 
-/// The program of a unit with these string literals and objects with static storage, whose names are those of a scope. What
-/// concerns the whole unit stands at the place `whole`.
+/// The program of a unit with these string literals and objects with static storage, whose names are those of a scope. Faults
+/// that concern the whole unit have the place `whole`.
 ///
 /// Fails
 /// - with 713 where its static objects and string literals take too many bytes, with 715 where it has too many functions;
