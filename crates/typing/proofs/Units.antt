@@ -1,4 +1,4 @@
--- Functions and external declarations, and what has been looked at before them.
+-- Functions and external declarations, and the result before them.
 use Rattle.std.proofs.Common.{◌≡◌, ℕ, List, [], ◌∷◌, ◌++◌, map, length, arith, refl, sym, ap, ◌∙◌, subst}
 use Rattle.std.proofs.lemmas.List.{map-append}
 use Rattle.srcset.specs.NameTable.{Texts}
@@ -64,7 +64,7 @@ pub with_body_told : (b : Built) (F : FunctionTree) (d : Specified) (t : List (L
     Tells r (body_read b F (typed_as d types) (with_texts t file) (with_texts t (entered (names_of F.parameters) types own file))) → Tells r (with_parameters b F d (within t types inner))
 with_body_told b F d t outer inner s1 file types own r s p o e f h = subst (λ v. Tells r v) (sym (with_fine b F d t outer inner s1 file types own _ s p o e f refl)) h
 
--- ---- a function behind those before
+-- ---- a function after those before
 
 pub built_more : (stack : ℕ) (s : Scope) (fs new_fs : List held.Function) (is new_is js : List Initial) (old : Scope) (g : held.Function) → new_fs ≡ fs ++ g ∷ [] → new_is ≡ is ++ js → one_more (built_of stack old fs is) s g js ≡ built_of stack s new_fs new_is
 built_more stack s fs new_fs is new_is js old g e f =

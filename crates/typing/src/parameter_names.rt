@@ -51,7 +51,7 @@ fn count_one(count: &mut usize) -> Result<(), Refusal>
     }
 }
 
-/// A name, if there is one, stands for the object with this number.
+/// Binds a name, if there is one, to the object with this number.
 fn name_number(
     scope: &mut Scope,
     name: Option<usize>,
@@ -73,7 +73,7 @@ fn name_number(
     }
 }
 
-/// A name, if there is one, stands for the reference with this number.
+/// Binds a name, if there is one, to the reference with this number.
 fn name_reference(
     scope: &mut Scope,
     name: Option<usize>,
