@@ -38,7 +38,7 @@ one_renewed objects a i count n s t whole h at e all =
 pub all_done : (objects : List ObjectType) (a i count : ℕ) (s whole : State) → count ≡ i → all_renewed objects (a + i) (count - i) s ≡ whole → s ≡ whole
 all_done objects a i count s whole e all = let none : count - i ≡ 0 = omega arith in sym (ap (λ k. all_renewed objects (a + i) k s) none) ∙ all
 
--- what is found without further steps
+-- a result without further steps
 pub leaves_as : (fs : List on.Frame) (x : Found) (r : Result Step Stop) (s t : State) → r ≡ Ok (step.Leaves x) → t ≡ s → Agrees (onto fs (goes (found_of x) s)) r fs t
 leaves_as fs x r s t e same =
     let P : Result Step Stop → Type 0 = λ r. Agrees (onto fs (goes (found_of x) s)) r fs t in

@@ -20,7 +20,7 @@ use interp_store::scene::Scene;
 use interp_store::stop::Stop;
 use std::alloc::Global;
 
-/// An element gets its first value, behind its tick.
+/// An element gets its first value, after its tick.
 pub fn enter_element<'p>(machine: &mut Machine<'p>, r: Reference, v: i64) -> Result<Step<'p>, Stop>
     ensures takes { Takes (λ p s. entered p (node_of (node.Element r v)) s) machine.old result machine.new }
     ensures program { machine.new.program ≡ machine.old.program }
