@@ -14,7 +14,7 @@ abbrev pub EachFits : (usages : List (Option ℕ)) → (room : ℕ) → (calls :
 EachFits usages room [] = Unit {0}
 EachFits usages room (f ∷ calls) = FitsIn room (slice_get usages f) × EachFits usages room calls
 
--- a function uses its own size, and beside it the usage of any of the calls in its body
+-- a function uses its own size, and in addition the usage of any of the calls in its body
 pub record Covers (usages : List (Option ℕ)) (size : ℕ) (g : Function) (usage : ℕ) : Type 0 where
   pub own : size ≤ usage
   pub calls : EachFits usages (usage - size) (statement_calls g.body)
