@@ -1,4 +1,4 @@
--- Flat programs, and what their runs come to. Each was written from the C text above it; status and output are what such a
+-- Flat programs, and the results of their runs. Each was written from the C text above it; status and output are what such a
 -- program gives by ISO/IEC 9899:2011, where it is one.
 use Rattle.std.proofs.Common.{◌≡◌, refl}
 use Rattle.std.specs.Prelude.{ℕ, List, [], ◌∷◌}
@@ -113,7 +113,7 @@ ten_arguments :
 unfolding step
 ten_arguments = refl
 
--- they are gone behind the moves that a function begins with
+-- they are lost after the moves that a function begins with
 argument_too_late :
     run_of (whole (
     record { code = (move (to_temporary 8) (constant 8) ∷ call 1 ∷ return ∷ []); cells = 0; resident = 0; area = 0; outgoing = 1 } ∷
@@ -198,7 +198,7 @@ reference_is_no_word : run_of (whole (with_area 0 4 (address t0 (in_frame 0) ∷
 unfolding step
 reference_is_no_word = refl
 
--- behind the last instruction
+-- after the last instruction
 past_the_code : run_of (whole (plain (nothing ∷ []) ∷ [])) 2 ≡ stuck
 unfolding step
 past_the_code = refl

@@ -1,4 +1,4 @@
--- Flat code: what the last step before the machine's instructions works on. A function has temporaries, which a call may lose, and
+-- Flat code: the input of the last step before the machine's instructions. A function has temporaries, which a call may lose, and
 -- a frame of words and bytes, which it keeps. Its instructions are those of `src/code.rt`.
 use Rattle.std.specs.Prelude.{ℕ, ◌+◌, ◌*◌, ◌/◌, List, map}
 use Rattle.frames_code.specs.declared.code.Instruction.{Instruction}

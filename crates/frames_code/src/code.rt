@@ -7,7 +7,7 @@ ghost use Rattle.frames_code.specs.Sound.{most_bytes};
 
 use rv32::{RegisterOp, Test};
 
-/// What an instruction reads.
+/// An operand that an instruction reads.
 #[derive(Clone, Copy, Debug, PartialEq, Eq)]
 pub enum Operand {
     /// A temporary, which a call loses.
@@ -107,7 +107,7 @@ pub enum Instruction {
         target: Target,
         of: Location,
     },
-    /// The reference so many elements of `size` bytes on.
+    /// The reference a number of elements of `size` bytes further on.
     Element {
         target: Target,
         array: Operand,
