@@ -1,4 +1,4 @@
-//! What is written of a run: lines of text, or a JSON object a line.
+//! The output of a trace: lines of text, or a JSON object a line.
 
 use std::alloc::{AllocError, Global};
 
@@ -108,7 +108,7 @@ pub(crate) fn further(alloc: Global, form: TraceForm, name: &str) -> Result<Stri
     }
 }
 
-/// A byte was got, or none at the end of the input. Text tells nothing of it.
+/// A byte was read, or none at the end of the input. The text form prints nothing for it.
 pub(crate) fn got(alloc: Global, byte: Option<u8>) -> Result<String, AllocError> {
     match byte {
         Some(byte) => format!(in alloc; "{{\"event\":\"get\",\"byte\":{byte}}}\n"),
@@ -116,7 +116,7 @@ pub(crate) fn got(alloc: Global, byte: Option<u8>) -> Result<String, AllocError>
     }
 }
 
-/// A byte is put. Text tells nothing of it.
+/// A byte is written. The text form prints nothing for it.
 pub(crate) fn put(alloc: Global, byte: u8) -> Result<String, AllocError> {
     format!(in alloc; "{{\"event\":\"put\",\"byte\":{byte}}}\n")
 }
