@@ -1,4 +1,4 @@
-//! What a client says of itself and of the program when a session begins.
+//! The settings of the client and of the program, which a client sends when a session begins.
 
 use crate::definitions::{is_definition, is_macro_name};
 use crate::params::{flag_at, number_at, text_at};
@@ -21,7 +21,7 @@ pub struct Options {
     /// The macros that are defined, as `NAME`, `NAME=VALUE` or `NAME(PARAMETERS)=VALUE`, and those that are left out.
     pub defined: Vec<String>,
     pub undefined: Vec<String>,
-    /// What the options have that is no macro.
+    /// The entries of the options that are no macros.
     pub wrong: Vec<String>,
     /// The bytes of the stack.
     pub stack: u32,
@@ -120,7 +120,7 @@ fn folders_of(alloc: Global, root: &str, params: &Value) -> Result<Vec<String>, 
     Ok(folders)
 }
 
-/// The texts in the array at a pointer; what is no text is passed over.
+/// The texts in the array at a pointer; other values are skipped.
 fn texts_at(alloc: Global, params: &Value, pointer: &str) -> Result<Vec<String>, AllocError> {
     let mut texts = Vec::new(alloc);
     let Some(listed) = params.pointer(pointer).and_then(Value::as_array) else {

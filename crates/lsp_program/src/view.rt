@@ -6,7 +6,7 @@ use lsp_names::{Index, Lookup, Place, Source, Symbol, SymbolKind};
 use lsp_text::{Encoding, Position, Span};
 use std::alloc::{AllocError, Global};
 
-/// What a request is about: a file of a program, and an offset in it.
+/// The subject of a request: a file of a program, and an offset in it.
 #[derive(Clone, Copy)]
 pub struct Spot {
     pub file: usize,
@@ -75,7 +75,7 @@ impl View {
         self.index.lookup(spot.file, spot.offset)
     }
 
-    /// Whether `(` stands directly behind the name of a macro where it is defined.
+    /// Whether `(` directly follows the name of a macro where it is defined.
     pub fn has_parameters(&self, symbol: &Symbol) -> bool {
         let behind = Place {
             file: symbol.at.file,
@@ -166,7 +166,7 @@ fn index_of(alloc: Global, files: &[UnitFile]) -> Result<Index, AllocError> {
     Index::of(alloc, sources.as_slice(), main)
 }
 
-/// What stands before the first character of a file.
+/// The empty range before the first character of a file.
 pub fn beginning() -> Span {
     let start = Position {
         line: 0,
