@@ -6,7 +6,7 @@ use cli_io::say;
 use cli_sources::{Sources, stack_size};
 use symbol_table::{SymbolTable, symbol_table};
 
-/// An executable file, and what is told of it.
+/// An executable file, and its description.
 #[derive(Drop)]
 pub struct Described {
     pub built: Built,

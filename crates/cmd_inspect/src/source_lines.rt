@@ -4,7 +4,7 @@ use srcset::FileSet;
 use std::alloc::{AllocError, Global};
 use symbol_table::{Function, Line, SymbolTable};
 
-/// The lines of the sources at the addresses of their code, which are asked for by rising addresses.
+/// The lines of the sources at the addresses of their code, which are requested in the order of rising addresses.
 #[derive(Drop)]
 pub(crate) struct SourceLines<'l> {
     table: &'l SymbolTable,
