@@ -9,7 +9,7 @@ use srcset::FileSet;
 use std::io::{BufReader, BufWriter, IsTerminal, Stdin, Stdout};
 use std::{fs, io};
 
-/// Runs the executable file of the words, for at most so many instructions; answers the exit status.
+/// Runs the executable file of the command line, for at most `max` instructions; returns the exit status.
 pub fn run(rt: &HostRuntime, program: &Program<'_>, max: u64) -> u8 {
     match fs::read(rt, program.main) {
         Ok(file) => {
@@ -31,7 +31,7 @@ pub fn run(rt: &HostRuntime, program: &Program<'_>, max: u64) -> u8 {
     }
 }
 
-/// Interprets a program, for at most so many ticks; answers the exit status.
+/// Interprets a program, for at most `max` ticks; returns the exit status.
 pub fn interp(rt: &HostRuntime, program: &Program<'_>, max: u64) -> u8 {
     let sources = match read_sources(rt, program) {
         Ok(sources) => sources,
