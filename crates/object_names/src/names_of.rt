@@ -60,7 +60,7 @@ fn tokens_of(
     }
 }
 
-/// What a phase that refuses the files gives: nothing, but a refused growth is an error.
+/// The result of a phase that refuses the files: none, but a failed allocation is an error.
 fn refused<T>(fault: &Fault) -> Result<Option<T>, AllocError> {
     if fault.code == Code::OutOfMemory.number() {
         Err(AllocError)

@@ -183,7 +183,7 @@ fn put_name(objects: &mut [ObjectName], number: usize, name: String) {
     }
 }
 
-/// Whether these stand at the same places, in this order.
+/// Whether these are at the same places, in this order.
 fn are_same(declarators: &[Declarator], declared: &[Declared]) -> bool {
     if declarators.len() != declared.len() {
         return false;
