@@ -1,4 +1,4 @@
-//! An observer of a run up to its undefined act.
+//! An observer of a run up to its undefined behaviour.
 
 use crate::refusals::{Values, is_outside, is_refused_sign, refused, refused_step};
 use cabs::Observer;
@@ -16,7 +16,7 @@ use typed_ast::{Initialiser, Value};
 /// A place that is none.
 const NOWHERE: Pos = Pos { file: 0, line: 0 };
 
-/// A call that is active: the number of its function, and the place that it has come to, which is not known of the innermost.
+/// A call that is active: the number of its function, and the place that it has reached, which is not known of the innermost.
 #[derive(Clone, Copy)]
 pub(crate) struct ActiveCall {
     pub function: usize,
@@ -118,7 +118,7 @@ impl Following {
         }
     }
 
-    /// A place goes to what waits for it.
+    /// A place is passed to the frame that waits for it.
     fn place_found(&mut self, frame: &PlaceFrame<'_>, scene: &Scene, found: &Reference) {
         match frame {
             PlaceFrame::Reads(_) => {

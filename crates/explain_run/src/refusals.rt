@@ -1,4 +1,4 @@
-//! Whether what is found next is undefined.
+//! Whether the next result is undefined.
 
 use ctypes::{BinOp, IntType};
 use interp_store::Reference;
@@ -12,7 +12,7 @@ pub(crate) enum Values {
     Operands(Operands),
     /// Of the operand of a minus sign.
     Negated(i64),
-    /// An index outside the array of this name, which has so many elements.
+    /// An index outside the array of this name, which has this number of elements.
     Index(String, i64, usize),
     /// An element of the array of this name.
     Element(String, usize),
