@@ -8,10 +8,10 @@ pub const MAX_BODY_BYTES: usize = 33_554_432;
 /// The most bytes that a header may have.
 pub const MAX_HEADER_BYTES: usize = 4_096;
 
-/// What ends a header.
+/// The end of a header.
 const HEADER_END: &[u8; 4] = b"\r\n\r\n";
 
-/// What the bytes of a client hold next.
+/// The next item in the bytes of a client.
 #[derive(Drop)]
 pub enum Frame {
     /// The body of a message.
@@ -102,7 +102,7 @@ impl Inbox {
     }
 }
 
-/// How many bytes stand before the empty line that ends a header.
+/// The number of bytes before the empty line that ends a header.
 fn header_end(bytes: &[u8]) -> Option<usize> {
     let head = bytes.get(..MAX_HEADER_BYTES).unwrap_or(bytes);
     head.windows(4)

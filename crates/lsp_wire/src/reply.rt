@@ -1,4 +1,4 @@
-//! What a server writes.
+//! The output of a server.
 
 use crate::json_text::{put_number, put_string};
 use crate::message::Id;
@@ -19,7 +19,7 @@ pub enum RpcError {
     RequestFailed,
 }
 
-/// What a request is answered.
+/// The result of a request.
 #[derive(Drop)]
 pub enum Outcome {
     /// A value of JSON.
@@ -40,7 +40,7 @@ impl RpcError {
         }
     }
 
-    /// What this error is called.
+    /// The text of this error.
     pub fn text(self) -> &'static str {
         match self {
             RpcError::ParseError => "the message is not JSON",
