@@ -48,7 +48,7 @@ fn elements(lengths: &[u32]) -> usize
     count
 }
 
-/// Whether an array of these lengths has an element of this number: what is divided away has no bound.
+/// Whether an array of these lengths has an element of this number: divides instead of multiplying, since the product has no bound.
 pub fn has_element_in(lengths: &[u32], number: usize) -> bool
     ensures { IsTrue result ↔ (number < elements_in lengths.now) }
 {
