@@ -49,7 +49,7 @@ fn obey_plain(rt: &HostRuntime, words: &[&str]) -> u8 {
     }
 }
 
-/// Prints the help that was asked for, or what is wrong with the words, or that there was no memory to read them.
+/// Prints the requested help, or the error in the command line, or that there was no memory to parse it.
 fn show(rt: &HostRuntime, error: &clap::Error) -> u8 {
     if error.kind() == UsageKind::OutOfMemory {
         return say(rt, &Fault::memory(rt.alloc()));
