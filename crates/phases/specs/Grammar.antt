@@ -18,7 +18,7 @@ abbrev pub is_identifier : List ℕ → Bool
 is_identifier [] = false
 is_identifier (b ∷ bs) = is_letter b && all_word bs
 
--- preprocessing numbers, 6.4.8: how one goes on after the byte `last`
+-- preprocessing numbers, 6.4.8: how one continues after the byte `last`
 abbrev pub goes_on : ℕ → ℕ → Bool
 goes_on last b = is_word b || (b == byte ".") || (is_sign b && is_exponent last)
 

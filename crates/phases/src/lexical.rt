@@ -30,7 +30,7 @@ fn is_exponent(byte: u8) -> bool
     byte == b'e' || byte == b'E' || byte == b'p' || byte == b'P'
 }
 
-// Whether a preprocessing number goes on with `byte` after `last`.
+// Whether a preprocessing number continues with `byte` after `last`.
 #[inline(always)]
 pub(crate) fn goes_on(last: u8, byte: u8) -> bool
     ensures { result ≡ goes_on last byte }

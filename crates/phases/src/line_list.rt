@@ -107,7 +107,7 @@ impl<'a> LineBuilder<'a> {
         })
     }
 
-    /// Puts a token last on the line.
+    /// Appends a token to the line.
     #[inline(always)]
     pub(crate) fn push(&mut self, token: PpToken<'a>) -> Result<(), AllocError>
         ensures ok { OnOk result (self.new ≡ record { lines = self.old.lines; line = self.old.line ++ token.entry ∷ [] }) }

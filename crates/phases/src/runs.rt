@@ -24,10 +24,10 @@ fn is_ordinary(stop: u8, byte: u8) -> bool
     is_plain(byte) && !(byte == stop)
 }
 
-// How many bytes are looked at side by side.
+// How many bytes are tested in parallel.
 const BLOCK: usize = 16;
 
-// Whether all bytes are plain and not `stop`. Each is looked at, so that the processor may take them at once.
+// Whether all bytes are plain and not `stop`. Each is tested, so that the processor may test them in parallel.
 #[inline(always)]
 fn all_ordinary(bytes: &[u8], stop: u8) -> bool
     ensures { result ≡ all_ordinary stop bytes.now }
@@ -98,7 +98,7 @@ pub(crate) fn white_bytes(bytes: &[u8]) -> usize
     one
 }
 
-/// How many bytes from the first on go on with a word.
+/// How many of the first bytes continue a word.
 #[inline(always)]
 pub(crate) fn word_bytes(bytes: &[u8]) -> usize
     ensures { result ≡ word_len bytes.now }
@@ -113,7 +113,7 @@ pub(crate) fn word_bytes(bytes: &[u8]) -> usize
     count
 }
 
-/// How many bytes from the first on go on with a preprocessing number after the byte `first`.
+/// How many of the first bytes continue a preprocessing number after the byte `first`.
 pub(crate) fn number_bytes(bytes: &[u8], first: u8) -> usize
     ensures { result ≡ number_more first bytes.now }
 {

@@ -150,7 +150,7 @@ impl<'a> Scanner<'a> {
         }
     }
 
-    // Passes so much white space.
+    // Passes `count` characters of white space.
     #[inline(always)]
     fn pass_white(&mut self, count: usize)
         ensures { PassesWhite self.old self.new count }

@@ -60,7 +60,7 @@ pub record AddsWord (old : Scanner) (new : Scanner) (kind : Kind) (spelling : Li
   pub overlong_is : new.overlong ≡ or_later old.overlong (first_overlong (word_at old kind spelling line) None)
   pub unclosed_is : new.unclosed ≡ old.unclosed
 
--- so much white space is passed
+-- `count` characters of white space are passed
 pub record PassesWhite (old : Scanner) (new : Scanner) (count : ℕ) : Type 0 where
   pub file_is : new.file ≡ old.file
   pub lines_is : new.list.lines ≡ old.list.lines
