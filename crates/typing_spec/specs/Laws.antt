@@ -7,7 +7,7 @@ use Rattle.typing_spec.specs.Verdict.{fine, IfFine, Stands}
 use Rattle.typing_spec.specs.Scope.{Scope}
 use Rattle.typing_spec.specs.Declarations.{scope_after, declaration_typed}
 
--- a declaration that is fine leaves the scope that it has by its declarators alone, whose initialisers are looked at only for sizes
+-- a declaration that is fine leaves the scope that its declarators alone give, whose initialisers are examined only for sizes
 abbrev pub ScopeIsOfDeclarators : Type 0
 ScopeIsOfDeclarators = (s : Scope) (t : DeclarationTree) → IfFine (λ d. scope_after s t ≡ fine d.scope) (declaration_typed s t)
 

@@ -1,7 +1,7 @@
 -- The typed program: the input of the abstract machine after the phases of translation (ISO/IEC 9899:2011 5.1.2.3, 6.5 to 6.9).
 --
 -- Every conversion is written, as the type in the node to which the operands are converted; an explicit cast is a node of its
--- own. Parentheses are gone, and sizeof, enumerators and character constants are constants.
+-- own. Parentheses are removed, and sizeof, enumerators and character constants are constants.
 use Rattle.std.specs.Prelude.{ℕ, ℤ, Bool, List, Option}
 use Rattle.srcset.specs.declared.refusal.Pos.{Pos}
 use Rattle.ctypes.specs.declared.types.IntType.{IntType}

@@ -91,7 +91,7 @@ with_name s n meaning linkage state =
 abbrev pub with_tag : Scope → ℕ → Bool → Scope
 with_tag s n complete = record s { tags = record { name = n; level = s.level; complete = complete } ∷ s.tags }
 
--- a block begins, and ends: its names and tags leave scope, its objects stay (6.2.1p4)
+-- a block begins, and ends: its names and tags leave scope, its objects and literals stay (6.2.1p4)
 abbrev pub inside : Scope → Scope
 inside s = record s { level = s.level + 1 }
 

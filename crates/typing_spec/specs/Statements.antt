@@ -73,7 +73,7 @@ and_statements d more =
 abbrev pub and_declaration : Effects → AllDone → Verdict AllDone
 and_declaration e more = fine (record more { statements = followed_by e.statements more.statements; initial = e.initial ++ more.initial })
 
--- the block of the scope s, whose items have been looked at: its names go
+-- the block of the scope s, whose items have been typed: its names leave scope
 abbrev pub block_of : Scope → AllDone → Verdict Done
 block_of s all =
     done_with (outside s all.scope) all.initial (typed.block (length s.objects) (length all.scope.objects - length s.objects) all.statements)
