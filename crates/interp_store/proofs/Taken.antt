@@ -46,14 +46,14 @@ takes_as old new r step step2 e h = λ o.
 
 -- ---- the steps of frames
 
--- a frame that gets a value takes the step of the frame that it is
+-- equal frames and values take the same step
 pub left_as : (frame f : OperandFrame) (v v2 : ℤ) (old new : Machine) (r : Result Step Stop) → frame ≡ f → v2 ≡ v →
     Takes (λ p s. left_by_value p (operand_frame f) v2 s) old r new → Takes (λ p s. left_by_value p (operand_frame frame) v s) old r new
 left_as frame f v v2 old new r e same h =
     takes_as old new r (λ p s. left_by_value p (operand_frame frame) v s) (λ p s. left_by_value p (operand_frame f) v2 s)
     (λ p s. ap (λ v. left_by_value p (operand_frame f) v s) same ∙ ap (λ f. left_by_value p (operand_frame f) v s) (sym e)) h
 
--- one that gets a place
+-- and so do equal places
 pub place_left_as : (frame f : PlaceFrame) (at : Reference) (old new : Machine) (r : Result Step Stop) → frame ≡ f →
     Takes (λ p s. left_by_place p (place_frame f) at s) old r new → Takes (λ p s. left_by_place p (place_frame frame) at s) old r new
 place_left_as frame f at old new r e h =

@@ -1,6 +1,6 @@
 //! The frames on the machine's stack, the nodes that take the next tick, and the results.
 //!
-//! Statements are lent in their boxes and vectors where they can be: a type that reaches too many fields is refused.
+//! Statements are borrowed in their boxes and vectors where they can be: a type that reaches too many fields is rejected.
 
 use crate::reference::Reference;
 use ctypes::{BinOp, IntType};
@@ -98,9 +98,9 @@ pub struct CaseTest<'p> {
 /// The operation that follows once a number of ticks is spent.
 #[derive(Drop)]
 pub enum Late<'p> {
-    /// So many characters of a string literal are put.
+    /// A number of characters of a string literal are stored.
     PutsText(IntType, usize, usize, Reference),
-    /// So many elements or rows, from a number on, become zero.
+    /// A number of elements or rows, from a given one on, become zero.
     PutsZeros(usize, usize, &'p [u32], Reference),
     EntersBody(&'p [ObjectType], &'p Statement),
 }

@@ -104,7 +104,7 @@ pub fn count(lengths: &[u32]) -> Option<usize>
     Some(product)
 }
 
-/// So many numbers, from one on, become this one.
+/// Sets `count` numbers, from `first` on, to `v`.
 fn fill_numbers(numbers: &mut Vec<i64>, first: usize, count: usize, v: i64)
     requires { first + count ≤ length numbers.old.items }
     ensures inside { (j : ℕ) → j < count → cells.cell numbers.new.items (first + j) ≡ cells.value_in v }

@@ -22,7 +22,7 @@ given as_found (Stops e s) = Stops e s
 abbrev pub done : Unit {0} → Found
 done u = initialised
 
--- the caller goes on with its own objects
+-- the caller continues with its own objects
 abbrev pub back_at : ℕ → ℕ → List Reference → State → State
 back_at count base arrays s = record s { store = take count s.store; base = base; arrays = arrays; history = Left ∷ s.history }
 
