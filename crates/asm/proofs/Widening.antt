@@ -155,7 +155,7 @@ least_none base xs n = record { below = λ M f. record { all = λ k e. absurd (n
 pub measured_none : (places : List ℕ) (base : ℕ) (xs : List Item) → MeasuredTo places base xs 0
 measured_none places base xs = record { at = λ k lt. absurd (omega (arith, lt)) }
 
--- the address of item n is put
+-- the address of item n is stored
 pub measured_more : (places : List ℕ) (base : ℕ) (xs : List Item) (n a : ℕ) → MeasuredTo places base xs n → n < length places → a ≡ place all_short base xs n → MeasuredTo (set places n a) base xs (n + 1)
 measured_more places base xs n a before room is = record {
   at = λ k lt. elim (cases_lt k n) [
@@ -170,7 +170,7 @@ measured_more places base xs n a before room is = record {
   ];
 }
 
--- the end's is put too
+-- the end's is stored too
 pub measured_all : (places : List ℕ) (base : ℕ) (xs : List Item) → MeasuredTo places base xs (length xs + 1) → IsMeasured places all_short base xs
 measured_all places base xs m = record { at = λ k le. m.at k (omega arith) }
 

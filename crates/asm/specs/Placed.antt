@@ -46,7 +46,7 @@ pub record Long (T : ℕ → Option Instr) (t : Test) (l r a to next : ℕ) : Ty
   pub target : sum32 (a + 4) v ≡ to
   pub next_is : next ≡ a + 8
 
--- LUI and ADDI that put v in rd
+-- LUI and ADDI that load v into rd
 pub record Loads (T : ℕ → Option Instr) (a rd v next : ℕ) : Type 0 where
   pub high : ℕ
   pub low : ℕ

@@ -8,7 +8,7 @@ ghost use Rattle.asm.specs.inside.Choice.{IsTable, IsNoted, IsUnfit, AllAre, All
 use crate::item::Item;
 use crate::layout::size;
 
-/// Puts at each label the end, which is the number of no item.
+/// Stores for each label the end, which is the number of no item.
 fn clear(homes: &mut [usize], end: usize)
     ensures { AllAre homes.new end (length homes.new) }
 {
@@ -17,7 +17,7 @@ fn clear(homes: &mut [usize], end: usize)
     }
 }
 
-/// Puts the number of the item that marks the label, which has to have the end; says whether it had.
+/// Stores the number of the item that marks the label, whose entry must be the end; returns whether it was.
 fn mark_home(homes: &mut [usize], end: usize, number: usize, label: usize) -> bool
     ensures marked { OnTrue result ((label < length homes.old) × (slice_index homes.old label ≡ end)
         × (homes.new ≡ slice_set homes.old label number)) }
@@ -46,7 +46,7 @@ fn names_known(homes: &[usize], item: Item) -> bool
     }
 }
 
-/// Whether the item names only labels of the table, and marks none that is marked already; its number is put for a label that it marks.
+/// Whether the item names only labels of the table, and marks none that is marked already; stores its number for a label that it marks.
 /// Most items are marks and instructions, which two tests recognise.
 fn note(homes: &mut [usize], end: usize, number: usize, item: Item) -> bool
     ensures noted { OnTrue result (IsNoted homes.old homes.new end number item) }

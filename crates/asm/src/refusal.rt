@@ -8,7 +8,7 @@ ghost use Rattle.asm.specs.declared.refusal.Refusal.TheVariants.{Memory};
 use srcset::{Code, Fault};
 use std::alloc::{AllocError, AllocFailed, Global};
 
-/// A jump does not reach, there is no memory, or the writer refused.
+/// A jump does not reach, there is no memory, or the writer failed.
 #[derive(Clone, Copy, PartialEq, Eq, Debug, Drop)]
 pub enum Refusal {
     Far,

@@ -22,7 +22,7 @@ pub record AllAre (homes : List ℕ) (x n : ℕ) : Type 0 where
 pub record AllInside (homes : List ℕ) (x n : ℕ) : Type 0 where
   pub all : (l : ℕ) → l < n → slice_index homes l < x
 
--- item k, which names only labels of the table, made one table of the other: a mark puts k where the end was
+-- item k, which names only labels of the table, turns one table into the other: a mark stores k where the end was
 abbrev pub IsNoted : (was now : List ℕ) (end k : ℕ) → Item → Type 0
 IsNoted was now end k (Mark l) = (l < length was) × (slice_index was l ≡ end) × (now ≡ slice_set was l k)
 IsNoted was now end k (Plain i) = now ≡ was
