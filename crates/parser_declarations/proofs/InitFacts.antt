@@ -151,7 +151,7 @@ list_follows us y r e = closes_stops r e.0 e.1
 comma_follows : (y : Init) (at : Pos) (t r : List Token) → Own (kind.Punctuator sign.Comma) at t r → EndsInit y t
 comma_follows y at t r own = stops_own _ at t r own (omega arith)
 
--- where a list goes on it does not end
+-- where a list continues it does not end
 goes_on : (cur us : List Token) → Goes cur us → (xs : List Init) → EndsList xs cur → ⊥
 goes_on cur us g xs e = let c = e.1 in on c.2
   where

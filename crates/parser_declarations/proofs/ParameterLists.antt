@@ -85,7 +85,7 @@ list_fails d ts f none h = record { each = λ ps r s e. on ps r s.0 s.1 (mark_ow
     on (p ∷ ps) r t1 s m = subst (λ z. Excuses f d z) (sym (parameters_tallest (p ∷ ps)))
         (h.each (p ∷ ps) t1 s.1 (record { after = r; at = m.0; closes = m.1 }))
 
--- A begun list of one parameter without sizes may go on with a size that is missing: so it is not `void` alone.
+-- A begun list of one parameter without sizes may continue with a size that is missing: so it is not `void` alone.
 sized : (e : Option Tree) (es : List (Option Tree)) → (e ∷ es) ≡ [] → ⊥
 sized e es q = cc
 

@@ -62,7 +62,7 @@ abbrev pub SpellsHead : Option (List Token) → HeadTree → List Token → List
 SpellsHead b (whole d) ts rest = SpellsDeclaration b File d ts rest
 SpellsHead b (opening f) ts rest = SpellsOpening b f ts rest
 
--- a function definition goes on with the brace of its body
+-- a function definition continues with the brace of its body
 abbrev pub EndsHead : HeadTree → List Token → Type 0
 EndsHead (whole d) rest = Unit {0}
 EndsHead (opening f) rest = (at : Pos) × (after : List Token) × Own (kind.Punctuator sign.BraceOpen) at rest after

@@ -26,7 +26,7 @@ use Rattle.parser_grammar.specs.layer.Answer.{ReadsOf, FailsOf, StandsOf, Anywhe
 
 -- ---- enumerators
 
--- neither a value nor an operator within one goes on here
+-- neither a value nor an operator within one continues here
 abbrev pub EndsEnumerator : EnumeratorTree → List Token → Type 0
 EndsEnumerator e rest = Stops 1 rest
 
@@ -51,7 +51,7 @@ StandsEnumerators d ts f = StandsOf SpellsEnumeratorList enumerators_depth d ts 
 
 -- ---- one specifier of a declaration
 
--- a list of enumerators does not go on here
+-- a list of enumerators does not continue here
 abbrev pub EndsSpecifier : SpecifierTree → List Token → Type 0
 EndsSpecifier s rest = NotFront (kind.Punctuator sign.BraceOpen) rest
 
@@ -89,7 +89,7 @@ StandsBound d ts f = StandsOf SpellsClosedBound option_depth d ts f
 
 -- ---- one parameter
 
--- neither a specifier nor a name nor a size goes on here
+-- neither a specifier nor a name nor a size continues here
 pub record EndsParameter (p : ParameterTree) (rest : List Token) : Type 0 where
   pub no_type : BeginsType rest → ⊥
   pub no_name : (n : ℕ) → NotFront (kind.Identifier n) rest

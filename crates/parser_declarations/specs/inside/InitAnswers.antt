@@ -16,7 +16,7 @@ use Rattle.parser_grammar.specs.Declarations.{Trailing, SpellsInit, SpellsInits,
 use Rattle.parser_expressions.specs.ExpressionAnswers.{Stops}
 use Rattle.parser_grammar.specs.layer.Answer.{ReadsOf, FailsOf, StandsOf, Anywhere}
 
--- no assignment expression goes on here
+-- no assignment expression continues here
 abbrev pub EndsInit : Init → List Token → Type 0
 EndsInit i rest = Stops 1 rest
 

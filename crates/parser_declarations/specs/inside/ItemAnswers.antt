@@ -14,7 +14,7 @@ use Rattle.parser_grammar.specs.Declarations.{SpellsMoreOf, SpellsItem, SpellsIt
 use Rattle.parser_expressions.specs.ExpressionAnswers.{Stops}
 use Rattle.parser_grammar.specs.layer.Answer.{ReadsOf, FailsOf, StandsOf, Anywhere}
 
--- neither an assignment expression nor a declarator goes on here
+-- neither an assignment expression nor a declarator continues here
 abbrev pub EndsItem : ItemTree → List Token → Type 0
 EndsItem i rest = Stops 1 rest
 

@@ -45,7 +45,7 @@ StandsDeclarationSpecifiers scope d ts f = StandsOf (λ b. SpellsDeclarationSpec
 
 -- ---- sizes and parameters
 
--- sizes go on with each bracket
+-- each bracket continues the sizes: the front is none
 abbrev pub EndsBounds : List (Option Tree) → List Token → Type 0
 EndsBounds es rest = NotFront (kind.Punctuator sign.BracketOpen) rest
 
