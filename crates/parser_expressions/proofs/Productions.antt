@@ -224,7 +224,7 @@ before_fails d op at ts us x own h =
     wrap_fails 14 14 d ts us x (λ t r f. let i = before_inverts t op at ts us r own f in
     (i.0, r, i.1, subst (λ y. depth i.0 + 1 ≤ depth y) (sym i.2) (omega arith))) h
 
--- no token goes on from layer 13 or 14 alone
+-- no token continues an expression of layer 13 or 14 alone
 sign_gap : (p : Punctuator) → sign_power p ≤ 14 → sign_power p ≤ 13
 sign_gap sign.Question h = omega (arith, h)
 sign_gap p h = omega (arith, h)

@@ -21,7 +21,7 @@ use Rattle.parser_grammar.specs.Tokens.{StartsAt, Reaches}
 use Rattle.parser_grammar.specs.layer.Answer.{Excuses}
 use Rattle.tree.specs.Limits.{depth_limit}
 
--- one more than the tightest layer that goes on at this punctuator, or 0
+-- one more than the tightest layer that this punctuator continues, or 0
 abbrev pub sign_power : Punctuator → ℕ
 sign_power sign.ParenOpen = 17
 sign_power sign.BracketOpen = 16
@@ -64,7 +64,7 @@ abbrev pub power : Kind → ℕ
 power (kind.Punctuator p) = sign_power p
 power _ = 0
 
--- an expression of layer n does not go on here
+-- an expression of layer n does not continue here
 abbrev pub Stops : ℕ → List Token → Type 0
 Stops n [] = 0 ≤ n
 Stops n (t ∷ ts) = power t.kind ≤ n
