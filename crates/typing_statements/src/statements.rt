@@ -550,7 +550,7 @@ fn piece(
 /// - with 542 at a jump out of nothing, with 543 at a `return` that does not match its function, and with 544 at a bad first part of a `for`;
 /// - with the violations of declarations and expressions, and with 801 where memory runs out.
 ///
-/// Its recursion is as deep as the tree is. After a refusal nothing is said of the scope and of the vectors.
+/// Its recursion is as deep as the tree is. After an error the scope and the vectors are unspecified.
 #[cycle(statements)]
 #[inline(never)]
 pub fn pieces(

@@ -1,4 +1,4 @@
--- The items of a block, those that have been looked at put before the others.
+-- The items of a block: the results of those already typed, put before those of the others.
 use Rattle.std.specs.Prelude.{◌≡◌, ℕ, ℤ, List, map, ◌++◌, Option, Some, None}
 use Rattle.srcset.specs.declared.refusal.Pos.{Pos}
 use Rattle.typed_ast.specs.declared.statements.Statement.{Statement}
