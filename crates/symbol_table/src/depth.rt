@@ -121,7 +121,7 @@ impl Depths {
         }
     }
 
-    /// Tells a function's sum to its callers; those whose last call this was are settled.
+    /// Adds a function's sum to its callers; those whose last call this was are settled.
     fn settle(&mut self, number: usize, sum: u64) -> Result<(), AllocError> {
         let Some(callers) = self.callers.get(number) else {
             return Ok(());

@@ -91,7 +91,7 @@ fn size(count: usize) -> u32 {
     (count % 0x1_0000_0000) as u32
 }
 
-/// Puts the symbols and their names: the empty one, `_start`, the functions, and the objects that have names.
+/// Appends the symbols and their names: the empty one, `_start`, the functions, and the objects that have names.
 fn put_symbols(
     map: &SymbolTable,
     names: &mut Vec<u8>,
@@ -153,7 +153,7 @@ fn object_symbol(object: &Object) -> Symbol {
     }
 }
 
-/// Puts a symbol and its name.
+/// Appends a symbol and its name.
 fn put_named(
     names: &mut Vec<u8>,
     symbols: &mut Vec<u8>,
@@ -181,7 +181,7 @@ fn put_symbol(symbols: &mut Vec<u8>, symbol: &Symbol) -> Result<(), AllocError> 
     put_half(symbols, symbol.section)
 }
 
-/// Puts the ELF header of an executable file for RISC-V without program headers, with nine sections.
+/// Appends the ELF header of an executable file for RISC-V without program headers, with nine sections.
 fn put_header(file: &mut Vec<u8>, table_at: u32) -> Result<(), AllocError> {
     file.extend_from_slice(&[0x7F, 0x45, 0x4C, 0x46, 1, 1, 1, 0, 0, 0, 0, 0, 0, 0, 0, 0])?;
     put_half(file, 2)?;
@@ -195,7 +195,7 @@ fn put_header(file: &mut Vec<u8>, table_at: u32) -> Result<(), AllocError> {
     Ok(())
 }
 
-/// Puts the headers of the sections: the empty one, and one for each of the contents.
+/// Appends the headers of the sections: the empty one, and one for each of the contents.
 fn put_sections(file: &mut Vec<u8>, contents: &[&[u8]]) -> Result<(), AllocError> {
     put_section(file, &plain_section(0, 0, 0, 0))?;
     let mut offset = HEADER_SIZE;

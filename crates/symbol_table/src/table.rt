@@ -61,7 +61,7 @@ fn name_width(functions: &[Function]) -> usize {
     width
 }
 
-/// Puts a text, and spaces up to this width.
+/// Appends a text, and spaces up to this width.
 fn put_padded(text: &str, width: usize, out: &mut String) -> Result<(), AllocError> {
     out.push_str(text)?;
     for _ in text.len()..width {
@@ -114,7 +114,7 @@ fn put_chain(
     }
 }
 
-/// Puts names with ` > ` between them.
+/// Appends names with ` > ` between them.
 fn put_names(map: &SymbolTable, numbers: &[usize], out: &mut String) -> Result<(), AllocError> {
     for (place, number) in numbers.iter().enumerate() {
         out.push_str(if place == 0 { " " } else { " > " })?;

@@ -59,7 +59,7 @@ pub(crate) fn object_type(
     })
 }
 
-/// Puts a variable, if its name and its place are known.
+/// Appends a variable, if its name and its place are known.
 fn put_variable(
     alloc: Global,
     name: &str,
@@ -107,7 +107,7 @@ fn parameters(
     Ok(variables)
 }
 
-/// Puts the object with this number.
+/// Appends the object with this number.
 fn put_object(
     alloc: Global,
     function: &typed_ast::Function,
