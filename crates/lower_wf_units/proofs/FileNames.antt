@@ -102,7 +102,7 @@ object_again s n m l state z k what t h =
     by_name (Stands s k (an_object what t)) (new_name s n m l state) (lookup s k) (an_object what t) n k (nat_eq n k) refl
     (λ e f. absurd (subst NoObject f z)) (λ g. g) h
 
--- a name that is no object's, and that stood for no function of another type, in front of a file's names
+-- a name that is no object's, and that denoted no function of another type, in front of a file's names
 module _ (p : Program) (texts : List (List ℕ)) (definitions : List ℕ) where
   pub name_reaches : (s : Scope) (n : ℕ) (m : Meaning) (l : Linkage) (state : State) → IsFile s → NoObject m → IsOfFile s n m →
       ((t : FunctionType) → Stands s n (a_function t) → m ≡ a_function t) →
