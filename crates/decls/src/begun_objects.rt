@@ -90,7 +90,7 @@ fn type_of_binding(
 /// - as `decls_declarators::declared_type` does where its type is none;
 /// - as `decls_linkage::object_at` does where the name is declared already.
 ///
-/// After a refusal nothing is said of the scope.
+/// After an error the scope is unspecified.
 pub fn begun(
     alloc: Global,
     names: &Names,

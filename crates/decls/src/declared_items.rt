@@ -29,7 +29,7 @@ use typing_scopes::{Scope, State};
 /// - as `decls_declarators::function_type` does where its type is none;
 /// - as `decls_linkage::file_function` does where the name is declared already.
 ///
-/// After a refusal nothing is said of the scope.
+/// After an error the scope is unspecified.
 pub fn function_at(
     alloc: Global,
     names: &Names,

@@ -278,7 +278,7 @@ fn past_option(scope: &mut Scope, initialiser: &Option<Initialiser>) -> Result<(
 /// - with 521 where its initialiser gives no size, and with 712 where it gives one beyond the limit;
 /// - with 801 where memory runs out.
 ///
-/// After a refusal nothing is said of the scope.
+/// After an error the scope is unspecified.
 pub fn finished(
     alloc: Global,
     names: &Names,
