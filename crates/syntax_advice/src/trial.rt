@@ -71,7 +71,7 @@ fn put_line(words: &Words<'_>, number: usize, text: &mut Vec<u8>) -> Result<(), 
     )
 }
 
-/// Puts all tokens from this one on, each on a line of its own.
+/// Appends all tokens from this one on, each on a line of its own.
 fn put_lines(words: &Words<'_>, from: usize, text: &mut Vec<u8>) -> Result<(), AllocError> {
     for number in from..words.list.len() {
         put_line(words, number, text)?;
