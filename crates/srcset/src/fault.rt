@@ -28,7 +28,7 @@ pub struct Fault {
 }
 
 impl Fault {
-    /// Want of memory: code 801, no file, line 0. Takes no memory.
+    /// Out of memory: code 801, no file, line 0. Allocates nothing.
     pub fn memory(alloc: Global) -> Fault
         ensures { IsMemoryFault result }
     {

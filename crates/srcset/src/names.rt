@@ -11,7 +11,7 @@ use std::marker::Model;
 
 /// A table that numbers texts: one number a text, one text a number, for good.
 ///
-/// The numbers are 0, 1, 2 and so on, in the order in which the texts came. A text is any bytes, also
+/// The numbers are 0, 1, 2 and so on, in the order in which the texts were added. A text is any bytes, also
 /// none. Both look-ups take constant time, but for the bytes of the text.
 #[derive(Drop)]
 pub struct Names {
