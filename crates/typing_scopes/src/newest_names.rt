@@ -13,7 +13,7 @@ pub(crate) struct Entry {
     hides: usize,
 }
 
-/// Names in the order in which they came, equal ones too. Contracts see the list with the newest first.
+/// Names in the order in which they were added, equal ones too. Contracts see the list with the newest first.
 ///
 /// It takes room for the greatest number of a name.
 #[derive(Drop)]

@@ -191,7 +191,7 @@ impl Scope {
         }
     }
 
-    /// Another function begins with these objects, or goes on. It gives those of the one before.
+    /// Another function begins with these objects, or continues. Returns those of the one before.
     pub fn change_objects(&mut self, objects: Vec<ObjectType>) -> Vec<ObjectType>
         ensures new { self.new ≡ with_objects (map object_type_of objects.items) self.old }
         ensures old { map object_type_of result.items ≡ self.old.objects }
