@@ -78,7 +78,7 @@ fn with_lists(
 /// - with 515 where it has the name of a built-in at file scope;
 /// - with the violations of an enumerator's value, and with 801 where memory runs out.
 ///
-/// After a refusal nothing is said of the scope.
+/// After an error the scope is unspecified.
 pub fn specified(
     alloc: Global,
     names: &Names,
