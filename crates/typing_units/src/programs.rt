@@ -1,4 +1,4 @@
-//! The typed program of a unit (6.9), once each external declaration has been looked at.
+//! The typed program of a unit (6.9), once each external declaration has been typed.
 #![tactic(auto)]
 
 ghost use Rattle.std.specs.Prelude.{◌≡◌, ℕ, IfOk, IfErr};
@@ -86,7 +86,7 @@ pub fn whole_program(
     }
 }
 
-/// The program of a unit, whose external declarations have been looked at. It fails as `whole_program` does.
+/// The program of a unit, whose external declarations have been typed. It fails as `whole_program` does.
 pub fn unit_program(
     alloc: Global,
     names: &Names,
