@@ -35,7 +35,7 @@ use Rattle.typing.proofs.BodyScopes.{body_scope_is}
 abbrev pub within : List (List ℕ) → List ParameterType → Scope → Parameters
 within t types inner = record { types = types; scope = with_texts t inner }
 
--- ---- a function whose parameters have been looked at
+-- ---- a function whose parameters have been typed
 
 abbrev typed_as : Specified → List ParameterType → FunctionType
 typed_as d types = function_type d.base types
@@ -107,7 +107,7 @@ one_external b new x e xs = then_fine (external_typed b x) new (λ c. externals_
 pub one_external_told : (b : Built) (x : ExternalTree) (r : Refusal) → Tells r (external_typed b x) → (xs : List ExternalTree) → Tells r (externals_typed b (x ∷ xs))
 one_external_told b x r h xs = tells_then r (external_typed b x) (λ c. externals_typed c xs) h
 
--- those that are left, of which the first is looked at
+-- the rest, of which the first is typed next
 pub one_left : (b new : Built) (xs left : List External) (x : External) (whole : Verdict Built) → xs ≡ x ∷ left → external_typed b (external_of x) ≡ fine new → externals_typed b (map external_of xs) ≡ whole → externals_typed new (map external_of left) ≡ whole
 one_left b new xs left x whole e h inv = sym (one_external b new (external_of x) h (map external_of left)) ∙ sym (ap (λ l. externals_typed b (map external_of l)) e) ∙ inv
 

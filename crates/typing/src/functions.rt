@@ -61,7 +61,7 @@ fn declare_function(
     }
 }
 
-/// A function whose parameters have been looked at.
+/// A function whose parameters have been typed.
 fn with_type(
     alloc: Global,
     names: &Names,

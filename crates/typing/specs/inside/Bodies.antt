@@ -26,6 +26,6 @@ body_read b f t file inside = then_check (pieces (around_of t) None inside f.bod
 abbrev pub one_more : Built → Scope → held.Function → List Initial → Built
 one_more b s f js = record { stack = b.stack; scope = s; functions = b.functions ++ view.function_of f ∷ []; initial = b.initial ++ map initial_of js }
 
--- a function whose specifiers and parameters have been looked at
+-- a function whose specifiers and parameters have been typed
 abbrev pub with_parameters : Built → FunctionTree → Specified → Parameters → Verdict Built
 with_parameters b f d ps = with_type b f d ps (function_type d.base ps.types)
