@@ -79,7 +79,7 @@ fn text_of<'p>(literals: &'p [Vec<u8>], n: usize) -> &'p [u8]
     }
 }
 
-/// Characters of string literal `n` are put (6.7.9p14).
+/// Stores characters of string literal `n` (6.7.9p14).
 ///
 /// Errors: memory ran out.
 fn fill_text<'p>(
