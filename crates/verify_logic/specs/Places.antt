@@ -17,11 +17,11 @@ use Rattle.verify_logic.specs.Judgements.{either_way}
 pub record Designates (fr : Frame) (what : Storage) (x depth : ℕ) : Type 0 where
   pub is : (s : State) → s.base ≡ length fr.outer → ArraysAre fr.outer fr.arrays s.arrays → Refers fr x (rest_of (shapes_of fr) x depth) (designated fr.program what s)
 
--- a place lies in object x: an array of these lengths, or an element, of whose subscript so much is known
+-- a place lies in object x: an array of these lengths, or an element, whose subscript is in `sub` if that is known
 pub record Finds (fr : Frame) (place : Place) (before : Option Known) (x : ℕ) (rest : List ℕ) (sub : Option Interval) (after : Option Known) : Type 0 where
   pub runs : (d : ℕ) (s : State) → Reaches fr before s → Ends fr.listed (find fr.program (calling fr.program d) place s) (λ r s2. (Refers fr x rest r × SubscriptIs sub r.path) × Reaches fr after s2)
 
--- so much is known of the subscript of an element of an array of n elements or rows in object x, where it lies in the interval
+-- `sub` is none, or it is the interval i of the subscript, in an array of one row
 abbrev pub OneRow : List ℕ → Type 0
 OneRow [] = ⊥
 OneRow (n ∷ []) = Unit {0}

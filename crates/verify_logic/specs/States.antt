@@ -141,12 +141,12 @@ pub record Covers (outer : List (List ℕ)) (passed : List ArrayArgument) (objec
   pub facts_are : FactsAre known.facts store
   pub bytes : AreBytes input
 
--- where nothing is said of the objects, no run comes here
+-- without an abstract state, no run reaches this point
 abbrev pub CoversState : (outer : List (List ℕ)) → (passed : List ArrayArgument) → (objects : List ObjectType) → Option Known → State → Type 0
 CoversState outer passed objects None s = ⊥
 CoversState outer passed objects (Some known) s = Covers outer passed objects known s.base s.arrays s.store s.input
 
--- a part of a run goes on as said, ends, or uses its ticks; undefined behaviour it meets only at one of the places
+-- a part of a run continues with the postcondition, ends, or uses its ticks; it meets undefined behaviour only at one of the places
 abbrev pub Ends : {A : Type 0} → List Pos → Run A → (A → State → Type 0) → Type 0
 Ends listed (Goes a s) post = post a s
 Ends listed (Stops (Ended n) s) post = Unit {0}
@@ -175,7 +175,7 @@ pub record Holds (fr : Frame) (known : Known) (base : ℕ) (arrays : List Refere
   pub bytes : AreBytes input
   pub sound : AreSound fr.program fr.listed fr.summaries
 
--- where nothing is said of the objects, no run comes here
+-- without an abstract state, no run reaches this point
 abbrev pub ReachesAt : Frame → Option Known → (base : ℕ) → (arrays : List Reference) → Store → (input : List ℕ) → Type 0
 ReachesAt fr None base arrays store input = ⊥
 ReachesAt fr (Some known) base arrays store input = Holds fr known base arrays store input
@@ -241,7 +241,7 @@ ObjectIs k lengths (Some t) = TreeIs k lengths t
 pub record Contents (o : Option Known) (x : ℕ) (k : AbsValue) : Type 0 where
   pub is : (fr : Frame) (s : State) → Reaches fr o s → ObjectIs k (shape_of fr x) (slice_get s.store x)
 
--- an element of object x, of whose subscript so much is known, is such a value
+-- an element of object x, whose subscript is in `sub` if that is known, has such a value
 pub record Reads (o : Option Known) (x : ℕ) (sub : Option Interval) (k : AbsValue) : Type 0 where
   pub is : (fr : Frame) (s : State) (r : Reference) → Reaches fr o s → Refers fr x [] r → SubscriptIs sub r.path → ValueIs k (value_of (at_path (slice_get s.store r.object) r.path))
 
@@ -257,7 +257,7 @@ pub record Forgets (x : ℕ) (facts facts2 : List Fact) : Type 0 where
 pub record ChangesOne (x : ℕ) (j i : Interval) (f g : Fact) : Type 0 where
   pub is : (store : Store) (path : List ℕ) (v : ℤ) (u : Tree) → at_path (slice_get store x) path ≡ Some u → SubscriptIs (Some j) path → In i v → FactIs f store → FactIs g (put_in store x path (Element (Some v)))
 
--- these facts hold when a value in the interval has been written to an element of object x, of whose subscript so much is known
+-- these facts hold after a value in the interval has been written to an element of object x, whose subscript is in `sub` if that is known
 pub record Changes (x : ℕ) (sub : Option Interval) (i : Interval) (facts facts2 : List Fact) : Type 0 where
   pub is : (store : Store) (path : List ℕ) (v : ℤ) (u : Tree) → at_path (slice_get store x) path ≡ Some u → SubscriptIs sub path → In i v → FactsAre facts store → FactsAre facts2 (put_in store x path (Element (Some v)))
 
@@ -265,6 +265,6 @@ pub record Changes (x : ℕ) (sub : Option Interval) (i : Interval) (facts facts
 pub record Replaces (o : Option Known) (x : ℕ) (k : AbsValue) (o2 : Option Known) : Type 0 where
   pub is : (fr : Frame) (s : State) (new : Tree) → Reaches fr o s → TreeIs k (shape_of fr x) new → Reaches fr o2 (record s { store = put s.store (whole x) new })
 
--- a value in the interval is written to an element of object x, of whose subscript so much is known
+-- a value in the interval is written to an element of object x, whose subscript is in `sub` if that is known
 pub record Writes (fr : Frame) (o : Option Known) (x : ℕ) (sub : Option Interval) (i : Interval) (o2 : Option Known) : Type 0 where
   pub is : (s : State) (r : Reference) (v : ℤ) → Reaches fr o s → Refers fr x [] r → SubscriptIs sub r.path → In i v → Reaches fr o2 (stored r v s)
