@@ -1,5 +1,5 @@
 -- The stack usage of functions: for each by its number a sum of sizes that a call of it takes at most, with the calls within it, or none where
--- nothing is said. How usages were found does not matter: these inequalities are enough, and where sizes are above 0 no recursion meets them.
+-- there is no claim. How usages were found does not matter: these inequalities are enough, and where sizes are above 0 no recursion meets them.
 use Rattle.std.specs.Prelude.{ℕ, ◌≤◌, ◌-◌, List, [], ◌∷◌, Option, Some, None, slice_get}
 use Rattle.typing_spec.specs.Program.{Function, Program}
 use Rattle.verify_stack.specs.Calls.{statement_calls}
