@@ -61,7 +61,7 @@ bytes_are_got :
 unfolding step
 bytes_are_got = refl
 
--- nothing was put in temporary 0, or in a word of the frame
+-- temporary 0, or a word of the frame, was never set
 temporary_unset : run_of (whole (plain (return ∷ []) ∷ [])) 1 ≡ stuck
 unfolding step
 temporary_unset = refl
@@ -70,7 +70,7 @@ cell_unset : run_of (whole (with_cells 1 (move t0 (cell 0) ∷ return ∷ []) �
 unfolding step
 cell_unset = refl
 
--- a byte that is put takes the temporaries with it
+-- a call of `PutByte` loses the temporaries
 temporary_lost : run_of (whole (plain (move t0 (constant 65) ∷ put_byte ∷ return ∷ []) ∷ [])) 3 ≡ stuck
 unfolding step
 temporary_lost = refl
@@ -203,7 +203,7 @@ past_the_code : run_of (whole (plain (nothing ∷ []) ∷ [])) 2 ≡ stuck
 unfolding step
 past_the_code = refl
 
--- the frame's bytes: a word to put bytes from and one to return by, in a multiple of 16
+-- the frame's bytes: a word to put bytes from and one for the return address, in a multiple of 16
 frame_of_nothing : frame_bytes (plain []) ≡ 16
 frame_of_nothing = refl
 

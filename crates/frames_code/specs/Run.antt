@@ -39,7 +39,7 @@ unset k = None
 abbrev pub with_at : {A : Type 0} → (ℕ → Option A) → ℕ → A → ℕ → Option A
 with_at m k x j = if j == k then Some x else m j
 
--- a call: its function, the number of the instruction where it goes on, its words, and the bytes of its arrays, by how many
+-- a call: its function, the number of the instruction where it continues, its words, and the bytes of its arrays, by how many
 -- bytes lie from the frame's start up to them
 pub record Frame : Type 0 where
   pub function : ℕ

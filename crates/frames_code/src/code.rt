@@ -72,7 +72,7 @@ pub enum Conversion {
 
 /// An instruction. Jumps lead to an instruction of the same function, counted from 0.
 ///
-/// The arguments of a call are in the temporaries from 0 on; its result, a byte that is put or got, and the status of `Exit` are in
+/// The arguments of a call are in the temporaries from 0 on; its result, a byte that is written or read, and the status of `Exit` are in
 /// temporary 0.
 #[derive(Clone, Copy, Debug)]
 pub enum Instruction {
