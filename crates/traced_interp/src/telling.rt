@@ -84,7 +84,7 @@ impl<'a, W: Write + Drop> Trace<'a, W> {
         trace
     }
 
-    /// Flushes the writer. Answers whether the whole trace was written, and whether there was memory for it.
+    /// Flushes the writer. Returns whether the whole trace was written, and whether there was memory for it.
     pub fn finish(self) -> Written {
         let (written, _out) = self.into_writer();
         written
@@ -159,7 +159,7 @@ impl<'a, W: Write + Drop> Trace<'a, W> {
         }
     }
 
-    /// Tells the value of an element.
+    /// Reports the value of an element.
     fn tell_value(&mut self, scene: &Scene, element: &Reference) {
         let Some(value) = scene.store.value(element) else {
             return;
@@ -250,7 +250,7 @@ impl<'a, W: Write + Drop> Trace<'a, W> {
         }
     }
 
-    /// The innermost loop goes on.
+    /// The innermost loop continues.
     fn continue_loop(&mut self) {
         if let Some(at) = self.calls.loop_place() {
             self.tell_line(at);
@@ -313,7 +313,7 @@ impl<'a, W: Write + Drop> Trace<'a, W> {
         }
     }
 
-    /// A byte is put.
+    /// A byte is written.
     pub(crate) fn tell_put(&mut self, byte: u8) {
         if self.form == TraceForm::Json && !self.leaves_out() {
             let text = put(self.alloc, byte);

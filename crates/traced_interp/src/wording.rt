@@ -7,7 +7,7 @@ use std::alloc::{AllocError, Global};
 pub enum TraceForm {
     /// Lines for people.
     Text,
-    /// One JSON object a line, also for each byte that is got or put.
+    /// One JSON object a line, also for each byte that is read or written.
     Json,
 }
 
@@ -49,7 +49,7 @@ pub(crate) fn left(
     }
 }
 
-/// A statement at a line with this text begins, or goes on.
+/// A statement at a line with this text begins, or continues.
 pub(crate) fn begun(
     alloc: Global,
     form: TraceForm,
@@ -146,7 +146,7 @@ fn put_path(alloc: Global, path: &[usize], out: &mut String) -> Result<(), Alloc
     out.push(']')
 }
 
-/// Puts a string with its quotes: `"`, `\` and the characters below U+0020 are escaped (RFC 8259, section 7).
+/// Appends a string with its quotes: `"`, `\` and the characters below U+0020 are escaped (RFC 8259, section 7).
 pub fn put_string(alloc: Global, text: &str, out: &mut String) -> Result<(), AllocError> {
     out.push('"')?;
     for letter in text.chars() {
