@@ -51,7 +51,7 @@ pub(crate) fn made_text(
     Ok(text)
 }
 
-/// Puts the definition of a macro; faults in it name the option.
+/// Appends the definition of a macro; faults in it name the option.
 fn put_definition(alloc: Global, definition: &str, text: &mut String) -> Result<(), AllocError> {
     let (defined, value) = match definition.split_once('=') {
         Some(parts) => parts,

@@ -27,7 +27,7 @@ pub struct View {
 pub const MAX_WORK: u64 = 16_000_000;
 
 impl View {
-    /// Looks at the files of a program.
+    /// Indexes the files of a program.
     pub fn of(alloc: Global, files: Vec<UnitFile>, encoding: Encoding) -> Result<View, AllocError> {
         let index = index_of(alloc, files.as_slice())?;
         let work = work_of(alloc, &index, files.len())?;
