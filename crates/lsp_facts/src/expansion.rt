@@ -15,7 +15,7 @@ const MAX_SHOWN: usize = 2_000;
 /// The text after an expansion that is cut.
 const CUT: &str = " ...";
 
-/// The tokens that come of the tokens in a part of a file, with one space between; the first time where the file is included several times. It is empty
+/// The tokens that result from those in a part of a file, with one space between; the first time where the file is included several times. It is empty
 /// where there are none, as in a group that is skipped. `None` where the preprocessor refuses the program, or where a file depends on its lines, so that it cannot be laid out with a token a line.
 pub fn expansion_of(
     alloc: Global,
@@ -36,7 +36,7 @@ pub fn expansion_of(
     }
 }
 
-/// The first tokens in a row that come of the part.
+/// The first tokens in a row that result from the part.
 fn text_of(
     alloc: Global,
     files: &Files<'_>,
