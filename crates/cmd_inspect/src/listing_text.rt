@@ -198,7 +198,7 @@ fn branch<'l>(row: Row<'l>) -> Option<(&'l str, u32)> {
     ))
 }
 
-/// Puts the name of the function that begins at an address, or a label where a branch leads there.
+/// Appends the name of the function that begins at an address, or a label where a branch leads there.
 fn put_label(
     alloc: Global,
     address: u32,
@@ -246,7 +246,7 @@ fn called<'m>(row: Row<'_>, before: Option<Row<'_>>, map: &'m SymbolTable) -> Op
     function_at(map, before.address.wrapping_add(upper).wrapping_add(lower))
 }
 
-/// Puts an instruction, with the names that registers have in calls where the form has them.
+/// Appends an instruction, with the names that registers have in calls where the form has them.
 fn put_code(code: &str, form: ListForm, text: &mut String) -> Result<(), AllocError> {
     if !form.has_abi_names {
         return text.push_str(code);
