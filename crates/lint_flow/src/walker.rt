@@ -71,7 +71,7 @@ impl Walker {
         self.now = self.paths.join(now, other);
     }
 
-    /// No path goes on here.
+    /// No path continues here.
     pub(crate) fn stop(&mut self) -> Result<(), AllocError> {
         self.now = self.paths.nowhere()?;
         Ok(())
