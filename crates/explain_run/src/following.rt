@@ -23,7 +23,7 @@ pub(crate) struct ActiveCall {
     pub at: Pos,
 }
 
-/// An observer that keeps which calls are active, and the values with which an act will be undefined.
+/// An observer that records which calls are active, and the values with which an operation will be undefined.
 #[derive(Drop)]
 pub struct Following {
     alloc: Global,

@@ -74,7 +74,7 @@ impl Following {
     }
 }
 
-/// Puts a text as the first note.
+/// Adds a text as the first note.
 fn put_value(alloc: Global, text: String, undefined: &mut Undefined) -> Result<(), AllocError> {
     undefined.shown.notes.insert(
         0,

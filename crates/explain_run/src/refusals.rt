@@ -6,7 +6,7 @@ use interp_store::operators::{operated, sign_of, step_operation};
 use interp_store::scene::Scene;
 use tree::{PrefixOp, StepOp};
 
-/// The values with which an act is undefined.
+/// The values with which an operation is undefined.
 #[derive(Drop)]
 pub(crate) enum Values {
     Operands(Operands),
