@@ -52,7 +52,7 @@ pub fn trace_lines(alloc: Global, set: &FileSet, asked: Asked<'_>) -> Result<Tol
     }
 }
 
-/// Tells the run of a program whose names are numbered in `names`.
+/// Traces the run of a program whose names are numbered in `names`.
 fn trace_checked(
     alloc: Global,
     set: &FileSet,
@@ -72,7 +72,7 @@ fn trace_checked(
     }
 }
 
-/// Tells the run of a program over a port. JSON shows no source lines, so there may be none.
+/// Traces the run of a program over a port. JSON shows no source lines, so there may be none.
 fn run_told(
     alloc: Global,
     asked: Asked<'_>,
