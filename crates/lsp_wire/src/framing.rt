@@ -41,7 +41,7 @@ impl Inbox {
         }
     }
 
-    /// Adds bytes in the order in which they came. Fails where memory runs out.
+    /// Adds bytes in the order of their arrival. Fails where memory runs out.
     pub fn put(&mut self, bytes: &[u8]) -> Result<(), AllocError> {
         let passed = self.skipped.min(bytes.len());
         self.skipped = self.skipped.saturating_sub(passed);

@@ -24,9 +24,9 @@ pub struct Call {
 /// A message of a client.
 #[derive(Drop)]
 pub enum Message {
-    /// A call that is answered.
+    /// A call that gets a reply.
     Request(Id, Call),
-    /// A call that is not answered.
+    /// A call that gets no reply.
     Notification(Call),
     /// The reply to a request of the server.
     Reply,
