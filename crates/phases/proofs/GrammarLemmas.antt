@@ -278,7 +278,7 @@ known_of bs c s n d p f =
 known : (bs : List ℕ) → Known bs (plain_token bs)
 known bs = known_of bs (character_len bs) (string_len bs) (name_len bs) (number_len bs) (punctuator_len bs) (fronts bs)
 
--- no longer front has a kind
+-- no front that is longer has a kind
 none_longer : (place : Place) (bs : List ℕ) (m : ℕ) → (token_front place bs).1 < m → m ≤ length bs → kind_at place (take m bs) ≡ None
 none_longer place bs m h l = none_at place (take m bs) (no_token place (take m bs) (front_longest place bs m h l))
 

@@ -12,7 +12,7 @@ use crate::token::{Kind, Piece, Place};
 use std::alloc::{AllocError, Global};
 use std::borrow::CowSlice;
 
-/// A place in a file: the bytes that are left, and the line of the first of them.
+/// A place in a file: the remaining bytes, and the line of the first of them.
 #[derive(Clone, Copy)]
 pub struct Cursor<'a> {
     pub(crate) rest: &'a [u8],
@@ -56,8 +56,8 @@ pub struct Comment<'a> {
     pub(crate) span: Span<'a>,
 }
 
-/// How many characters from some place on hold no quote that opens a literal, since none of them is closed
-/// on its line. Kept so that no line is searched again and again.
+/// How many characters from some place on contain no quote that opens a literal, since none of them is closed
+/// on its line. Stored so that no line is searched repeatedly.
 #[derive(Clone, Copy)]
 pub struct Hopeless {
     pub(crate) single: usize,
@@ -872,7 +872,7 @@ impl<'a> Cursor<'a> {
     ghost use Rattle.phases.specs.inside.Closing.{unclosed_for, IsHopeless};
     ghost use Rattle.phases.specs.inside.Reading.{bytes_at, IsStep};
 
-    // How many characters from here on hold no such quote that is closed, of which `known` is known.
+    // How many characters from here on contain no such quote that is closed; `known` of them are known.
     #[inline(always)]
     fn hopeless_of(self, first: Step<'a>, quote: u8, known: usize) -> usize
         requires step { IsStep self first }
@@ -924,7 +924,7 @@ impl<'a> Cursor<'a> {
         Ok(copy)
     }
 
-    /// The spelling of a token that begins here. It is lent where each character takes one byte.
+    /// The spelling of a token that begins here. It is borrowed where each character takes one byte.
     #[inline(always)]
     pub(crate) fn spelled(
         self,

@@ -67,7 +67,7 @@ fn add_end(ends: &mut Vec<u32>, piece: Piece, line: u32) -> Result<(), AllocErro
     }
 }
 
-/// The physical line on which each token line of a file ends, counted from 1, for a file of at most 1,048,576 bytes. Behind
+/// The physical line on which each token line of a file ends, counted from 1, for a file of at most 1,048,576 bytes. After
 /// such a line the numbering of `#line` begins (ISO/IEC 9899:2011 6.10.4). It reads any bytes, also those for which `scan` has
 /// a fault: a last line with no end has no number then. Fails only where memory runs out.
 pub fn end_lines(alloc: Global, bytes: &[u8]) -> Result<Vec<u32>, AllocError>

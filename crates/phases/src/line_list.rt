@@ -73,7 +73,7 @@ impl<'a> Lines<'a> {
     }
 }
 
-/// Token lines that are being made.
+/// Token lines under construction.
 #[derive(Drop)]
 pub struct LineBuilder<'a> {
     tokens: Vec<PpToken<'a>>,

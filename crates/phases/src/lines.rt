@@ -96,7 +96,7 @@ fn token_lines<'a>(alloc: Global, start: Cursor<'a>, file: usize) -> Result<Line
     scanner.end_file()
 }
 
-/// The token lines of a file, as `scan` gives them; a refusal names no file, and takes no memory.
+/// The token lines of a file, as `scan` returns them; an error names no file, and allocates nothing.
 pub fn try_scan<'a>(alloc: Global, bytes: &'a [u8], file: usize) -> Result<Lines<'a>, Refusal>
     requires { length bytes.now ≤ max_file_bytes }
     ensures ok { IfOk result (λ lines. scanned file bytes.now ≡ Ok lines) }

@@ -1,4 +1,4 @@
-//! Runs of plain bytes, which need no look at trigraphs and splices.
+//! Runs of plain bytes, which need no test for trigraphs and splices.
 ghost use Rattle.std.specs.Prelude.{◌≡◌, ◌≤◌, ◌<◌, ◌+◌, ◌^◌, drop, length};
 ghost use Rattle.phases.specs.inside.Lexical.{word_len, number_more};
 ghost use Rattle.phases.specs.inside.Runs.{next_line, is_ordinary, all_ordinary, ordinary_len, white_len, IsRun, IsWhiteRun};
