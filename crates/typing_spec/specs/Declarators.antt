@@ -67,7 +67,7 @@ of_sizes at t k no_sizes = fine (complete (object_type t k []))
 of_sizes at t k (outermost (Some n) ns) = within_limit at (object_type t k (n ∷ ns)) (complete (object_type t k (n ∷ ns)))
 of_sizes at t k (outermost None ns) = within_limit at (object_type t k ns) (unknown_size (object_type t k ns))
 
--- void is incomplete for good (6.2.5p19): no object and no array has it
+-- void is always incomplete (6.2.5p19): no object and no array has it
 abbrev pub void_object : Pos → Sizes → Verdict DeclaredType
 void_object at no_sizes = breaks code.IncompleteObject at
 void_object at (outermost n ns) = breaks code.BadArrayType at
