@@ -82,7 +82,7 @@ pub enum Kept<'p> {
 
 const _: () = prove!(size_of::<Kept<'static>>() == 48);
 
-/// A frame in memory of its own.
+/// A frame in an allocation of its own.
 ///
 /// Errors: memory ran out.
 fn apart<'p>(alloc: Global, frame: Frame<'p>) -> Result<Kept<'p>, Stop>
@@ -158,7 +158,7 @@ fn keep_operand<'p>(alloc: Global, frame: OperandFrame<'p>) -> Result<Kept<'p>, 
     }
 }
 
-/// The test of a loop. One that has none waits for none, and is kept apart.
+/// The frame of a loop's test. A loop without a test never waits for it; such a frame has its own allocation.
 fn keep_test<'p>(alloc: Global, l: Loop<'p>) -> Result<Kept<'p>, Stop>
     ensures ok { IfOk result (λ kept. kept_of kept ≡ control_frame (controls.Tests l.entry)) }
     ensures err { IfErr result (λ e. e ≡ Memory) }
@@ -172,7 +172,7 @@ fn keep_test<'p>(alloc: Global, l: Loop<'p>) -> Result<Kept<'p>, Stop>
     }
 }
 
-/// The step of a loop. One that has none waits for none, and is kept apart.
+/// The frame of a loop's step. A loop without a step never waits for it; such a frame has its own allocation.
 fn keep_step<'p>(alloc: Global, l: Loop<'p>) -> Result<Kept<'p>, Stop>
     ensures ok { IfOk result (λ kept. kept_of kept ≡ control_frame (controls.Loops l.entry)) }
     ensures err { IfErr result (λ e. e ≡ Memory) }
@@ -268,7 +268,7 @@ fn keep_initialiser<'p>(alloc: Global, frame: InitialiserFrame<'p>) -> Result<Ke
     }
 }
 
-/// A frame as the stack keeps it.
+/// A frame in the form in which the stack stores it.
 ///
 /// Errors: memory ran out.
 pub fn keep<'p>(alloc: Global, frame: Frame<'p>) -> Result<Kept<'p>, Stop>
@@ -385,7 +385,7 @@ fn turn_of<'p>(
     }))
 }
 
-/// The frame that the stack kept.
+/// The frame that the stack stored.
 pub fn taken<'p>(alloc: Global, kept: Kept<'p>) -> Frame<'p>
     ensures { frame_of result ≡ kept_of kept.entry }
 {

@@ -1,4 +1,4 @@
-//! Laws of the machine with a stack of its own, which the interpreter is built on. The functions do nothing: each has a contract so
+//! Laws of the machine with an explicit stack, the base of the interpreter. The functions do nothing: each has a contract so
 //! that its law is proved.
 
 ghost use Rattle.interp_store.specs.inside.Laws.{NodeEnters, FrameLeaves, CallActs, StackResumes, CallIsReal, RunBegins};

@@ -28,7 +28,7 @@ pub struct Machine<'p> {
 }
 
 impl<'p> Machine<'p> {
-    /// One more frame waits.
+    /// Pushes a frame.
     ///
     /// Errors: memory ran out.
     #[inline(always)]
@@ -48,7 +48,7 @@ impl<'p> Machine<'p> {
         }
     }
 
-    /// The innermost frame waits no longer.
+    /// Pops the innermost frame.
     #[inline(always)]
     pub fn pop(&mut self) -> Option<Frame<'p>>
         ensures empty { IfNone result (frames_of self.old ≡ []) }

@@ -102,7 +102,7 @@ impl Store {
         Ok(())
     }
 
-    /// The first `count` objects live on (6.2.4p6).
+    /// The first `count` objects stay alive (6.2.4p6).
     pub fn truncate(&mut self, count: usize)
         ensures { store_of self.new ≡ take count (store_of self.old) }
     {
