@@ -18,6 +18,6 @@ pub record WritesBeginning (base : ℕ) (xs : List Item) (before after : Option 
   pub is_listing : IsListingOf base xs listing
   pub beginning : TakesBeginning before after listing
 
--- the same with nothing written, or the writer refused when it had taken a beginning
+-- the same with nothing written, or the writer failed after it had accepted a prefix
 abbrev pub IsListRefused : ℕ → List Item → Option (List ℕ) → Option (List ℕ) → Fault → Type 0
 IsListRefused base xs before after fault = (IsRefused base xs fault × (after ≡ before)) ⊎ (IsFault fault code.CannotWrite [] 0 × WritesBeginning base xs before after)
