@@ -88,7 +88,7 @@ pub(crate) fn initialiser<'t>(
     })
 }
 
-/// At least one initialiser, with a comma between any two, up to the closing brace, which is taken too.
+/// At least one initialiser, with a comma between any two, up to the closing brace, which is consumed.
 #[cycle(initialisers)]
 #[inline(never)]
 fn initialiser_list<'t>(
