@@ -367,7 +367,7 @@ fn cast<'t>(alloc: Global, tokens: &'t [Token], depth: u32) -> Result<BoxedPart<
     unary(alloc, tokens, depth)
 }
 
-// A type name (6.7.7), after its opening parenthesis and up to the closing one, which is taken too.
+// A type name (6.7.7), after its opening parenthesis and up to the closing one, which is consumed.
 #[cycle(expressions)]
 #[inline(never)]
 fn type_name<'t>(alloc: Global, tokens: &'t [Token], depth: u32) -> Result<TypePart<'t>, Refusal>
@@ -541,7 +541,7 @@ fn primary<'t>(alloc: Global, tokens: &'t [Token], depth: u32) -> Result<BoxedPa
     })
 }
 
-// The arguments of a call (6.5.2.2), after its opening parenthesis and up to the closing one, which is taken too.
+// The arguments of a call (6.5.2.2), after its opening parenthesis and up to the closing one, which is consumed.
 #[cycle(expressions)]
 #[inline(never)]
 fn read_arguments<'t>(

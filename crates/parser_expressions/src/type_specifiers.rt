@@ -1,4 +1,4 @@
-//! Specifiers of types that bring no list of enumerators.
+//! Specifiers of types that contain no list of enumerators.
 
 ghost use Rattle.std.specs.Prelude.{◌≡◌, ◌<◌, ◌↔◌, ℕ, List, length, IsTrue, IfOk, IfErr, MatchOption};
 ghost use Rattle.lexer.specs.declared.token.Token.{Token};
