@@ -87,7 +87,7 @@ pub(crate) fn started(
     }
 }
 
-/// A `for` of its parts. Refused where memory runs out.
+/// A `for` of its parts. Fails where memory runs out.
 #[inline(never)]
 pub(crate) fn for_statement(
     alloc: Global,
