@@ -25,9 +25,9 @@ impl Cost {
 /// A chain of calls from one function on.
 #[derive(Drop)]
 pub enum Chain {
-    /// No function that is reached calls itself, over others or not: the greatest sum, and the functions that have it.
+    /// No function that is reached calls itself, directly or through others: the greatest sum, and the functions that have it.
     Deepest(u64, Vec<usize>),
-    /// Functions that call each other in a circle, the first of them again at its end.
+    /// Functions that call each other in a cycle, the first of them again at its end.
     Circle(Vec<usize>),
 }
 
@@ -74,7 +74,7 @@ pub fn deepest(
 }
 
 impl Depths {
-    /// Nothing is known but of the functions that call nothing.
+    /// The initial state: only functions that call nothing are settled.
     fn new(alloc: Global, functions: &[Function]) -> Result<Depths, AllocError> {
         let mut depths = Depths {
             left: Vec::new(alloc),
@@ -99,7 +99,7 @@ impl Depths {
         Ok(depths)
     }
 
-    /// Notes a function as a caller of those that it calls.
+    /// Records a function as a caller of those that it calls.
     fn note_calls(&mut self, number: usize, function: &Function) -> Result<(), AllocError> {
         for callee in &function.calls {
             if let Some(callers) = self.callers.get_mut(*callee) {
@@ -168,7 +168,7 @@ impl Depths {
         Ok(chain)
     }
 
-    /// A circle that is reached from a function that is not settled: each calls one that is not settled.
+    /// A cycle that is reached from a function that is not settled: each calls one that is not settled.
     fn circle(
         &self,
         alloc: Global,

@@ -74,7 +74,7 @@ pub struct SymbolTable {
 
 /// The symbols of the file that the compiler makes of the program in the file `main` of the set.
 ///
-/// Refuses as `compile_with` does.
+/// Fails as `compile_with` does.
 pub fn symbol_table(
     alloc: Global,
     set: &FileSet,
@@ -198,7 +198,7 @@ fn index_at(functions: &[Function], address: u32) -> Option<usize> {
     None
 }
 
-/// Notes the callees of each function. A function is a new callee where its mark is another than the caller's number and one.
+/// Records the callees of each function. A function is a new callee where its mark is not the caller's number plus one.
 fn put_calls(
     alloc: Global,
     functions: &mut [Function],
