@@ -1,4 +1,4 @@
-//! Declarators of objects that have begun (6.2.1p7): the name is in scope, the initialiser is still to come.
+//! Declarators of objects that have begun (6.2.1p7): the name is in scope, the initialiser follows.
 #![tactic(auto, using(decls_declarators::proofs::Verdicts::told))]
 
 ghost use Rattle.std.specs.Prelude.{◌≡◌, map, IfErr, IfOk};
@@ -42,7 +42,7 @@ fn storage_in(meaning: &Meaning) -> Storage
     }
 }
 
-/// The storage of the name that was declared last.
+/// The storage of the most recently declared name.
 fn storage_of_binding(binding: Option<&Binding>) -> Storage
     ensures { storage_of result ≡ typed.storage_of (option_binding binding.entry) }
 {
@@ -69,7 +69,7 @@ fn type_of_meaning(
     }
 }
 
-/// The type of the name that was declared last.
+/// The type of the most recently declared name.
 fn type_of_binding(
     alloc: Global,
     declared: DeclaredType,

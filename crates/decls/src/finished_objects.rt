@@ -75,7 +75,7 @@ fn array_within(
     }
 }
 
-/// A name's declared type meets its type so far (6.7p4).
+/// The meaning of a name with the composite of its declared type and its type so far (6.7p4).
 fn retyped_meaning(
     alloc: Global,
     pos: Pos,
