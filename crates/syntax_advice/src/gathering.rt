@@ -12,7 +12,7 @@ use crate::type_names::{known_type_name, type_name};
 use source_words::Words;
 use std::alloc::{AllocError, Global};
 
-/// The most changes that are tried, each of them one more reading of the source.
+/// The most changes that are tried, each of them one more parse of the source.
 const MAX_TRIED: usize = 24;
 
 /// The changes that may mend a syntax error at the token with this number, the likeliest first: at most 24.
