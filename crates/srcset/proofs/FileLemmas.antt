@@ -63,7 +63,7 @@ passes true false true d e = absurd (cc)
 passes true false false true e = absurd (cc)
 passes true false false false e = (refl, refl, refl, refl)
 
--- a file that is not refused is new, small, finds room, and has a name that it may have
+-- a file that is not rejected is new, small, finds room, and has an allowed name
 pub accepted : (files : Files) (name bytes : List ℕ) → add_fault files name bytes ≡ None
     → (is_some (file_of files name) ≡ false) × (length bytes ≤ max_file_bytes) × (length files < max_files) × (is_file_name name ≡ true)
 unfolding first_fault

@@ -9,7 +9,7 @@ use std::alloc::{AllocError, Global};
 use std::fmt;
 use thiserror::Error;
 
-/// Why the compiler refused its input, and where.
+/// The reason why the compiler rejected its input, and the place.
 ///
 /// It is shown as the one line `FILE:LINE: CODE TEXT`, or `cc: CODE TEXT` where `file` is empty.
 /// TEXT is the text of the code, as `message` gives it, followed by `text`.
@@ -42,7 +42,7 @@ impl Fault {
 
     /// The fault with this code at a line of a file, and no text of its own.
     ///
-    /// Where the copy of the file's name finds no memory, the fault is 801 in its place.
+    /// Where memory runs out for the copy of the file's name, the fault is 801 instead.
     pub fn at(alloc: Global, code: Code, file: &str, line: u32) -> Fault
         ensures { IsFaultOrMemory result code file.now line }
     {
@@ -59,7 +59,7 @@ impl Fault {
 
     /// The fault with this code at a line of a file, which adds a text to that of its code.
     ///
-    /// Where a copy of the file's name or of the text finds no memory, the fault is 801 in its place.
+    /// Where memory runs out for a copy of the file's name or of the text, the fault is 801 instead.
     pub fn with_text(alloc: Global, code: Code, file: &str, line: u32, text: &str) -> Fault
         ensures { IsFaultWith result code file.now line text.now ⊎ IsMemoryFault result }
     {
@@ -94,7 +94,7 @@ impl Fault {
     }
 }
 
-/// Shows the line that `Fault::to_line` gives.
+/// Prints the line that `Fault::to_line` returns.
 impl fmt::Display for Fault {
     ghost output = { λ fault. Some (fault_line fault) };
 
