@@ -15,7 +15,7 @@ pub(crate) struct Entry {
 
 /// Names in the order in which they were added, equal ones too. Contracts see the list with the newest first.
 ///
-/// It takes room for the greatest number of a name.
+/// It allocates room for the greatest number of a name.
 #[derive(Drop)]
 pub(crate) struct NewestNames {
     entries: Vec<Entry>,
@@ -86,7 +86,7 @@ impl NewestNames {
         Ok(())
     }
 
-    /// The newest name goes.
+    /// Removes the newest name.
     pub(crate) fn leave(&mut self)
         ensures { self.new ≡ drop 1 self.old }
     {

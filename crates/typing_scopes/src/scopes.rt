@@ -199,7 +199,7 @@ impl Scope {
         replace(&mut self.objects, objects)
     }
 
-    /// Other objects with static storage. It gives those so far.
+    /// Replaces the objects with static storage. Returns those so far.
     pub fn change_statics(&mut self, statics: Vec<StaticObject>) -> Vec<StaticObject>
         ensures new { self.new ≡ with_statics (map static_of statics.items) self.old }
         ensures old { map static_of result.items ≡ self.old.statics }
@@ -278,7 +278,7 @@ impl Scope {
         Ok(block)
     }
 
-    /// The newest name goes.
+    /// Removes the most recently declared name.
     fn drop_name(&mut self)
         ensures { self.new ≡ one_name_less self.old }
     {
@@ -286,7 +286,7 @@ impl Scope {
         self.bindings.pop();
     }
 
-    /// The newest tag goes.
+    /// Removes the most recently declared tag.
     fn drop_tag(&mut self)
         ensures { self.new ≡ one_tag_less self.old }
     {
@@ -312,7 +312,7 @@ impl Scope {
         }
     }
 
-    /// Leaves a block: removes its names and tags, keeps its objects. It costs as much as the block has declarations.
+    /// Leaves a block: removes its names and tags, keeps its objects and literals. It costs as much as the block has declarations.
     pub fn outside(&mut self, block: Block)
         ensures { (outer : typed.Scope) (names : List typed.Binding) (tags : List typed.Tag) → block ≡ block_of outer → self.old.bindings ≡ names ++ outer.bindings → self.old.tags ≡ tags ++ outer.tags → self.new ≡ typed.outside outer self.old }
     {
