@@ -30,7 +30,7 @@ pub struct SpecifiedBase {
     pub base: BaseType,
 }
 
-/// The enumerators of a specifier, if it brings a list.
+/// The enumerators of a specifier, if it contains a list.
 fn with_list(
     alloc: Global,
     names: &Names,
