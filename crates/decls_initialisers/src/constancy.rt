@@ -81,7 +81,7 @@ fn is_text_alone(element: IntType, wanted: Wanted<'_>, parts: &[Initialiser]) ->
     takes_text(element, wanted) && text_alone(parts).is_some()
 }
 
-/// The parts of a list, each of which is this.
+/// Whether this holds of each part of a list.
 #[cycle(constancy)]
 fn all_constant(
     scope: &Scope,

@@ -43,7 +43,7 @@ fn push_value(value: i64, all: &mut Vec<i64>) -> Result<(), Refusal>
     }
 }
 
-/// So many zeros more.
+/// Appends `count` zeros.
 fn push_zeros(count: usize, all: &mut Vec<i64>) -> Result<(), Refusal>
     ensures ok { OnOk result (all.new.items ≡ all.old.items ++ typed.zeros count) }
     ensures err { IfErr result (λ r. r ≡ Memory) }
