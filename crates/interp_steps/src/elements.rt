@@ -70,7 +70,7 @@ fn clear_part(
     }
 }
 
-/// So many elements or rows of the array at `r`, from a number on, become zero (6.7.9p10, p21).
+/// `count` elements or rows of the array at `r`, from `first` on, become zero (6.7.9p10, p21).
 ///
 /// Errors: memory ran out.
 pub fn clear(
@@ -122,7 +122,7 @@ fn set_part(scene: &mut Scene, alloc: Global, r: &Reference, i: usize, v: i64) -
     }
 }
 
-/// So many elements of the array at `r` become the characters of a text (6.7.9p14, p21).
+/// The first `count` elements of the array at `r` become the characters of a text (6.7.9p14, p21).
 ///
 /// Errors: memory ran out.
 pub fn put_text(

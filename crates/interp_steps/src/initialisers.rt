@@ -133,7 +133,7 @@ pub fn come_late<'p>(machine: &mut Machine<'p>, late: Late<'p>) -> Result<Step<'
     }
 }
 
-/// So many ticks are to be spent first.
+/// Spends a number of ticks before a deferred operation.
 ///
 /// Errors: memory ran out.
 pub fn spend<'p>(machine: &mut Machine<'p>, ticks: usize, late: Late<'p>) -> Result<Step<'p>, Stop>
