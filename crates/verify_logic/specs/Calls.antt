@@ -25,7 +25,7 @@ Entered (i ∷ is) [] ks = ⊥
 Entered (i ∷ is) (t ∷ objects) [] = ⊥
 Entered (i ∷ is) (t ∷ objects) (k ∷ ks) = (t.lengths ≡ []) × Entails (record { initialised = true; interval = i }) k × Entered is objects ks
 
--- a call of function f from this frame, with numbers in these intervals and these arrays, ends with such a value and leaves the objects as said
+-- a call of function f from this frame, with numbers in these intervals and these arrays, ends with such a value and leaves the objects in `after`
 pub record CallGives (fr : Frame) (f : ℕ) (is : List Interval) (arrays : List ArrayArgument) (before : Option Known) (value : AbsValue) (after : Option Known) : Type 0 where
   pub runs : (d : ℕ) (passed : List Passed) (s : State) → Are fr is arrays passed → Reaches fr before s → Ends fr.listed (calling fr.program d f passed s) (λ v s2. ValueIs value v × Reaches fr after s2)
 
