@@ -40,11 +40,11 @@ pub enum Width {
 /// Where an element lies.
 #[derive(Clone, Copy, Debug, PartialEq, Eq)]
 pub enum Location {
-    /// So many bytes from the start of the statics.
+    /// This number of bytes from the start of the statics.
     Statics(usize),
-    /// So many bytes from the start of the arrays of the frame.
+    /// This number of bytes from the start of the arrays of the frame.
     Frame(usize),
-    /// Where a reference leads.
+    /// The target of a reference.
     At(Operand),
 }
 
