@@ -20,11 +20,11 @@ pub struct Unit<'a> {
 /// A question about a program.
 #[derive(Clone, Copy, Debug, PartialEq, Eq)]
 pub enum Question {
-    /// The faults for which it is refused: at most this many.
+    /// The faults for which it is rejected: at most this many.
     Faults(usize),
-    /// Its warnings. Requested only for programs that are not refused.
+    /// Its warnings. Requested only for programs that are not rejected.
     Warnings,
-    /// The places where undefined behaviour is not ruled out. Requested only for programs that are not refused.
+    /// The places where undefined behaviour is not ruled out. Requested only for programs that are not rejected.
     Unverified,
 }
 
@@ -80,7 +80,7 @@ pub struct FunctionFact {
     pub weight: u32,
 }
 
-/// A program that runs a server. Its facts about names are none where they are not sure, and where the compiler refuses the program. Each method fails
+/// A program that runs a server. Its facts about names are none where they are not sure, and where the compiler rejects the program. Each method fails
 /// where memory runs out.
 pub trait Host {
     /// The bytes of the file at a path; `None` where there is none that can be read.

@@ -14,7 +14,7 @@ const USUAL_STACK: u32 = 1_048_576;
 #[derive(Drop)]
 pub struct Options {
     pub encoding: Encoding,
-    /// The folders in which includes are looked for.
+    /// The folders that are searched for includes.
     pub folders: Vec<String>,
     /// The path of the main file; empty where each open file that no other includes is one.
     pub main: String,
@@ -30,7 +30,7 @@ pub struct Options {
 }
 
 impl Options {
-    /// The options of a client that says nothing.
+    /// The options of a client that sends none.
     pub fn usual(alloc: Global) -> Options {
         Options {
             encoding: Encoding::Utf16,

@@ -69,7 +69,7 @@ pub fn is_part(programs: &[Program], number: usize) -> bool {
     false
 }
 
-/// Where files are looked for.
+/// The places that are searched for files.
 #[derive(Drop)]
 pub struct Places<'a, H> {
     pub host: &'a H,

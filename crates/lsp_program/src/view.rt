@@ -1,4 +1,4 @@
-//! The names of a program, as requests look at them.
+//! The names of a program, as requests use them.
 
 use crate::unit_files::{Origin, UnitFile};
 use lsp_budget::work_of;
