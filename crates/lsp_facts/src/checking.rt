@@ -28,7 +28,7 @@ impl Checked {
     }
 }
 
-/// The typed program of a set; `None` where the compiler refuses it.
+/// The typed program of a set; `None` where the compiler rejects it.
 pub(crate) fn check_program(
     alloc: Global,
     set: &FileSet,
@@ -42,7 +42,7 @@ pub(crate) fn check_program(
     }
 }
 
-/// The facts about files that the compiler refuses: none, but out of memory is reported.
+/// The facts about files that the compiler rejects: none, but out of memory is reported.
 pub(crate) fn none_of<T>(fault: &Fault) -> Result<Option<T>, AllocError> {
     if fault.code == Code::OutOfMemory.number() {
         Err(AllocError)

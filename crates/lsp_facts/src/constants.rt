@@ -41,7 +41,7 @@ pub fn value_of(
 }
 
 /// The value of an enumerator of a block. Another one of the same value is declared directly after it, so that it has a value nowhere but where the enumerator
-/// has one; it is the initialiser of an object at the end of the block. `None` where the compiler refuses that.
+/// has one; it is the initialiser of an object at the end of the block. `None` where the compiler rejects that.
 pub fn enumerator_value(
     alloc: Global,
     unit: Unit<'_>,

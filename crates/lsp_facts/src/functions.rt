@@ -18,7 +18,7 @@ impl Checked {
     }
 }
 
-/// The compiler's facts about the function of this name; `None` where it refuses the program, or where the function has no body.
+/// The compiler's facts about the function of this name; `None` where it rejects the program, or where the function has no body.
 pub fn function_fact(
     alloc: Global,
     unit: Unit<'_>,

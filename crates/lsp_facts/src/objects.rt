@@ -14,7 +14,7 @@ use typed_ast::{Function, ObjectType, ParameterType, Static};
 /// The name of an object that is declared like another one.
 const OBJECT: &str = "zkc_like_object";
 
-/// The compiler's facts about an object or a parameter; `None` where it refuses the program, or where the declaration is not sure. That of an automatic
+/// The compiler's facts about an object or a parameter; `None` where it rejects the program, or where the declaration is not sure. That of an automatic
 /// object is found by its token, and one of the whole unit by its name, if no other object with static storage has it. For another one, a like object is
 /// declared after it.
 pub fn object_fact(
