@@ -1,4 +1,4 @@
-//! A program that is built to be looked into.
+//! A program that is built for inspection.
 
 use cc::{Built, compile_with};
 use cli_args::Program;
@@ -13,7 +13,7 @@ pub struct Described {
     pub table: SymbolTable,
 }
 
-/// The executable file of a program, looked into; or the exit status, where the fault is said.
+/// The executable file of a program, with its description; or the exit status, where the fault is printed.
 pub fn describe(
     rt: &HostRuntime,
     program: &Program<'_>,
