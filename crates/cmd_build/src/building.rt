@@ -35,14 +35,14 @@ pub fn build(rt: &HostRuntime, program: &Program<'_>, out: &str, rule: Option<Ru
     }
 }
 
-/// Takes one large block, of which no page is touched, and gives it back. From then on the allocator of the C library takes large lists from its heap, where the
-/// pages of one list serve the next, and not each from the system with fresh ones. Where it is refused, nothing is lost.
+/// Allocates one large block, of which no page is touched, and frees it. From then on the allocator of the C library takes large lists from its heap, where the
+/// pages of one list serve the next, and not each from the system with fresh ones. Where the allocation fails, nothing is lost.
 #[inline(never)]
 fn keep_large_blocks(alloc: Global) {
     let _block = Vec::<u8>::with_capacity(alloc, KEPT_BYTES);
 }
 
-/// Says of each further file that is a C file and that no file includes that it is not compiled: a program is one unit.
+/// Reports each further file that is a C file and that no file includes: it is not compiled, since a program is one unit.
 fn say_alone(rt: &HostRuntime, program: &Program<'_>, sources: &Sources<'_>) {
     for word in &program.words {
         if word.role == Role::File

@@ -58,8 +58,8 @@ struct Names<'a> {
     given: &'a str,
 }
 
-/// A command over standard input and output. One line at the most is said: that the output was refused at last goes before
-/// how the run stopped.
+/// A command over standard input and output. Prints at most one line: a failed final flush takes precedence over
+/// the run's outcome.
 fn over_streams(
     rt: &HostRuntime,
     command: Cmd<'_>,
