@@ -30,7 +30,7 @@ pub(crate) struct Operands {
     pub is_unsigned: bool,
 }
 
-/// The operands of an operation in this type where it refuses them.
+/// The operands of an operation in this type where it is undefined for them.
 pub(crate) fn refused(op: BinOp, ty: IntType, left: i64, right: i64) -> Option<Operands> {
     match operated(op, ty, left, right) {
         Ok(_) => None,
@@ -43,12 +43,12 @@ pub(crate) fn refused(op: BinOp, ty: IntType, left: i64, right: i64) -> Option<O
     }
 }
 
-/// The operands of `++` or `--` in this type where it refuses them.
+/// The operands of `++` or `--` in this type where it is undefined for them.
 pub(crate) fn refused_step(op: StepOp, ty: IntType, old: i64) -> Option<Operands> {
     refused(step_operation(op), ty, old, 1)
 }
 
-/// Whether a sign refuses its operand.
+/// Whether a sign operator is undefined for its operand.
 pub(crate) fn is_refused_sign(op: PrefixOp, ty: IntType, value: i64) -> bool {
     sign_of(op, ty, value).is_err()
 }
