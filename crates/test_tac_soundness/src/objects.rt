@@ -20,7 +20,7 @@ fn in_words(bytes: usize) -> usize
     (bytes + 3) / 4 * 4
 }
 
-/// So many bytes more, in whole words.
+/// Adds `bytes` bytes, in whole words.
 pub fn plus_words(total: usize, bytes: usize) -> usize
     requires total { total ≤ 16777217 }
     requires bytes { bytes ≤ 16777217 }
