@@ -83,7 +83,7 @@ pub fn hexadecimal(digits: &[u8]) -> u32 {
     value
 }
 
-/// Bytes of two hexadecimal digits each. Where memory is refused, some are missing.
+/// Bytes of two hexadecimal digits each. Where memory runs out, some are missing.
 pub fn bytes(alloc: Global, digits: &[u8]) -> Vec<u8> {
     let mut bytes = Vec::new(alloc);
     for pair in digits.chunks(2) {
