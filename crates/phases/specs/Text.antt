@@ -60,7 +60,7 @@ abbrev pub unless : Bool → Char → List Char → List Char
 unless true c cs = cs
 unless false c cs = c ∷ cs
 
--- phase 2: each backslash at the end of a line goes, with the end of the line
+-- phase 2: each backslash at the end of a line is deleted, with the end of the line
 abbrev pub phase2 : ℕ → List Char → List Char
 phase2 skip [] = []
 phase2 (suc k) (c ∷ cs) = phase2 k cs

@@ -1,4 +1,4 @@
--- A preprocessing token, without where its text lies in memory.
+-- A preprocessing token, without the location of its text in memory.
 use Rattle.std.specs.Prelude.{ℕ, Bool, List}
 use Rattle.srcset.specs.declared.refusal.Pos.{Pos}
 use Rattle.phases.specs.declared.token.Kind.{Kind}

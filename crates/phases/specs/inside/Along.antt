@@ -1,4 +1,4 @@
--- How far a loop over the characters of a text has come.
+-- The progress of a loop over the characters of a text.
 use Rattle.std.specs.Prelude.{◌≡◌, ℕ, ◌+◌, Bool, Option, None, Some, List}
 use Rattle.phases.specs.declared.cursor.Cursor.{Cursor}
 use Rattle.phases.specs.inside.Reading.{Spans, Reads}

@@ -58,7 +58,7 @@ is_of HeaderName text = is_header text
 is_of Punctuator text = is_punctuator text
 is_of Other text = is_one text
 
--- so long a front is there, and it is a token of this kind
+-- there is a front of this length, and it is a token of this kind
 pub record IsWhole (t : Kind × ℕ) (text : List ℕ) : Type 0 where
   pub some : 0 < t.1
   pub room : t.1 ≤ length text

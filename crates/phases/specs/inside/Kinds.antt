@@ -1,4 +1,4 @@
--- How far a literal is read, byte by byte.
+-- The state of a literal that is read byte by byte.
 use Rattle.std.specs.Prelude.{ℕ, ◌==◌, Bool, false, if◌then◌else◌, List}
 use Rattle.phases.specs.declared.kinds.Quote.{Quote}
 use Rattle.phases.specs.declared.kinds.Quote.TheVariants.{Open, Escaped, Closed, Broken}

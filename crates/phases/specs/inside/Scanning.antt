@@ -1,4 +1,4 @@
--- How far a file is scanned.
+-- The progress of a scan of a file.
 use Rattle.std.specs.Prelude.{◌≡◌, ℕ, ◌||◌, nat_lt, false, Option, None, Some, List, [], ◌∷◌, ◌++◌, take}
 use Rattle.srcset.specs.declared.refusal.Pos.{Pos}
 use Rattle.phases.specs.declared.cursor.Cursor.{Cursor}
@@ -21,7 +21,7 @@ abbrev pub whole : Scanner → Found → Found
 whole s f =
     record { lines = s.list.lines ++ before s.list.line f.lines; overlong = or_later s.overlong f.overlong; unclosed = or_later s.unclosed f.unclosed }
 
--- the token that a word at this place is
+-- the token of a word at this place
 abbrev pub token_at : Scanner → Cursor → Step → Front → Token
 token_at s at first front =
     record { kind = kind_of front.piece; spelling = take front.span.count (bytes_at at); space_before = s.space; pos = record { file = s.file; line = first.line } }
@@ -50,7 +50,7 @@ abbrev pub word_at : Scanner → Kind → List ℕ → ℕ → Token
 word_at s kind spelling line =
     record { kind = kind; spelling = spelling; space_before = s.space; pos = record { file = s.file; line = line } }
 
--- a token with this kind and spelling, on this line, comes last
+-- a token with this kind and spelling, on this line, is appended
 pub record AddsWord (old : Scanner) (new : Scanner) (kind : Kind) (spelling : List ℕ) (line : ℕ) : Type 0 where
   pub file_is : new.file ≡ old.file
   pub lines_is : new.list.lines ≡ old.list.lines
