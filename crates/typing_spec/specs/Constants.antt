@@ -42,7 +42,7 @@ measurable (binary at op a b) = each (no_comma at op) (each (measurable a) (meas
 measurable (conditional at c a b) = each (measurable c) (each (measurable a) (measurable b))
 measurable (assign at op a b) = unfit_at at
 
--- 6.6p6: of names only enumerators; an undeclared name is another matter
+-- 6.6p6: of names only enumerators; an undeclared name has another fault
 abbrev pub enumerator_alone : Pos → Meaning → Verdict (Unit {0})
 enumerator_alone at (an_object what t) = unfit_at at
 enumerator_alone at (an_array_parameter n t) = unfit_at at

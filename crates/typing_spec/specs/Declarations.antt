@@ -109,7 +109,7 @@ specified s at ss =
 
 -- ---- an object's declarator
 
--- one that has begun: its name is in scope, its initialiser is still to come
+-- one that has begun: its name is in scope, its initialiser follows
 pub record Begun : Type 0 where
   pub at : Pos
   pub name : ℕ
@@ -123,7 +123,7 @@ abbrev pub has_init : Option Init → Bool
 has_init None = false
 has_init (Some i) = true
 
--- the storage of the name that was declared last
+-- the storage of the most recently declared name
 abbrev pub storage_in : Meaning → Storage
 storage_in (an_object what t) = what
 storage_in (an_array_parameter n t) = typed.parameter n
@@ -199,7 +199,7 @@ length_from s at t init_hole = breaks code.BadInitialiserForm at
 length_from s at t (one_init e) = text_or_form s (has_characters t.element t.lengths) at e
 length_from s at t (braced_init p parts) = text_or_count s (has_characters t.element t.lengths) p (text_alone parts) (count_of parts)
 
--- a name's declared type meets its type so far
+-- the meaning of a name with the composite of its declared type and its type so far (6.7p4)
 abbrev pub retyped_meaning : Pos → DeclaredType → Meaning → Verdict Meaning
 retyped_meaning at t (an_object what u) = compatible at (object_with what (composite u t))
 retyped_meaning at t m = fine m
@@ -253,7 +253,7 @@ abbrev pub element_of : DeclaredType → IntType
 element_of (complete t) = t.element
 element_of (unknown_size t) = t.element
 
--- the lengths of an array as far as values are laid out in it; how many parts the outermost has matters not
+-- the lengths of an array as far as values are laid out in it; the number of parts of the outermost does not matter
 abbrev pub lengths_of : DeclaredType → List ℕ
 lengths_of (complete t) = t.lengths
 lengths_of (unknown_size t) = 1 ∷ t.lengths

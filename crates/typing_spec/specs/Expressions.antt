@@ -364,7 +364,7 @@ array_type at (Some t) k ns = with_lengths at t k ns
 abbrev pub type_of : Pos → BaseType → List ℕ → Verdict (Option ObjectType)
 type_of at b ns = array_type at b.type b.constant ns
 
--- where a hole is, which no list of tokens leaves
+-- the place of a hole, which no list of tokens leaves
 abbrev pub nowhere : Pos
 nowhere = record { file = 0; line = 0 }
 

@@ -63,7 +63,7 @@ of_number t w = fine (typed.one_value t w.e)
 abbrev pub number_from : Scope → IntType → Tree → Verdict Initialiser
 number_from s t e = then_check (typing s e) (λ x. then_check (worth code.VoidAssigned (position x) x) (of_number t))
 
--- 6.7.9p14: the characters, of which the zero may find no room
+-- 6.7.9p14: the characters; there may be no room for the zero
 abbrev pub text_from : Scope → Pos → Option ℕ → ℕ → Verdict Initialiser
 text_from s at room n = provided (refuse_if (exceeds (length (literal_of s n)) room) code.TooManyInitialisers at) (fine (typed.text (length s.literals)))
 

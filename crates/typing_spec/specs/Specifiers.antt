@@ -128,6 +128,6 @@ abbrev pub count : List ℕ → ℕ
 count [] = 0
 count (n ∷ ns) = suc (count ns)
 
--- the type of specifiers that bring no list of enumerators, the first of them at this place
+-- the type of specifiers that contain no list of enumerators, the first of them at this place
 abbrev pub base_type : Scope → Pos → List TypeSpecifier → Verdict BaseType
 base_type s at ss = provided (tags_known s at (tags_of ss)) (base_or_fault at (is_const ss) (named_type (count (tags_of ss)) (words_of ss)))

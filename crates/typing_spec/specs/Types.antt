@@ -107,7 +107,7 @@ same_function f g = same_result f.result g.result && (same_truth f.constant g.co
 abbrev pub array_of : ℕ → ObjectType → ObjectType
 array_of n t = record { element = t.element; constant = t.constant; lengths = n ∷ t.lengths }
 
--- the elements of an array, which a number has not
+-- the elements of an array; a number has none
 abbrev pub inner_type : IntType → Bool → List ℕ → Option ObjectType
 inner_type t c [] = None
 inner_type t c (n ∷ lengths) = Some (record { element = t; constant = c; lengths = lengths })

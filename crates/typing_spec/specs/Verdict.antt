@@ -3,7 +3,7 @@ use Rattle.std.specs.Prelude.{◌≡◌, Bool, true, false, ◌⊎◌}
 use Rattle.srcset.specs.declared.code.Code.{Code}
 use Rattle.srcset.specs.declared.refusal.Pos.{Pos}
 
--- broken constraints, each with its code and its place
+-- violated constraints, each with its code and its place
 pub data Violations : Type 0 where
   none : Violations
   one : (code : Code) (at : Pos) → Violations
@@ -30,7 +30,7 @@ abbrev pub both : {A B C : Type 0} → Verdict A → Verdict B → (A → B → 
 both (fine a) second go = then_check second (go a)
 both (broken vs) second go = broken (some vs (violations second))
 
--- the constraint is broken where the test is true
+-- the constraint is violated where the test is true
 abbrev pub refuse_if : Bool → Code → Pos → Verdict (Unit {0})
 refuse_if true code at = breaks code at
 refuse_if false code at = fine tt
@@ -47,7 +47,7 @@ Among code at none = ⊥
 Among code at (one c p) = (c ≡ code) × (p ≡ at)
 Among code at (some left right) = Among code at left ⊎ Among code at right
 
--- this constraint is broken at this place
+-- this constraint is violated at this place
 abbrev pub Stands : {A : Type 0} → Code → Pos → Verdict A → Type 0
 Stands code at (fine a) = ⊥
 Stands code at (broken vs) = Among code at vs

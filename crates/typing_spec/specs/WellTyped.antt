@@ -86,7 +86,7 @@ abbrev mutual
 abbrev pub number_is_typed : Program → Function → Value → Bool
 number_is_typed p f e = value_is_typed p f e && some_number (type_of_value e)
 
--- 6.7.9p14: characters, of which the zero may find no room
+-- 6.7.9p14: characters; there may be no room for the zero
 abbrev pub text_fits : IntType → List ℕ → Option (List ℕ) → Bool
 text_fits t (n ∷ []) (Some text) = is_character t && nat_le (length text) (n + 1)
 text_fits t lengths text = false
