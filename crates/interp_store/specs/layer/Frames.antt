@@ -19,7 +19,7 @@ pub data Found : Type 0 where
   a_flow : (flow : Flow) → Found
   initialised : Found
 
--- the operation after a number of ticks is spent: characters of string literal n put, elements made zero, a function's body entered
+-- the operation after a number of ticks is spent: characters of string literal n stored, elements made zero, a function's body entered
 pub data Late : Type 0 where
   puts_text : (t : IntType) (count n : ℕ) (r : Reference) → Late
   puts_zeros : (count i : ℕ) (lengths : List ℕ) (r : Reference) → Late

@@ -27,7 +27,7 @@ abbrev pub back_at : ℕ → ℕ → List Reference → State → State
 back_at count base arrays s = record s { store = take count s.store; base = base; arrays = arrays; history = Left ∷ s.history }
 
 module _ (p : Program) (call : Calling) where
-  -- the turns of a loop, of which its ticks are enough
+  -- the turns of a loop; its ticks suffice for them
   abbrev pub loop : List ObjectType → Option Value → Statement → Option Value → State → Run Flow
   loop objects test a step s = turns s.clock (evaluate_or p call test) (execute p call objects a) (evaluate_or p call step) s
 
