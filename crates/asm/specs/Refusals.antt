@@ -12,7 +12,7 @@ use Rattle.asm.specs.Listing.{IsListingOf}
 abbrev pub IsRefused : ℕ → List Item → Fault → Type 0
 IsRefused base xs fault = (IsFault fault code.JumpLimit [] 0 × SomeMisses base xs) ⊎ IsMemoryFault fault
 
--- the writer took a beginning of a listing of xs
+-- the writer accepted a prefix of a listing of xs
 pub record WritesBeginning (base : ℕ) (xs : List Item) (before after : Option (List ℕ)) : Type 0 where
   pub listing : List ℕ
   pub is_listing : IsListingOf base xs listing
