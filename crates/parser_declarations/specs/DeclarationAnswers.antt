@@ -86,7 +86,7 @@ abbrev pub AnswersHead : ℕ → List Token → Result HeadPart Refusal → Type
 AnswersHead d ts (Ok p) = ReadsOf (SpellsHead None) EndsHead head_depth d ts (head_of p.head) p.depth p.rest.now × EndsHead (head_of p.head) p.rest.now
 AnswersHead d ts (Err f) = FailsOf (SpellsHead None) EndsHead head_depth d ts f
 
--- of a depth, some begun external declaration passes it
+-- for a depth, some begun external declaration exceeds it
 abbrev pub StandsHead : ℕ → List Token → Refusal → Type 0
 StandsHead d ts f = StandsOf SpellsExternal external_depth d ts f
 

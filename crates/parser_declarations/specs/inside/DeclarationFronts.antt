@@ -86,7 +86,7 @@ abbrev pub head_tree : Pos → List SpecifierTree → TailTree → HeadTree
 head_tree start ss (listing is) = whole (declared start ss is)
 head_tree start ss (defining at n ps) = opening (record { start = start; specifiers = ss; at = at; name = n; parameters = ps })
 
--- how deep specifiers of this depth are in it: those of a function definition lie below its node
+-- how deep specifiers of this depth are in it: those of a function definition are under its node
 abbrev pub specifiers_height : ℕ → TailTree → ℕ
 specifiers_height k (listing is) = k
 specifiers_height k (defining at n ps) = k + 1
