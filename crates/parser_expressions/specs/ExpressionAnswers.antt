@@ -75,7 +75,7 @@ pub record Front (n : ℕ) (t : Tree) (ts rest : List Token) : Type 0 where
   pub spells : Spells None t ts rest
   pub stops : Stops n rest
 
--- the tree e, k deep, at the front of the list, below d nodes, and no other
+-- the tree e of depth k, at the front of the list, under d nodes, and no other
 pub record Reads (n d : ℕ) (ts : List Token) (e : Tree) (k : ℕ) (rest : List Token) : Type 0 where
   pub tight : n ≤ layer e
   pub spells : Spells None e ts rest
@@ -83,7 +83,7 @@ pub record Reads (n d : ℕ) (ts : List Token) (e : Tree) (k : ℕ) (rest : List
   pub fits : d + k ≤ depth_limit
   pub only : (t : Tree) (r : List Token) → Front n t ts r → (t ≡ e) × (r ≡ rest)
 
--- each tree at the front of the list has this against it
+-- the refusal excuses each tree at the front of the list
 pub record Fails (n d : ℕ) (ts : List Token) (f : Refusal) : Type 0 where
   pub each : (t : Tree) (r : List Token) → Front n t ts r → Excuses f d (depth t)
 
@@ -91,7 +91,7 @@ abbrev pub Answers : ℕ → ℕ → List Token → Result Part Refusal → Type
 Answers n d ts (Ok p) = Reads n d ts (tree_of p.expr) p.depth p.rest.now
 Answers n d ts (Err f) = Fails n d ts f
 
--- A begun tree of layer n, whose front ends at this place, passes the depth below d nodes.
+-- A begun tree of layer n, whose front ends at this place, exceeds the depth under d nodes.
 pub record Passes (n d : ℕ) (ts : List Token) (at : Pos) : Type 0 where
   pub tree : Tree
   pub cut : List Token
