@@ -32,7 +32,7 @@ is_name_byte b = nat_le 32 b && nat_le b 126 && not (nat_eq b 34 || nat_eq b 92 
 abbrev pub is_file_name : List ℕ → Bool
 is_file_name name = nat_le 1 (length name) && nat_le (length name) 255 && list_all is_name_byte name
 
--- the code of the fault at adding a file, by the first rule that is broken
+-- the code of the fault at adding a file, by the first rule that is violated
 abbrev pub add_fault : Files → List ℕ → List ℕ → Option Code
 add_fault files name bytes =
     if not (is_file_name name) then Some BadFileName
