@@ -1,4 +1,4 @@
--- Functions whose counts are known, and the law of parentheses. Places and numbers of names count for nothing.
+-- Functions whose counts are known, and the law of parentheses. Places and numbers of names do not matter.
 use Rattle.std.specs.Prelude.{◌≡◌, ℕ, zero, suc, ◌+◌, List, [], ◌∷◌, None, Some}
 use Rattle.srcset.specs.declared.refusal.Pos.{Pos}
 use Rattle.ctypes.specs.declared.types.IntType.TheVariants as ty

@@ -1,8 +1,8 @@
 //! How many nodes a tree has: one each for a function definition, parameter, declarator, enumerator, assertion,
 //! braced list of initialisers, statement and expression.
 //!
-//! A pair of parentheses is no node, nor is a function definition's own declarator. Each count goes through the
-//! tree once, and its host recursion is no deeper than twice the tree. From 2^64 - 1 on a count is this number.
+//! A pair of parentheses is no node, nor is a function definition's own declarator. Each count traverses the
+//! tree once, and its host recursion is no deeper than twice the tree. A count saturates at 2^64 - 1.
 #![tactic(auto, using(crate::proofs::Sums::capped_none, crate::proofs::Sums::capped_one))]
 
 ghost use Rattle.std.specs.Prelude.{◌≡◌, ◌+◌, ℕ, map};
