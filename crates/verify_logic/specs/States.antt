@@ -180,7 +180,7 @@ abbrev pub ReachesAt : Frame → Option Known → (base : ℕ) → (arrays : Lis
 ReachesAt fr None base arrays store input = ⊥
 ReachesAt fr (Some known) base arrays store input = Holds fr known base arrays store input
 
--- a run that is in state s within the frame is where these values of objects are known
+-- the abstract state describes state s of a run within the frame
 abbrev pub Reaches : Frame → Option Known → State → Type 0
 Reaches fr o s = ReachesAt fr o s.base s.arrays s.store s.input
 
@@ -220,7 +220,7 @@ pub record Refers (fr : Frame) (x : ℕ) (rest : List ℕ) (r : Reference) : Typ
   pub object : r.object ≡ x
   pub path : Along (shape_of fr x) r.path rest
 
--- where something is known of it: there is one subscript, which lies in the interval
+-- where `sub` is known: there is one subscript, which lies in the interval
 abbrev pub SubscriptIs : Option Interval → (path : List ℕ) → Type 0
 SubscriptIs None path = Unit {0}
 SubscriptIs (Some i) [] = ⊥
@@ -249,7 +249,7 @@ pub record Reads (o : Option Known) (x : ℕ) (sub : Option Interval) (k : AbsVa
 pub record ReadsAll (facts : List Fact) (x : ℕ) (j k : Interval) : Type 0 where
   pub is : (store : Store) (i : ℕ) → FactsAre facts store → In j (pos i) → HasValueIn k (value_of (at_path (slice_get store x) (i ∷ [])))
 
--- these facts say nothing of object x, and of others no more than those
+-- `facts2` holds after any write to object x if `facts` holds before it
 pub record Forgets (x : ℕ) (facts facts2 : List Fact) : Type 0 where
   pub is : (store : Store) (path : List ℕ) (new : Tree) → FactsAre facts store → FactsAre facts2 (put_in store x path new)
 
