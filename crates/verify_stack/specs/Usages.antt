@@ -23,7 +23,7 @@ abbrev pub CoversIfSaid : (usages : List (Option ℕ)) (size : ℕ) → Function
 CoversIfSaid usages size g None = Unit {0}
 CoversIfSaid usages size g (Some usage) = Covers usages size g usage
 
--- so it is of each of these functions, whose usages and sizes these are
+-- the same for each of these functions, with these usages and sizes
 abbrev pub EachCovers : (usages : List (Option ℕ)) → List Function → List (Option ℕ) → (sizes : List ℕ) → Type 0
 EachCovers usages [] ns sizes = Unit {0}
 EachCovers usages (g ∷ gs) [] sizes = Unit {0}
