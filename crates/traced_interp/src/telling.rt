@@ -270,7 +270,7 @@ impl<'a, W: Write + Drop> Trace<'a, W> {
         }
     }
 
-    /// The object that was to get its first value has it.
+    /// The object that was to get its first value has received it.
     pub(crate) fn tell_first(&mut self, scene: &Scene) {
         let Some(defined) = self.calls.defined() else {
             return;
@@ -305,7 +305,7 @@ impl<'a, W: Write + Drop> Trace<'a, W> {
         self.write(text);
     }
 
-    /// A byte was got, or the end of the input.
+    /// A byte was read, or the end of the input was reached.
     pub(crate) fn tell_got(&mut self, byte: Option<u8>) {
         if self.form == TraceForm::Json && !self.leaves_out() {
             let text = got(self.alloc, byte);
