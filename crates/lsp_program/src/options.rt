@@ -64,7 +64,7 @@ impl Options {
         !self.defined.is_empty() || !self.undefined.is_empty()
     }
 
-    /// Takes the options `define` and `undefine`.
+    /// Reads the options `define` and `undefine`.
     fn put_macros(&mut self, alloc: Global, params: &Value) -> Result<(), AllocError> {
         for text in texts_at(alloc, params, "/initializationOptions/define")? {
             if is_definition(text.as_str()) {
