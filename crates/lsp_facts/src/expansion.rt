@@ -16,7 +16,7 @@ const MAX_SHOWN: usize = 2_000;
 const CUT: &str = " ...";
 
 /// The tokens that result from those in a part of a file, with one space between; the first time where the file is included several times. It is empty
-/// where there are none, as in a group that is skipped. `None` where the preprocessor refuses the program, or where a file depends on its lines, so that it cannot be laid out with a token a line.
+/// where there are none, as in a group that is skipped. `None` where the preprocessor rejects the program, or where a file depends on its lines, so that it cannot be laid out with a token a line.
 pub fn expansion_of(
     alloc: Global,
     unit: Unit<'_>,
