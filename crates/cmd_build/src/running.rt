@@ -51,7 +51,7 @@ pub fn interp(rt: &HostRuntime, program: &Program<'_>, max: u64) -> u8 {
     )
 }
 
-/// The name of the file that is translated or run, and that which the words gave it.
+/// The name of the file that is translated or run, and its name on the command line.
 #[derive(Clone, Copy)]
 struct Names<'a> {
     main: &'a str,
