@@ -143,7 +143,7 @@ impl Walk {
         Ok(close.saturating_add(1))
     }
 
-    /// Passes `for`, and notes where its statement ends.
+    /// Passes `for`, and records where its statement ends.
     fn pass_for(&mut self, words: &Words<'_>, number: usize) -> Result<usize, AllocError> {
         let open = number.saturating_add(1);
         let first = open.saturating_add(1);
