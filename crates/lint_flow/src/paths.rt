@@ -46,7 +46,7 @@ impl Paths {
         self.put(false, none)
     }
 
-    /// A further point of which the same is known.
+    /// A copy of a point, with the same state.
     pub(crate) fn again(&mut self, point: Point) -> Result<Point, AllocError> {
         match self.states.get(point.0) {
             Some(state) => {
