@@ -2,7 +2,7 @@
 
 use std::alloc::{AllocError, Global};
 
-/// The most bytes that a body may have. A longer one is passed over.
+/// The most bytes that a body may have. A longer one is skipped.
 pub const MAX_BODY_BYTES: usize = 33_554_432;
 
 /// The most bytes that a header may have.
@@ -49,7 +49,7 @@ impl Inbox {
             .extend_from_slice(bytes.get(passed..).unwrap_or_default())
     }
 
-    /// Takes the next frame; `None` where its bytes are not all there. Fails where memory runs out.
+    /// Removes and returns the next frame; `None` where its bytes are not all there. Fails where memory runs out.
     pub fn take(&mut self) -> Result<Option<Frame>, AllocError> {
         let Some(end) = header_end(self.held.as_slice()) else {
             return self.take_long_header();
@@ -65,7 +65,7 @@ impl Inbox {
         }
     }
 
-    /// Gives up all bytes where they are more than a header may have.
+    /// Discards all bytes where they are more than a header may have.
     fn take_long_header(&mut self) -> Result<Option<Frame>, AllocError> {
         if self.held.len() <= MAX_HEADER_BYTES {
             return Ok(None);
@@ -74,7 +74,7 @@ impl Inbox {
         Ok(Some(Frame::WrongHeader))
     }
 
-    /// Takes a body of this length.
+    /// Removes and returns a body of this length.
     fn take_body(&mut self, start: usize, length: usize) -> Result<Option<Frame>, AllocError> {
         let end = start.saturating_add(length);
         let Some(bytes) = self.held.get(start..end) else {
@@ -85,7 +85,7 @@ impl Inbox {
         Ok(Some(Frame::Body(body)))
     }
 
-    /// Passes over a body of this length, of which some bytes may not have come yet.
+    /// Skips a body of this length, some bytes of which may not have arrived yet.
     fn pass(&mut self, start: usize, length: usize) -> Result<Option<Frame>, AllocError> {
         let end = start.saturating_add(length);
         let held = self.held.len();

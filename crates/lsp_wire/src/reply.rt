@@ -4,7 +4,7 @@ use crate::json_text::{put_number, put_string};
 use crate::message::Id;
 use std::alloc::{AllocError, Global};
 
-/// Why a message gets an error (JSON-RPC 2.0, section 5.1, and Language Server Protocol 3.17, `ErrorCodes`).
+/// The reason why a message gets an error (JSON-RPC 2.0, section 5.1, and Language Server Protocol 3.17, `ErrorCodes`).
 #[derive(Clone, Copy, Debug, PartialEq, Eq)]
 pub enum RpcError {
     /// The body is not JSON.
@@ -15,7 +15,7 @@ pub enum RpcError {
     InvalidParams,
     /// A request came before `initialize`.
     NotInitialized,
-    /// A request is right and could not be met.
+    /// A valid request could not be fulfilled.
     RequestFailed,
 }
 
