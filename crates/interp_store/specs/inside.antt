@@ -1,2 +1,2 @@
--- The abstract machine with an explicit stack. Nothing here has to be trusted: laws prove it equivalent to the definition.
+-- The abstract machine with an explicit stack. Nothing here has to be trusted: laws relate it to the definition.
 pub mod Laws
