@@ -150,7 +150,7 @@ module _ (p : Program) (call : Calling) where
   test_resumes objects true v labels n default all s = jump_resumes objects (Some n) all s
   test_resumes objects false v labels n default all s = sought_resumes objects v labels (suc n) default all s
 
-  -- ---- frames that wait for ticks alone
+  -- ---- operations that wait for ticks alone
 
   late_resumes : (what : Late) (s : State) → late p call what s ≡ resumed p call (came_late p what s)
   late_resumes (puts_text t count n r) s = refl

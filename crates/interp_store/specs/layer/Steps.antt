@@ -84,7 +84,7 @@ sought objects v (None ∷ labels) n default all s = sought objects v labels (su
 sought objects v (Some c ∷ labels) n default all s = moves [] (enters (on.case_test objects v c labels n default all)) s
 
 module _ (p : Program) where
-  -- ---- frames that wait for ticks alone
+  -- ---- operations that wait for ticks alone
 
   abbrev pub came_late : Late → State → Moved
   came_late (puts_text t count n r) s = goes initialised (characters t count 0 (text_or_none (slice_get p.literals n)) r s)
