@@ -55,7 +55,7 @@ module _ (homes : List ℕ) (base : ℕ) (xs : List Item) (long : List Bool) (pl
   pub near_if_short : (k : ℕ) → k < length xs → NearIfShort (longs long k) (slice_index places k) (address homes places) (item_at xs k)
   near_if_short k lt = near_item k (item_at xs k) lt (table.refers k lt) (c.fits.all k lt)
 
-  -- a branch that reaches with all branches long reaches
+  -- a distance within reach with all branches long is within reach
   reach_back : (j k d : ℕ) → d ≤ 4 → Reach (place all_long base xs j + d) (place all_long base xs k) → Reach (place (longs long) base xs j + d) (place (longs long) base xs k)
   reach_back j k d small n =
       elim (cases_lt k j) [

@@ -39,7 +39,7 @@ fn least(item: Item) -> u32
     }
 }
 
-/// The bytes of an item, which may be a long branch; from two tables, since the kinds of items are unpredictable for branches.
+/// The bytes of an item, which may be a long branch; from two tables, since the processor cannot predict the kinds of items.
 pub fn size(long: bool, item: Item) -> u32
     ensures value { result ≡ spec.size long item }
     ensures small { result ≤ spec.size true item }
@@ -127,7 +127,7 @@ fn are_close(items: &[Item], homes: &[usize], low: usize, high: usize) -> bool
     true
 }
 
-/// How many items both loops process before the next ones, so that these are still in the cache.
+/// How many items two loops process one after the other, while the items are in the cache.
 const BLOCK: usize = 512;
 
 /// Stores the addresses as `measure` does where all branches are short; returns whether all are close to their labels, as in most code.
