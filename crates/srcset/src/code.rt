@@ -3,7 +3,7 @@ ghost use Rattle.std.specs.Prelude.{◌≡◌};
 ghost use Rattle.srcset.specs.declared.code.Code.{Code};
 ghost use Rattle.srcset.specs.Codes.{number_of, text_of, code_with, group_code, message_of, file_code, macro_code, token_code, syntax_code, constraint_code, profile_code, limit_code, system_code, image_code};
 
-/// The kind of error, one variant per fault. A number's first digit gives the kind of the violated rule.
+/// The kind of error, one variant per fault. A number's first digit gives the kind of rule.
 #[derive(Clone, Copy, Debug, PartialEq, Eq)]
 pub enum Code {
     /// 101: file name given twice.
