@@ -70,7 +70,7 @@ cell_unset : run_of (whole (with_cells 1 (move t0 (cell 0) ∷ return ∷ []) �
 unfolding step
 cell_unset = refl
 
--- a call of `PutByte` loses the temporaries
+-- `PutByte` loses the temporaries
 temporary_lost : run_of (whole (plain (move t0 (constant 65) ∷ put_byte ∷ return ∷ []) ∷ [])) 3 ≡ stuck
 unfolding step
 temporary_lost = refl
