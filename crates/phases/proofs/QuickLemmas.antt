@@ -1,4 +1,4 @@
--- Laws of pieces that are seen from the bytes alone.
+-- Laws of pieces that the raw bytes alone determine.
 use Rattle.std.proofs.Common.{◌≡◌, ℕ, suc, slice_index, ◌+◌, eqb, leb, ltb, ◌&&◌, Bool, true, false, not, cond, List, [], ◌∷◌, ◌++◌, length, take, drop, refl, sym, ap, ◌∙◌, subst, arith, inl, inr}
 use Rattle.std.specs.Prelude.{codes}
 use Rattle.std.proofs.lemmas.Bool.{cases_Bool, and_parts, and_cases, and_left, and_right, or_parts, or_cases, eqb-true, ne_eqb, both_ways, not-true, leb-true, lt-ltb, lt-leb}
