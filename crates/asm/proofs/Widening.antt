@@ -78,7 +78,7 @@ grows homes base xs was now i changed t l r to s w lt len is short far =
         let counted = rw short at sums in
         omega (arith, counted)
 
--- an item that is no branch, a short branch that is near, and a long branch need nothing
+-- an item that is no branch, a short branch that is near, and a long branch need no change
 fits_other : (L : ℕ → Bool) (base : ℕ) (xs : List Item) (k : ℕ) (x : Item) → ((t : Test) (l r to : ℕ) → x ≡ Branch t l r to → ⊥) → FitsAt L base xs k x
 fits_other L base xs k (Branch t l r to) differs = absurd (differs t l r to refl)
 fits_other L base xs k (Mark l) differs = tt
