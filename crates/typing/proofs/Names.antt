@@ -1,4 +1,4 @@
--- The names of parameters are the same once more.
+-- The names of parameters are bound again in the same way.
 use Rattle.std.proofs.Common.{◌≡◌, ℕ, zero, suc, ◌+◌, ◌-◌, ◌<◌, ◌≤◌, List, [], ◌∷◌, ◌++◌, drop, get_or, length, map, Option, Some, None, refl, sym, ap, ◌∙◌, subst, arith, append_assoc, append-nil, length-append}
 use Rattle.std.specs.Prelude.{take}
 use Rattle.std.proofs.lemmas.List.{drop_all}
