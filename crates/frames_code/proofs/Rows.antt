@@ -161,8 +161,8 @@ reference_into_a_frame_that_waits :
 unfolding step
 reference_into_a_frame_that_waits = refl
 
--- A reference leads where it leads whichever call is active: here to the word in front of the arrays of a later call, whose frame
--- lies where that of an earlier one lay. There are no arrays.
+-- A reference has the same target whichever call is active: here the word in front of the arrays of a later call, whose frame
+-- is where that of an earlier one was. There are no arrays.
 reference_to_a_frame_that_is_gone :
     run_of (whole (
     plain (call 1 ∷ call 2 ∷ return ∷ []) ∷
