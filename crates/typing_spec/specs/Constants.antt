@@ -86,7 +86,7 @@ abbrev pub place_position : Place → Pos
 place_position (typed.named at what) = at
 place_position (typed.element at a i) = at
 
--- the one of the two verdicts that the truth value selects; the other operand is not evaluated
+-- the verdict that a truth value selects: only one of the two is evaluated
 abbrev pub by_truth : Bool → Verdict ℤ → Verdict ℤ → Verdict ℤ
 by_truth true a b = a
 by_truth false a b = b

@@ -199,7 +199,7 @@ length_from s at t init_hole = breaks code.BadInitialiserForm at
 length_from s at t (one_init e) = text_or_form s (has_characters t.element t.lengths) at e
 length_from s at t (braced_init p parts) = text_or_count s (has_characters t.element t.lengths) p (text_alone parts) (count_of parts)
 
--- the meaning of a name with the composite of its declared type and its type so far (6.7p4)
+-- the meaning with the composite of the declared type and the type so far
 abbrev pub retyped_meaning : Pos → DeclaredType → Meaning → Verdict Meaning
 retyped_meaning at t (an_object what u) = compatible at (object_with what (composite u t))
 retyped_meaning at t m = fine m
