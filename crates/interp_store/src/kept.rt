@@ -158,7 +158,7 @@ fn keep_operand<'p>(alloc: Global, frame: OperandFrame<'p>) -> Result<Kept<'p>, 
     }
 }
 
-/// The frame of a loop's test. A loop without a test never waits for it; such a frame has its own allocation.
+/// The frame of a loop's test. A loop without a test waits for none; its frame is stored apart.
 fn keep_test<'p>(alloc: Global, l: Loop<'p>) -> Result<Kept<'p>, Stop>
     ensures ok { IfOk result (λ kept. kept_of kept ≡ control_frame (controls.Tests l.entry)) }
     ensures err { IfErr result (λ e. e ≡ Memory) }
@@ -172,7 +172,7 @@ fn keep_test<'p>(alloc: Global, l: Loop<'p>) -> Result<Kept<'p>, Stop>
     }
 }
 
-/// The frame of a loop's step. A loop without a step never waits for it; such a frame has its own allocation.
+/// The frame of a loop's step. A loop without a step waits for none; its frame is stored apart.
 fn keep_step<'p>(alloc: Global, l: Loop<'p>) -> Result<Kept<'p>, Stop>
     ensures ok { IfOk result (λ kept. kept_of kept ≡ control_frame (controls.Loops l.entry)) }
     ensures err { IfErr result (λ e. e ≡ Memory) }
