@@ -45,7 +45,7 @@ StandsDeclarationSpecifiers scope d ts f = StandsOf (λ b. SpellsDeclarationSpec
 
 -- ---- sizes and parameters
 
--- each bracket continues the sizes: the front is none
+-- each bracket continues the sizes
 abbrev pub EndsBounds : List (Option Tree) → List Token → Type 0
 EndsBounds es rest = NotFront (kind.Punctuator sign.BracketOpen) rest
 
