@@ -135,7 +135,7 @@ impl Walker {
         before
     }
 
-    /// `!`: continues at the point where the operand does not hold; returns the one before.
+    /// `!`: continues where the operand does not hold; returns the point before.
     fn turned(&mut self, no: Point) -> Point {
         self.go_to(no)
     }
