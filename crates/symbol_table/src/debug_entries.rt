@@ -1,4 +1,4 @@
-//! What debuggers are told of functions and objects: the sections `.debug_abbrev` and `.debug_info` of DWARF, version 2.
+//! Debug information on functions and objects: the sections `.debug_abbrev` and `.debug_info` of DWARF, version 2.
 
 use crate::debug_bytes::{low_word, put_number, put_text, put_word};
 use crate::debug_lines::file_number;
@@ -31,7 +31,7 @@ pub(crate) const SUBRANGE: u8 = 10;
 pub(crate) const CONST_TYPE: u8 = 11;
 
 /// The shapes of the entries (DWARF 2, 7.5.3): for each its number, its tag, whether it has children, and its attributes with their
-/// forms. A unit has a name, the place of its line table, the addresses of its first byte and of that behind its last, and a language; a
+/// forms. A unit has a name, the place of its line table, the addresses of its first byte and of the one after its last, and a language; a
 /// function has a name, the number of a file, a line, the same two addresses, that it is external, that it has a prototype, and the
 /// type of its result; parameters and variables have a name, a type and a location.
 pub(crate) const ABBREVIATIONS: &[u8] = &[

@@ -1,11 +1,11 @@
-//! Lines for debuggers: the section of DWARF, version 2, that says in which line each statement stands.
+//! Lines for debuggers: the section of DWARF, version 2, that gives the line of each statement.
 
 use crate::debug_bytes::{low_word, put_number, put_signed, put_text, put_word};
 use crate::functions::{Function, Line, SymbolTable};
 use std::alloc::{AllocError, Global};
 
-/// What a header of a line table says behind its own length (6.2.4): one byte is the least step of addresses, rows begin
-/// statements, a special opcode changes the line by 0, and there are nine standard opcodes with so many operands each.
+/// The header of a line table after its own length (6.2.4): the least step of addresses is one byte, rows begin
+/// statements, a special opcode changes the line by 0, and there are nine standard opcodes with these numbers of operands.
 const LINE_HEADER: &[u8] = &[1, 1, 0, 1, 10, 0, 1, 1, 1, 1, 0, 0, 0, 1];
 
 /// The standard opcodes that are used (6.2.5.2).
@@ -36,7 +36,7 @@ pub(crate) fn file_number(line: Line) -> u32 {
     low_word(line.file).wrapping_add(1)
 }
 
-/// The rows of a function, from its first instruction on, and the end of the sequence behind its last.
+/// The rows of a function, from its first instruction on, and the end of the sequence after its last.
 fn put_rows(rows: &mut Vec<u8>, function: &Function) -> Result<(), AllocError> {
     rows.extend_from_slice(&[0, 5, 2])?;
     put_word(rows, function.start)?;
@@ -65,7 +65,7 @@ fn is_last_at(lines: &[Line], number: usize, line: Line) -> bool {
     }
 }
 
-/// One row behind another.
+/// One row after another.
 fn put_row(rows: &mut Vec<u8>, before: Line, line: Line) -> Result<(), AllocError> {
     rows.push(SET_FILE)?;
     put_number(rows, file_number(line))?;

@@ -24,7 +24,7 @@ const BASES: [IntType; 10] = [
 #[derive(Drop)]
 pub(crate) struct Types {
     pub(crate) entries: Vec<u8>,
-    /// How many bytes of the unit come before them.
+    /// The number of bytes of the unit before them.
     before: usize,
     /// Where the entries of the integer types are.
     bases: Vec<u32>,
@@ -63,7 +63,7 @@ fn base_number(element: IntType) -> usize {
 }
 
 impl Types {
-    /// The entries of the integer types, behind so many bytes of the unit.
+    /// The entries of the integer types, after `before` bytes of the unit.
     pub(crate) fn new(alloc: Global, before: usize) -> Result<Types, AllocError> {
         let mut types = Types {
             entries: Vec::new(alloc),
@@ -97,7 +97,7 @@ impl Types {
         self.bases.get(base_number(element)).copied().unwrap_or(0)
     }
 
-    /// Where the entry of a type is, which is put where it is no integer type.
+    /// The offset of a type's entry, which is added where it is no integer type.
     pub(crate) fn place_of(&mut self, shown: &VariableType) -> Result<u32, AllocError> {
         let mut place = self.base(shown.element);
         if shown.is_const {
@@ -112,7 +112,7 @@ impl Types {
         Ok(place)
     }
 
-    /// Puts an entry with these first bytes, whose last attribute is the type at a place.
+    /// Appends an entry with these first bytes, whose last attribute is the type at a place.
     fn put_over(&mut self, first: &[u8], place: u32) -> Result<u32, AllocError> {
         let here = self.place();
         self.entries.extend_from_slice(first)?;
@@ -120,7 +120,7 @@ impl Types {
         Ok(here)
     }
 
-    /// Puts an array of the type at a place.
+    /// Appends an array of the type at a place.
     fn put_array(&mut self, lengths: &[u32], place: u32) -> Result<u32, AllocError> {
         let here = self.put_over(&[ARRAY_TYPE], place)?;
         for length in lengths {

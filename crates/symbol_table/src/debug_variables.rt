@@ -11,7 +11,7 @@ use std::alloc::{AllocError, Global};
 /// A value that lives in register 0; those of the others follow (DWARF 2, 7.7.1).
 const IN_REGISTER: u8 = 0x50;
 
-/// A value that lives so many bytes above where the stack pointer, register 2, leads.
+/// A value that lives a number of bytes above the address in the stack pointer, register 2.
 const ABOVE_STACK_POINTER: u8 = 0x72;
 
 /// A value that lives at an address.

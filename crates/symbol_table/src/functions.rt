@@ -1,4 +1,4 @@
-//! The functions and the objects of a built file, as the compiler tells them.
+//! The functions and the objects of a built file, as the compiler reports them.
 
 use crate::files::Files;
 use crate::variables::{FunctionVariables, VariableType, function_variables, object_type};
@@ -9,7 +9,7 @@ use srcset::{Fault, FileSet, Names};
 use std::alloc::{AllocError, Global};
 use typed_ast::Program;
 
-/// The line of a source in which a statement stands, and the address at which its code begins.
+/// The source line of a statement, and the address at which its code begins.
 #[derive(Clone, Copy, Debug, PartialEq, Eq)]
 pub struct Line {
     /// The number of the file in `SymbolTable::files`.
@@ -57,7 +57,7 @@ pub struct DataLoad {
     pub address: u32,
 }
 
-/// What is told of a built file.
+/// The symbols of a built file.
 #[derive(Drop)]
 pub struct SymbolTable {
     /// In the order of their definitions, which is that of their addresses.
@@ -66,15 +66,15 @@ pub struct SymbolTable {
     pub objects: Vec<Object>,
     /// In the order of the instructions.
     pub loads: Vec<DataLoad>,
-    /// The names of the files in which statements stand, as `#line` and includes name them.
+    /// The names of the files that contain statements, as `#line` and includes name them.
     pub files: Vec<String>,
     /// The bytes of the code.
     pub text: Vec<u8>,
 }
 
-/// What the compiler tells of the file that it makes of the program in the file `main` of the set.
+/// The symbols of the file that the compiler makes of the program in the file `main` of the set.
 ///
-/// Refuses as `compile_with` does.
+/// Fails as `compile_with` does.
 pub fn symbol_table(
     alloc: Global,
     set: &FileSet,
@@ -198,7 +198,7 @@ fn index_at(functions: &[Function], address: u32) -> Option<usize> {
     None
 }
 
-/// Notes the callees of each function. A function is a new callee where its mark is another than the caller's number and one.
+/// Records the callees of each function. A function is a new callee where its mark is not the caller's number plus one.
 fn put_calls(
     alloc: Global,
     functions: &mut [Function],
@@ -229,7 +229,7 @@ fn put_call(
     Ok(())
 }
 
-/// Marks a function; answers whether it had another mark.
+/// Marks a function; returns whether it had another mark.
 fn is_new(marks: &mut [usize], number: usize, mark: usize) -> bool {
     match marks.get_mut(number) {
         Some(old) => {

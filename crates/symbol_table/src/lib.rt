@@ -1,4 +1,4 @@
-//! Where each function, statement and object of a built file lies, what functions take of the stack, and what they call.
+//! The place of each function, statement and object of a built file, the stack that functions take, and the functions that they call.
 #![tactic(auto)]
 
 mod debug_bytes;

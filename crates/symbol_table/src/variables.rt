@@ -7,7 +7,7 @@ use std::alloc::{AllocError, Global};
 use typed_ast::{ObjectType, ParameterType, Program};
 
 /// The type of a variable: elements of an integer type, in arrays of these lengths, from the outermost. A reference is the type of a
-/// parameter that is an array: a pointer to what has this type (6.7.6.3p7).
+/// parameter that is an array: a pointer to this type (6.7.6.3p7).
 #[derive(Drop)]
 pub struct VariableType {
     pub element: IntType,
@@ -24,16 +24,16 @@ pub struct Variable {
     pub home: ObjectHome,
 }
 
-/// The variables of a block, or of a `for` with what it declares, without those of blocks within it.
+/// The variables of a block, or of a `for` with its declarations, without those of blocks within it.
 #[derive(Drop)]
 pub struct Block {
-    /// The address of its first instruction, and that behind its last.
+    /// The address of its first instruction, and the one after its last.
     pub start: u32,
     pub end: u32,
     pub variables: Vec<Variable>,
 }
 
-/// What a debugger is told of a function beside its lines.
+/// The debug information on a function apart from its lines.
 #[derive(Drop)]
 pub struct FunctionVariables {
     /// The type of its result; none of a function without one.
@@ -59,7 +59,7 @@ pub(crate) fn object_type(
     })
 }
 
-/// Puts a variable, if its name and its place are known.
+/// Appends a variable, if its name and its place are known.
 fn put_variable(
     alloc: Global,
     name: &str,
@@ -107,7 +107,7 @@ fn parameters(
     Ok(variables)
 }
 
-/// Puts the object with this number.
+/// Appends the object with this number.
 fn put_object(
     alloc: Global,
     function: &typed_ast::Function,
@@ -164,7 +164,7 @@ fn variables_of(
     Ok(variables)
 }
 
-/// Puts the blocks behind the first one, the body, that have variables.
+/// Adds the blocks after the first one, the body, that have variables.
 fn put_blocks(
     alloc: Global,
     function: &typed_ast::Function,

@@ -43,7 +43,7 @@ as_long (k ∷ ks) [] store h = absurd h
 as_long (k ∷ ks) (l ∷ shapes) [] h = absurd h
 as_long (k ∷ ks) (l ∷ shapes) (t ∷ store) h = ap suc (as_long ks shapes store h.1)
 
--- what is left of the first of two parts
+-- the first of two parts, once the second is cut off
 front_are : (ks : List AbsValue) (shapes more : List (List ℕ)) (store : Store) → ObjectsAre ks (shapes ++ more) store → ObjectsAre (take (length shapes) ks) shapes (take (length shapes) store)
 front_are ks [] more store h = tt
 front_are [] (l ∷ shapes) more store h = absurd h
@@ -107,7 +107,7 @@ sound_at p listed (b ∷ more) (suc n) a e h = sound_at p listed more n a e h.1
 covers_more : (outer : List (List ℕ)) (ps : List ArrayArgument) (objects : List ObjectType) (a b : Known) (s : State) → KnownEntails a b → CoversState outer ps objects (Some a) s → CoversState outer ps objects (Some b) s
 covers_more outer ps objects a b s h c = record { based = c.based; referred = c.referred; objects_are = objects_entail a.objects b.objects (outer ++ map lengths_in objects) s.store h.objects c.objects_are; facts_are = h.facts.is s.store c.facts_are; bytes = c.bytes }
 
--- a summary that fits gives what the call gives
+-- a summary that fits gives the postcondition of the call
 pub summary_rule : (fr : Frame) (f : ℕ) (g : Function) (is : List Interval) (ps : List ArrayArgument) (known : Known) (ks : List AbsValue) (n : ℕ) (a : Summary) (after : Option Known) → slice_get fr.program.functions f ≡ Some g → Entered is g.objects ks → slice_get fr.summaries n ≡ Some a →
     a.function ≡ f → a.outer ≡ shapes_of fr → a.arrays ≡ ps → KnownEntails (with_own known ks) a.entry → Cuts (length (shapes_of fr)) a.left after → CallGives fr f is ps (Some known) a.value after
 summary_rule fr f g is ps known ks n a after eg en ea ef eo ep le left_is = record { runs = λ d passed s am c. runs d passed s am c }
@@ -138,7 +138,7 @@ summary_rule fr f g is ps known ks n a after eg en ea ef eo ep le left_is = reco
         leaving s c b (Stops (Undefined act place) s2) q = q
         leaving s c b (Stops TicksUsed s2) q = tt
 
--- where no run comes to the call
+-- where no run reaches the call
 pub no_call : (fr : Frame) (f : ℕ) (is : List Interval) (ps : List ArrayArgument) (value : AbsValue) (o : Option Known) → CallGives fr f is ps None value o
 no_call fr f is ps value o = record { runs = λ d passed s am c. absurd c }
 

@@ -1,4 +1,4 @@
--- What comparisons tell.
+-- Consequences of comparisons.
 use Rattle.std.proofs.Common.{◌≡◌, ◌⊎◌, inl, inr, ℕ, zero, suc, ℤ, pos, ◌+ℤ◌, ◌-ℤ◌, ◌≤ℤ◌, List, [], ◌∷◌, refl, ap, sym, subst, arith, ◌∙◌}
 use Rattle.std.proofs.lemmas.Int.{ints, by_lt_z}
 use Rattle.std.specs.Prelude.{◌<ℤ◌, int_lt, int_le, Bool, true, false, ◌&&◌, ◌||◌, Option, Some, None, slice_get, slice_set, Result, Ok, Err}
@@ -244,7 +244,7 @@ learns_swapped op b r x y i j i2 j2 o o3 t n f = record {
 pub tells_at : (op : BinOp) (b c sw : Bool) (r : Relation) → b ≡ c → Tells op c sw r → Tells op b sw r
 tells_at op b c sw r e h = let P : Bool → Type 0 = λ b. Tells op b sw r in subst P (sym e) h
 
--- an operation's value, and what is known by its truth
+-- an operation's value, and the abstract state by its truth
 computed_way : (at : Pos) (r : Result ℤ Undef) (s : State) (fr : Frame) (on off : Option Known) → HasValue r → ((x : ℤ) → r ≡ Ok x → truth x ≡ true → Reaches fr on s) → ((x : ℤ) → r ≡ Ok x → truth x ≡ false → Reaches fr off s) →
     Ends fr.listed (computed_at at r s) (λ v s2. Reaches fr (either_way (truth v) on off) s2)
 computed_way at (Err act) s fr on off h f g = absurd h

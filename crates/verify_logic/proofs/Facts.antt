@@ -1,4 +1,4 @@
--- What is known of single elements: kept, joined, forgotten and changed.
+-- Facts on single elements: kept, joined, forgotten and changed.
 use Rattle.std.proofs.Common.{◌≡◌, ℕ, zero, suc, ◌+◌, ◌<◌, ◌≤◌, ℤ, pos, List, [], ◌∷◌, ◌++◌, length, take, get_or, refl, ap, subst, sym, ◌∙◌, arith, add-one, Option, Some, None, true}
 use Rattle.std.proofs.lemmas.Int.{ints}
 use Rattle.std.proofs.lemmas.List.{take_all}
@@ -41,7 +41,7 @@ among_found facts n f x index e ex ei =
     let Q : ℕ → Type 0 = λ index. Among facts f.object index f.interval in
     subst P ex (subst Q ei (among_at facts n f e))
 
--- ---- what implies what
+-- ---- implications
 
 pub none_implied : (facts : List Fact) → FactsImply facts []
 none_implied facts = record { is = λ store h. tt }
@@ -72,7 +72,7 @@ slice_front [] more x t e = absurd (cc e)
 slice_front (u ∷ store) more zero t e = e
 slice_front (u ∷ store) more (suc x) t e = slice_front store more x t e
 
--- with more objects behind
+-- with more objects after them
 fact_front : (f : Fact) (store more : Store) → FactIs f store → FactIs f (store ++ more)
 fact_front f store more h = by (slice_get store f.object) refl h
   where
@@ -249,7 +249,7 @@ new_changes x index j i facts out el eh h = record {
 pub same_changes : (x : ℕ) (sub : Option Interval) (i : Interval) (facts out out2 : List Fact) → out2 ≡ out → Changes x sub i facts out → Changes x sub i facts out2
 same_changes x sub i facts out out2 e h = let P : List Fact → Type 0 = λ out. Changes x sub i facts out in subst P (sym e) h
 
--- ---- what is read
+-- ---- reads
 
 -- each element from number low to n is in the interval
 pub record FoundTo (facts : List Fact) (x low n : ℕ) (k : Interval) : Type 0 where

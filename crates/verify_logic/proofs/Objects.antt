@@ -1,4 +1,4 @@
--- What is known of one object, and of all: what implies what, what is read, and what a write leaves.
+-- Abstract values of one object, and of all: implications, reads, and the effect of a write.
 use Rattle.std.proofs.Common.{◌≡◌, ℕ, zero, suc, ◌+◌, ◌<◌, ◌≤◌, ℤ, List, [], ◌∷◌, ◌++◌, length, take, get_or, refl, ap, subst, sym, ◌∙◌, arith, add-one, Option, Some, None, true, false}
 use Rattle.std.proofs.lemmas.Int.{ints}
 use Rattle.std.proofs.lemmas.List.{take_all}
@@ -152,7 +152,7 @@ set_replaces a b x k d f = record {
 pub none_writes : (fr : Frame) (x : ℕ) (sub : Option Interval) (i : Interval) (o : Option Known) → Writes fr None x sub i o
 none_writes fr x sub i o = record { is = λ s r v h f q m. absurd h }
 
--- an element of an array is what it was, or has the new value
+-- an element of an array keeps its value, or has the new one
 pub array_writes : (fr : Frame) (a b : Known) (x : ℕ) (old k : AbsValue) (sub : Option Interval) (i : Interval) → slice_get a.objects x ≡ Some old → Entails old k → Entails (record { initialised = true; interval = i }) k → b.objects ≡ slice_set a.objects x k →
     Changes x sub i a.facts b.facts → Writes fr (Some a) x sub i (Some b)
 array_writes fr a b x old k sub i eo f g d ch = record { is = λ s r v h q u m. at s r v h q u m (slice_get s.store x) refl (object_at a.objects (shapes_of fr) s.store x old h.objects_are eo) }

@@ -26,7 +26,7 @@ use Rattle.verify_logic.specs.Places.{OneRow, Subscribes, Designates, Finds, Fin
 use Rattle.verify_logic.proofs.Runs.{then_ends, tick_ends, weaker, computed_ends, computed_then, second, first}
 use Rattle.verify_logic.proofs.Objects.{below, path_is}
 
--- what holds of a value and the objects
+-- a condition on a value and the objects
 abbrev pub Both : Interval → Frame → Option Known → ℤ → State → Type 0
 Both i fr o v s = In i v × Reaches fr o s
 
@@ -62,7 +62,7 @@ named_rule fr at what x depth rest e h = record {
       (λ n. (h.is (record s { clock = n }) (based fr o s c) (referred fr o s c), c, refl)));
 }
 
--- what an array parameter refers to (6.9.1p10)
+-- the target of an array parameter (6.9.1p10)
 array_found : (shapes : List (List ℕ)) (ps : List ArrayArgument) (rs : List Reference) (n : ℕ) (a : ArrayArgument) → ArraysAre shapes ps rs → slice_get ps n ≡ Some a → ArrayIs shapes a (or_first (slice_get rs n))
 array_found shapes [] rs n a h e = absurd (cc e)
 array_found shapes (p ∷ ps) [] n a h e = absurd h
@@ -300,7 +300,7 @@ binary_rule fr at op t a b o i o2 j o3 r ha hb g = record {
       computed_ends fr.listed at (operated op t v w) s3 r (λ s2. Reaches fr o3 s2) (g.gives v w m m3) c3)));
 }
 
--- ---- what is chosen
+-- ---- choices
 
 pub by_truth : {A : Type 0} (b : Bool) (fr : Frame) (on off : Option Known) (s : State) (x y : Run A) (post : A → State → Type 0) → Reaches fr (either_way b on off) s →
     (Reaches fr on s → Ends fr.listed x post) → (Reaches fr off s → Ends fr.listed y post) → Ends fr.listed (choose b x y) post

@@ -1,4 +1,4 @@
--- What a value that is zero, or is not, tells.
+-- Consequences of a value that is zero, or is not.
 use Rattle.std.proofs.Common.{◌≡◌, zero, suc, ℤ, pos, negsuc, arith, subst, sym, refl, ◌⊎◌, inl, inr}
 use Rattle.std.proofs.lemmas.Int.{ints}
 use Rattle.std.specs.Prelude.{Option, None, Bool, true, false, ◌<ℤ◌}

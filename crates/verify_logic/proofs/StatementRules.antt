@@ -89,7 +89,7 @@ branches_rule fr e a b o on off w w2 out he ha hb f g = record {
 
 -- ---- loops (6.8.5)
 
--- left behind its test or by a break, or by a return
+-- left after its test or by a break, or by a return
 abbrev pub loop_ways : (out : Option Known) → Ways → Ways
 loop_ways out w = record { normal = out; broken = None; continued = None; returned = w.returned; value = w.value }
 
@@ -162,7 +162,7 @@ do_rule fr e a o w w2 kept on off out h0 n0 k0 ht ha n k b x all f g b0 = record
     next d Broken s q = f.normal.is fr s (b0.is fr s q)
     next d (Returned v) s q = f.returned fr v s q.0 q.1
 
--- what is declared in the parentheses is executed as statements that are left normally alone
+-- the declarations in the parentheses are executed as statements that are left normally alone
 pub for_rule : (fr : Frame) (declared : Statements) (start test step : Option Value) (a : Statement) (o : Option Known) (before : Ways) (o2 kept on off : Option Known) (w : Ways) (behind out : Option Known) →
     ExecutesAll fr declared o before → Implies before.broken before.normal → Implies before.continued before.normal → Implies before.returned before.normal → EvaluatesOr fr start before.normal o2 → Implies o2 kept → TestsOr fr test kept on off → Executes fr a on w → Implies w.normal behind →
     Implies w.continued behind → EvaluatesOr fr step behind kept → Implies w.broken out → Implies off out → Executes fr (typed.for declared start test step a) o (loop_ways out w)
@@ -200,7 +200,7 @@ return_value_rule fr t e o i o2 k h g = record {
       value_then fr d e o i o2 (record s { clock = n }) _ (Leaves fr (only_returned k o2)) h c (λ v s2 m c2. (g.gives v m, c2)));
 }
 
--- ---- one statement behind others (6.8.2)
+-- ---- one statement after others (6.8.2)
 
 pub begins : (fr : Frame) (all : Statements) (o : Option Known) (so_far out : Ways) → so_far.normal ≡ o → Continues fr so_far all out → ExecutesAll fr all o out
 begins fr all o so_far out e h = let P : Option Known → Type 0 = λ o. ExecutesAll fr all o out in subst P e (record { runs = h.runs })
@@ -234,7 +234,7 @@ follows_rule fr w a w2 out h f g = record { runs = (executes_more fr a w.normal 
 
 -- ---- switch (6.8.4.2)
 
--- the labels from number n on are left, count of them in all; a default was met, or stands among those left
+-- the labels from number n on are left, count of them in all; a default was met, or is among those left
 label_ends : (fr : Frame) (o : Option Known) (v : ℤ) (labels : List (Option ℤ)) (n : ℕ) (found : Option ℕ) (all : List (Option ℤ)) (s : State) → n + length labels ≡ length all → MayJump all found ⊎ (found ≡ None) × (has_default all ≡ has_default labels) →
     Reaches fr o s → Ends fr.listed (label_for v labels n found s) (λ label s2. MayJump all label × Reaches fr o s2)
 label_ends fr o v [] n found all s e (inl m) c = (m, c)
@@ -298,7 +298,7 @@ enters_statement fr entry w a w2 more out e h k = record {
     never : (n : ℕ) → nat_lt n 0 ≡ false
     never n = grind (arith, nat_tests)
 
--- a label: what is known before the switch comes here too
+-- a label: the abstract state before the switch reaches it too
 pub enters_label : (fr : Frame) (entry : Option Known) (w : Ways) (a : Statement) (v : Option ℤ) (o : Option Known) (w2 : Ways) (more : Statements) (out : Ways) → labels_at a ≡ v ∷ [] → Implies entry o → Implies w.normal o →
     Follows fr (with_normal o w) a w2 → Enters fr entry w2 more out → Enters fr entry w (typed.and_statement a more) out
 enters_label fr entry w a v o w2 more out e fe fw h k = record {

@@ -19,7 +19,7 @@ use Rattle.verify_logic.proofs.Facts.{facts_front}
 
 -- ---- the run
 
--- nothing is said of where it goes on
+-- the trivial postcondition of a run that continues
 abbrev Anything : {A : Type 0} → A → State → Type 0
 Anything a s = Unit {0}
 

@@ -1,4 +1,4 @@
--- What is shown of calls of functions (ISO/IEC 9899:2011 6.5.2.2, 6.9.1).
+-- Judgements on calls of functions (ISO/IEC 9899:2011 6.5.2.2, 6.9.1).
 use Rattle.std.specs.Prelude.{◌≡◌, ℕ, ℤ, pos, List, [], ◌∷◌, ◌++◌, take, Option, Some, None, Bool, true, false, Contains, nat_eq}
 use Rattle.srcset.specs.declared.refusal.Pos.{Pos}
 use Rattle.typing_spec.specs.Types.{ObjectType}
@@ -25,11 +25,11 @@ Entered (i ∷ is) [] ks = ⊥
 Entered (i ∷ is) (t ∷ objects) [] = ⊥
 Entered (i ∷ is) (t ∷ objects) (k ∷ ks) = (t.lengths ≡ []) × Entails (record { initialised = true; interval = i }) k × Entered is objects ks
 
--- a call of function f from this frame, with numbers in these intervals and these arrays, ends with such a value and leaves the objects as said
+-- a call of function f from this frame, with numbers in these intervals and these arrays, ends with such a value and leaves the objects in `after`
 pub record CallGives (fr : Frame) (f : ℕ) (is : List Interval) (arrays : List ArrayArgument) (before : Option Known) (value : AbsValue) (after : Option Known) : Type 0 where
   pub runs : (d : ℕ) (passed : List Passed) (s : State) → Are fr is arrays passed → Reaches fr before s → Ends fr.listed (calling fr.program d f passed s) (λ v s2. ValueIs value v × Reaches fr after s2)
 
--- what is known as a call begins, of the objects before it and of its own
+-- the abstract state as a call begins, for the objects before it and for its own
 abbrev pub with_own : Known → List AbsValue → Known
 with_own known own = record { objects = known.objects ++ own; facts = known.facts }
 
@@ -37,7 +37,7 @@ with_own known own = record { objects = known.objects ++ own; facts = known.fact
 pub record HoldBelow (n : ℕ) (facts facts2 : List Fact) : Type 0 where
   pub is : (store : Store) → FactsAre facts store → FactsAre facts2 (take n store)
 
--- what is known of the first n objects
+-- the abstract state of the first n objects
 abbrev pub Cuts : ℕ → Option Known → Option Known → Type 0
 Cuts n None after = after ≡ None
 Cuts n (Some known) None = ⊥

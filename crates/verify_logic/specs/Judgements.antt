@@ -1,4 +1,4 @@
--- What is shown of expressions and operators.
+-- Judgements on expressions and operators.
 use Rattle.std.specs.Prelude.{◌≡◌, ℕ, ℤ, List, ◌∷◌, Option, Some, None, Bool, true, false, Contains, Result, Ok, Err}
 use Rattle.srcset.specs.declared.refusal.Pos.{Pos}
 use Rattle.ctypes.specs.declared.types.IntType.{IntType}
@@ -17,7 +17,7 @@ use Rattle.verify_logic.specs.declared.abstract_values.Interval.{Interval}
 use Rattle.verify_logic.specs.declared.abstract_values.AbsValue.{AbsValue}
 use Rattle.verify_logic.specs.States.{Known, Frame, In, ValueIs, Reaches, Ends, Refers, LeadsInto}
 
--- with calls at most d deep, an expression has a value in the interval and leaves the objects as said
+-- with calls at most d deep, an expression has a value in the interval and leaves the objects in `after`
 pub record Evaluates (fr : Frame) (e : Value) (before : Option Known) (i : Interval) (after : Option Known) : Type 0 where
   pub runs : (d : ℕ) (s : State) → Reaches fr before s → Ends fr.listed (evaluate fr.program (calling fr.program d) e s) (λ v s2. In i v × Reaches fr after s2)
 
@@ -25,7 +25,7 @@ abbrev pub either_way : {A : Type 0} → Bool → A → A → A
 either_way true a b = a
 either_way false a b = b
 
--- an expression leaves the objects as said, by whether its value is not zero
+-- an expression leaves the objects in `on` or `off`, by whether its value is not zero
 pub record Tests (fr : Frame) (e : Value) (before on off : Option Known) : Type 0 where
   pub runs : (d : ℕ) (s : State) → Reaches fr before s → Ends fr.listed (evaluate fr.program (calling fr.program d) e s) (λ v s2. Reaches fr (either_way (truth v) on off) s2)
 

@@ -1,4 +1,4 @@
--- What is shown of places and of the parts of expressions.
+-- Judgements on places and on the parts of expressions.
 use Rattle.std.specs.Prelude.{◌≡◌, ℕ, ℤ, pos, negsuc, List, [], ◌∷◌, length, Option, Some, None, true, false}
 use Rattle.ctypes.specs.declared.types.IntType.{IntType}
 use Rattle.ctypes.specs.Types.{truth}
@@ -13,15 +13,15 @@ use Rattle.verify_logic.specs.declared.abstract_values.ArrayArgument.{ArrayArgum
 use Rattle.verify_logic.specs.States.{Known, Frame, In, ArraysAre, Reaches, Ends, Refers, SubscriptIs, shapes_of, rest_of}
 use Rattle.verify_logic.specs.Judgements.{either_way}
 
--- a name designates object x, or a row of it behind so many subscripts
+-- a name designates object x, or a row of it after `depth` subscripts
 pub record Designates (fr : Frame) (what : Storage) (x depth : ℕ) : Type 0 where
   pub is : (s : State) → s.base ≡ length fr.outer → ArraysAre fr.outer fr.arrays s.arrays → Refers fr x (rest_of (shapes_of fr) x depth) (designated fr.program what s)
 
--- a place lies in object x: an array of these lengths, or an element, of whose subscript so much is known
+-- a place lies in object x: an array of these lengths, or an element, whose subscript is in `sub` if that is known
 pub record Finds (fr : Frame) (place : Place) (before : Option Known) (x : ℕ) (rest : List ℕ) (sub : Option Interval) (after : Option Known) : Type 0 where
   pub runs : (d : ℕ) (s : State) → Reaches fr before s → Ends fr.listed (find fr.program (calling fr.program d) place s) (λ r s2. (Refers fr x rest r × SubscriptIs sub r.path) × Reaches fr after s2)
 
--- so much is known of the subscript of an element of an array of n elements or rows in object x, where it lies in the interval
+-- `sub` is none, or it is the interval i of the subscript, in an array of one row
 abbrev pub OneRow : List ℕ → Type 0
 OneRow [] = ⊥
 OneRow (n ∷ []) = Unit {0}
@@ -61,11 +61,11 @@ step_interval typed.before old new = new
 pub record ConvertsOr (t : Option IntType) (i r : Interval) : Type 0 where
   pub gives : (v : ℤ) → In i v → In r (converted_or_none t v)
 
--- what `rv_getbyte` gives
+-- the interval of the result of `rv_getbyte`
 abbrev pub got : Interval
 got = record { low = negsuc 0; high = pos 255 }
 
--- what is known where a value in the interval is not zero, and where it is
+-- the abstract states where a value in the interval is not zero, and where it is
 pub record Splits (i : Interval) (o on off : Option Known) : Type 0 where
   pub is : (fr : Frame) (s : State) (v : ℤ) → In i v → Reaches fr o s → Reaches fr (either_way (truth v) on off) s
 

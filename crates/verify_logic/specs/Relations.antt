@@ -1,4 +1,4 @@
--- What comparisons tell of their operands (ISO/IEC 9899:2011 6.5.8, 6.5.9).
+-- Consequences of comparisons for their operands (ISO/IEC 9899:2011 6.5.8, 6.5.9).
 use Rattle.std.specs.Prelude.{◌≡◌, ℕ, ℤ, ◌<ℤ◌, ◌≤ℤ◌, Bool, true, false, Option, Some, slice_get, Result, Ok, Err}
 use Rattle.ctypes.specs.declared.types.IntType.{IntType}
 use Rattle.ctypes.specs.declared.operators.BinOp.{BinOp}
@@ -45,7 +45,7 @@ pub record CutsAbove (i : Interval) (top : ℤ) (r : Interval) : Type 0 where
 pub record CutsBelow (i : Interval) (bottom : ℤ) (r : Interval) : Type 0 where
   pub is : (v : ℤ) → In i v → bottom ≤ℤ v → In r v
 
--- what is not the only number of j
+-- r contains each value of i that differs from some value of j
 pub record Avoids (i j r : Interval) : Type 0 where
   pub is : (v w : ℤ) → In i v → In j w → (v ≡ w → ⊥) → In r v
 

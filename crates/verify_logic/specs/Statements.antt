@@ -1,4 +1,4 @@
--- What is shown of statements.
+-- Judgements on statements.
 use Rattle.std.specs.Prelude.{◌≡◌, ℕ, ℤ, List, [], ◌∷◌, length, Option, Some, None, Bool, true, false, ◌<◌}
 use Rattle.typing_spec.specs.Program.{Value, Initialiser, Statement, Statements}
 use Rattle.ctypes.specs.declared.types.IntType.{IntType}
@@ -12,7 +12,7 @@ use Rattle.verify_logic.specs.States.{Known, Frame, ValueIs, Reaches, Ends, Impl
 use Rattle.verify_logic.specs.Judgements.{either_way}
 use Rattle.ctypes.specs.Types.{truth}
 
--- what is known behind a statement, by how it is left (6.8.6), and of the value that a `return` gives
+-- the abstract states after a statement, by how it is left (6.8.6), and the abstract value of a `return`
 pub record Ways : Type 0 where
   pub normal : Option Known
   pub broken : Option Known
@@ -38,7 +38,7 @@ pub record WaysImply (w w2 : Ways) : Type 0 where
   pub continued : Implies w.continued w2.continued
   pub returned : (fr : Frame) (v : Option ℤ) (s : State) → ValueIs w.value v → Reaches fr w.returned s → ValueIs w2.value v × Reaches fr w2.returned s
 
--- these statements follow what was executed so far, and all is left as said
+-- these statements follow those executed so far, and all is left as `out` says
 pub record Continues (fr : Frame) (so_far : Ways) (all : Statements) (out : Ways) : Type 0 where
   pub runs : (d : ℕ) (s : State) → Reaches fr so_far.normal s → Ends fr.listed (execute_all fr.program (calling fr.program d) fr.objects all s) (Leaves fr out)
   pub jumps : WaysImply (record so_far { normal = None }) out
@@ -83,7 +83,7 @@ abbrev pub MayJump : List (Option ℤ) → Option ℕ → Type 0
 MayJump labels None = has_default labels ≡ false
 MayJump labels (Some k) = k < length labels
 
--- these statements of a switch are entered at a label with what is known before it, or follow what was executed so far
+-- these statements of a switch are entered at a label with the abstract state before it, or follow those executed so far
 pub record Enters (fr : Frame) (entry : Option Known) (so_far : Ways) (all : Statements) (out : Ways) : Type 0 where
   pub follows : Continues fr so_far all out
   pub jumped : (d : ℕ) (label : ℕ) (s : State) → label < length (labels_of all) → Reaches fr entry s → Ends fr.listed (execute_from fr.program (calling fr.program d) fr.objects (Some label) all s) (Leaves fr out)

@@ -1,4 +1,4 @@
--- What is known of a state of the abstract machine, and what it means.
+-- Abstract states, and the states of the abstract machine that they describe.
 use Rattle.std.specs.Prelude.{◌≡◌, ◌<◌, ℕ, ℤ, pos, ◌≤ℤ◌, List, [], ◌∷◌, ◌++◌, map, drop, length, Option, Some, None, false, Contains, nat_eq, slice_get}
 use Rattle.srcset.specs.declared.refusal.Pos.{Pos}
 use Rattle.ctypes.specs.declared.types.IntType.{IntType}
@@ -13,13 +13,13 @@ use Rattle.verify_logic.specs.declared.abstract_values.AbsValue.{AbsValue}
 use Rattle.verify_logic.specs.declared.abstract_values.ArrayArgument.{ArrayArgument}
 use Rattle.verify_logic.specs.declared.abstract_values.Fact.{Fact}
 
--- what is known of all objects, and of single elements of arrays
+-- an abstract state: the values of all objects, and facts on single elements of arrays
 pub record Known : Type 0 where
   pub objects : List AbsValue
   pub facts : List Fact
 
--- what was shown of a function's body: entered with these values of all objects, of which those before the call have these lengths,
--- and with these arrays, it ends with such a value and leaves the objects as said
+-- a summary of a function's body: entered with these values of all objects, of which those before the call have these lengths,
+-- and with these arrays, it ends with a value in `value` and leaves the objects as `left` says
 pub record Summary : Type 0 where
   pub function : ℕ
   pub outer : List (List ℕ)
@@ -28,9 +28,9 @@ pub record Summary : Type 0 where
   pub value : AbsValue
   pub left : Option Known
 
--- in which call of which program an expression is evaluated: the places at which undefined behaviour is admitted, what is known of
--- calls, the lengths of each object that lived before the call (none for a scalar), the objects of the call, and what its array
--- parameters refer to
+-- the call and the program in which an expression is evaluated: the places at which undefined behaviour is admitted, the summaries of
+-- calls, the lengths of each object that lived before the call (none for a scalar), the objects of the call, and the targets of its array
+-- parameters
 pub record Frame : Type 0 where
   pub program : Program
   pub listed : List Pos
@@ -111,7 +111,7 @@ Along lengths [] rest = lengths ≡ rest
 Along [] (i ∷ path) rest = ⊥
 Along (n ∷ lengths) (i ∷ path) rest = (i < n) × Along lengths path rest
 
--- the lengths of a row behind so many subscripts of object x
+-- the lengths of a row after `depth` subscripts of object x
 abbrev pub rest_of : List (List ℕ) → (x depth : ℕ) → List ℕ
 rest_of shapes x depth = drop depth (or_scalar (slice_get shapes x))
 
@@ -133,7 +133,7 @@ abbrev pub AreBytes : List ℕ → Type 0
 AreBytes [] = Unit {0}
 AreBytes (b ∷ more) = (b < 256) × AreBytes more
 
--- the objects are such values, those of the call behind the others, these arrays are passed, and the input left is of bytes
+-- the objects have such values, those of the call after the others, these arrays are passed, and the input left is of bytes
 pub record Covers (outer : List (List ℕ)) (passed : List ArrayArgument) (objects : List ObjectType) (known : Known) (base : ℕ) (arrays : List Reference) (store : Store) (input : List ℕ) : Type 0 where
   pub based : base ≡ length outer
   pub referred : ArraysAre outer passed arrays
@@ -141,12 +141,12 @@ pub record Covers (outer : List (List ℕ)) (passed : List ArrayArgument) (objec
   pub facts_are : FactsAre known.facts store
   pub bytes : AreBytes input
 
--- where nothing is said of the objects, no run comes here
+-- without an abstract state, no run reaches this point
 abbrev pub CoversState : (outer : List (List ℕ)) → (passed : List ArrayArgument) → (objects : List ObjectType) → Option Known → State → Type 0
 CoversState outer passed objects None s = ⊥
 CoversState outer passed objects (Some known) s = Covers outer passed objects known s.base s.arrays s.store s.input
 
--- a part of a run goes on as said, ends, or uses its ticks; undefined behaviour it meets only at one of the places
+-- a part of a run continues with the postcondition, ends, or uses its ticks; it meets undefined behaviour only at one of the places
 abbrev pub Ends : {A : Type 0} → List Pos → Run A → (A → State → Type 0) → Type 0
 Ends listed (Goes a s) post = post a s
 Ends listed (Stops (Ended n) s) post = Unit {0}
@@ -157,7 +157,7 @@ Ends listed (Stops TicksUsed s) post = Unit {0}
 abbrev pub body_and_value : Program → (f d : ℕ) → Function → State → Run (Option ℤ)
 body_and_value p f d g s = then_do (body_of p (calling p d) g s) (λ flow s2. Goes (value_left (nat_eq f p.main) flow) s2)
 
--- what the summary says is so, with calls at most d deep
+-- the summary holds, with calls at most d deep
 abbrev pub IsSound : Program → List Pos → Summary → Type 0
 IsSound p listed a = (g : Function) → slice_get p.functions a.function ≡ Some g → (d : ℕ) (s : State) → CoversState a.outer a.arrays g.objects (Some a.entry) s →
     Ends listed (body_and_value p a.function d g s) (λ v s2. ValueIs a.value v × CoversState a.outer a.arrays g.objects a.left s2)
@@ -166,7 +166,7 @@ abbrev pub AreSound : Program → List Pos → List Summary → Type 0
 AreSound p listed [] = Unit {0}
 AreSound p listed (a ∷ more) = IsSound p listed a × AreSound p listed more
 
--- the objects are such values, the call is that of the frame, and what the frame knows of calls is so
+-- the objects have such values, the call is that of the frame, and the frame's summaries of calls hold
 pub record Holds (fr : Frame) (known : Known) (base : ℕ) (arrays : List Reference) (store : Store) (input : List ℕ) : Type 0 where
   pub based : base ≡ length fr.outer
   pub referred : ArraysAre fr.outer fr.arrays arrays
@@ -175,16 +175,16 @@ pub record Holds (fr : Frame) (known : Known) (base : ℕ) (arrays : List Refere
   pub bytes : AreBytes input
   pub sound : AreSound fr.program fr.listed fr.summaries
 
--- where nothing is said of the objects, no run comes here
+-- without an abstract state, no run reaches this point
 abbrev pub ReachesAt : Frame → Option Known → (base : ℕ) → (arrays : List Reference) → Store → (input : List ℕ) → Type 0
 ReachesAt fr None base arrays store input = ⊥
 ReachesAt fr (Some known) base arrays store input = Holds fr known base arrays store input
 
--- a run that is in state s within the frame is where these values of objects are known
+-- the abstract state describes state s of a run within the frame
 abbrev pub Reaches : Frame → Option Known → State → Type 0
 Reaches fr o s = ReachesAt fr o s.base s.arrays s.store s.input
 
--- ---- what implies what
+-- ---- implications
 
 abbrev pub Below : Interval → Interval → Type 0
 Below i j = (j.low ≤ℤ i.low) × (i.high ≤ℤ j.high)
@@ -198,7 +198,7 @@ EachEntails [] (b ∷ bs) = ⊥
 EachEntails (a ∷ rest) [] = ⊥
 EachEntails (a ∷ rest) (b ∷ bs) = Entails a b × EachEntails rest bs
 
--- what the first facts say, the others say no more of
+-- the first facts imply the others
 pub record FactsImply (facts facts2 : List Fact) : Type 0 where
   pub is : (store : Store) → FactsAre facts store → FactsAre facts2 store
 
@@ -220,7 +220,7 @@ pub record Refers (fr : Frame) (x : ℕ) (rest : List ℕ) (r : Reference) : Typ
   pub object : r.object ≡ x
   pub path : Along (shape_of fr x) r.path rest
 
--- where something is known of it: there is one subscript, which lies in the interval
+-- where `sub` is known: there is one subscript, which lies in the interval
 abbrev pub SubscriptIs : Option Interval → (path : List ℕ) → Type 0
 SubscriptIs None path = Unit {0}
 SubscriptIs (Some i) [] = ⊥
@@ -241,7 +241,7 @@ ObjectIs k lengths (Some t) = TreeIs k lengths t
 pub record Contents (o : Option Known) (x : ℕ) (k : AbsValue) : Type 0 where
   pub is : (fr : Frame) (s : State) → Reaches fr o s → ObjectIs k (shape_of fr x) (slice_get s.store x)
 
--- an element of object x, of whose subscript so much is known, is such a value
+-- an element of object x, whose subscript is in `sub` if that is known, has such a value
 pub record Reads (o : Option Known) (x : ℕ) (sub : Option Interval) (k : AbsValue) : Type 0 where
   pub is : (fr : Frame) (s : State) (r : Reference) → Reaches fr o s → Refers fr x [] r → SubscriptIs sub r.path → ValueIs k (value_of (at_path (slice_get s.store r.object) r.path))
 
@@ -249,15 +249,15 @@ pub record Reads (o : Option Known) (x : ℕ) (sub : Option Interval) (k : AbsVa
 pub record ReadsAll (facts : List Fact) (x : ℕ) (j k : Interval) : Type 0 where
   pub is : (store : Store) (i : ℕ) → FactsAre facts store → In j (pos i) → HasValueIn k (value_of (at_path (slice_get store x) (i ∷ [])))
 
--- these facts say nothing of object x, and of others no more than those
+-- `facts2` holds after any write to object x if `facts` holds before it
 pub record Forgets (x : ℕ) (facts facts2 : List Fact) : Type 0 where
   pub is : (store : Store) (path : List ℕ) (new : Tree) → FactsAre facts store → FactsAre facts2 (put_in store x path new)
 
--- of one of them: what is known of an element whose object has changed so
+-- for one of them: if f holds before such a write, g holds after it
 pub record ChangesOne (x : ℕ) (j i : Interval) (f g : Fact) : Type 0 where
   pub is : (store : Store) (path : List ℕ) (v : ℤ) (u : Tree) → at_path (slice_get store x) path ≡ Some u → SubscriptIs (Some j) path → In i v → FactIs f store → FactIs g (put_in store x path (Element (Some v)))
 
--- these facts hold when a value in the interval has been written to an element of object x, of whose subscript so much is known
+-- these facts hold after a value in the interval has been written to an element of object x, whose subscript is in `sub` if that is known
 pub record Changes (x : ℕ) (sub : Option Interval) (i : Interval) (facts facts2 : List Fact) : Type 0 where
   pub is : (store : Store) (path : List ℕ) (v : ℤ) (u : Tree) → at_path (slice_get store x) path ≡ Some u → SubscriptIs sub path → In i v → FactsAre facts store → FactsAre facts2 (put_in store x path (Element (Some v)))
 
@@ -265,6 +265,6 @@ pub record Changes (x : ℕ) (sub : Option Interval) (i : Interval) (facts facts
 pub record Replaces (o : Option Known) (x : ℕ) (k : AbsValue) (o2 : Option Known) : Type 0 where
   pub is : (fr : Frame) (s : State) (new : Tree) → Reaches fr o s → TreeIs k (shape_of fr x) new → Reaches fr o2 (record s { store = put s.store (whole x) new })
 
--- a value in the interval is written to an element of object x, of whose subscript so much is known
+-- a value in the interval is written to an element of object x, whose subscript is in `sub` if that is known
 pub record Writes (fr : Frame) (o : Option Known) (x : ℕ) (sub : Option Interval) (i : Interval) (o2 : Option Known) : Type 0 where
   pub is : (s : State) (r : Reference) (v : ℤ) → Reaches fr o s → Refers fr x [] r → SubscriptIs sub r.path → In i v → Reaches fr o2 (stored r v s)
