@@ -147,12 +147,12 @@ fn flat_code_of(alloc: Global, program: &TacProgram) -> Result<FlatProgram, Allo
 
 /// The flat code of a program: objects that are no arrays, references and slots in words of the frame, arrays in its bytes.
 ///
-/// Refuses only with 801, where there is no memory.
+/// Fails only with 801, where memory runs out.
 pub fn flatten(alloc: Global, program: &TacProgram) -> Result<FlatProgram, Fault>
     requires sound { IsSoundProgram (three_address.program_of program.now) }
     ensures code { IfOk result (λ f. flat.program_of f ≡ flat_program (three_address.program_of program.now)) }
 
-    // It is such as the next step takes, and no larger than was said.
+    // The result satisfies the precondition of the next step, and is no larger than the bounds.
     ensures sound { IfOk result (λ f. flat_sound.IsSoundProgram (flat.program_of f)) }
     ensures each { IfOk result (λ f. (k : ℕ) (g : three_address.Function) (h : flat.Function) → slice_get (three_address.program_of program.now).functions k ≡ Some g
         → slice_get (flat.program_of f).functions k ≡ Some h → IsCodeOf g h) }

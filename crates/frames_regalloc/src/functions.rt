@@ -14,7 +14,7 @@ use crate::weights::word_weights;
 use frames_code::{FlatProgram, Function, Instruction};
 use std::alloc::{AllocError, Global};
 
-/// What a word must weigh to live in a register, since the caller's is put in the frame and taken back for it.
+/// The least weight of a word that lives in a register, since the caller's value is saved to the frame and restored for it.
 const ENOUGH: u64 = 3;
 
 /// The first of the heaviest words from this one on.

@@ -52,7 +52,7 @@ fn is_quick_or(e: &Option<Value>) -> bool
     }
 }
 
-/// Whether what controls a `for` calls nothing.
+/// Whether the expressions that control a `for` call nothing.
 fn is_quick_control(start: &Option<Value>, test: &Option<Value>, step: &Option<Value>) -> bool
     ensures { result ≡ quick_control (option_value start.now) (option_value test.now) (option_value step.now) }
 {
@@ -118,7 +118,7 @@ pub fn is_quick_statement(a: &Statement) -> bool
     }
 }
 
-/// Whether what takes the next tick is done here.
+/// Whether the part that takes the next tick is done here.
 pub fn is_quick_node(node: &Node<'_>) -> bool
     ensures { result ≡ quick_node (node_of node.now) }
 {

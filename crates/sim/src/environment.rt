@@ -1,4 +1,4 @@
-//! The environment call, for whoever steps a machine on his own.
+//! The environment call, for code that steps a machine itself.
 
 ghost use Rattle.std.specs.Prelude.{◌≡◌, ℕ, List, Option};
 ghost use Rattle.rv32.specs.Step.{machine_of, step_of};
@@ -11,8 +11,8 @@ use crate::tick::call;
 use io_ports::Port;
 use rv32::state::{State, StepResult};
 
-/// The environment call that the registers ask for: what a run does where the instruction at the pc is ECALL. `None` where the run goes on.
-/// The address is tested before the port is asked, and a port that refuses leaves the state as it was.
+/// The environment call that the registers request: the effect of a run where the instruction at the pc is ECALL. `None` where the run goes on.
+/// The address is tested before the port is called, and a port that refuses leaves the state as it was.
 pub fn environment_call<P: Port>(state: &mut State, port: &mut P) -> Option<Outcome>
     requires { (step_of (machine_of state.old)).result ≡ StepResult.Call }
     ensures meets { (o : Option (List ℕ)) (w : World) → At o w (machine_of state.old) (P.seen port.old) →

@@ -1,4 +1,4 @@
--- What a part of a program that is evaluated at once comes to: what is left of the run behind it.
+-- The result of a part of a program that is evaluated at once: the rest of the run after it.
 use Rattle.std.specs.Prelude.{◌≡◌, ◌≢◌, Bool, true, ℕ, ◌+◌, ◌-◌, ℤ, List, length, map, nat_lt, Option, Some, None, Result, Ok, Err, ⊤}
 use Rattle.typing_spec.specs.Program as typed
 use Rattle.typed_ast.specs.View.{program_of, object_type_of}
@@ -26,11 +26,11 @@ pub record Course : Type 0 where
   pub input : List ℕ
   pub history : List Entry
 
--- with so many ticks left
+-- with n ticks left
 abbrev pub state_at : Course → Scene → ℕ → State
 state_at c scene n = state_in scene (record { clock = n; input = c.input; history = c.history })
 
--- where so many ticks are spent, a part of the run and what follows it are what is left
+-- where `spent` ticks are spent, a part of the run and its continuation are the rest of the run
 pub record Leads {A : Type 0} (c : Course) (spent : ℕ) (scene : Scene) (part : State → Run A) (rest : A → State → Run Found) : Type 0 where
   pub is_left : (n : ℕ) → then_do (part (state_at c scene n)) rest ≡ c.whole (n + spent)
 
@@ -41,7 +41,7 @@ StopsBy c limit (why.Undefined act at) spent scene = (n : ℕ) → c.whole (n + 
 StopsBy c limit why.Memory spent scene = ⊤
 StopsBy c limit why.Elsewhere spent scene = ⊤
 
--- what follows gets the value, or the run stops
+-- the continuation gets the value, or the run stops
 abbrev pub Comes : {A B : Type 0} → (A → B) → Course → (B → State → Run Found) → ℕ → Option A → Clock → Scene → Type 0
 Comes view c rest limit (Some a) clock scene = (n : ℕ) → rest (view a) (state_at c scene n) ≡ c.whole (n + clock.spent)
 Comes view c rest limit None clock scene = StopsBy c limit clock.why clock.spent scene
@@ -51,7 +51,7 @@ abbrev pub Does : {A B : Type 0} → (A → B) → Scope → (typed.Program → 
 Does view scope part old before result new after = (c : Course) (rest : _ → State → Run Found) →
     Leads c old.spent before (part (program_of scope.program.now)) rest → Comes view c rest scope.limit result new after
 
--- with so many ticks allowed, in this program
+-- with at most `limit` ticks, in this program
 abbrev pub DoesIn : {A B : Type 0} → (A → B) → ℕ → typed.Program → (typed.Program → State → Run B) → Clock → Scene → Option A → Clock → Scene → Type 0
 DoesIn view limit p part old before result new after = (c : Course) (rest : _ → State → Run Found) →
     Leads c old.spent before (part p) rest → Comes view c rest limit result new after
@@ -63,7 +63,7 @@ Idles (why.Undefined act at) spent limit = ⊥
 Idles why.Memory spent limit = ⊤
 Idles why.Elsewhere spent limit = ⊥
 
--- what a leaf gives
+-- the value of a leaf
 abbrev pub Gives : {A : Type 0} → Result A Stop → Option A → Why → Type 0
 Gives (Ok a) r w = r ≡ Some a
 Gives (Err stop.Memory) r w = (r ≡ None) × (w ≡ why.Memory)
@@ -116,7 +116,7 @@ from_label (Some k) (typed.and_statement a more) =
 abbrev pub selected : ℤ → typed.Statements → State → Run typed.Statements
 selected v all s = then_do (label_for v (labels_of all) 0 None s) (λ label s. Goes (from_label label all) s)
 
--- what a switch does in its block
+-- the effect of a switch in its block
 abbrev pub jumped : List ObjectType → ℤ → typed.Statements → typed.Program → State → Run Flow
 jumped objects v all p s =
     then_do (label_for v (labels_of all) 0 None s) (λ label s. then_do (execute_from p (call_in p) objects label all s) after_switch)
@@ -128,7 +128,7 @@ abbrev pub Designates : Option ℕ → Reference → Type 0
 Designates None r = ⊤
 Designates (Some n) r = r ≡ whole n
 
--- a place is a whole object, behind the tick of its name
+-- a place is a whole object, after the tick of its name
 abbrev pub IsWhole : Option ℕ → Run Reference → State → Type 0
 IsWhole None run s = ⊤
 IsWhole (Some n) run s = run ≡ tick s (λ s. Goes (whole n) s)
