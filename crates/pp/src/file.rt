@@ -120,7 +120,7 @@ fn closes<'a>(
     }
 }
 
-// A directive, behind the end of a run.
+// A directive, after the end of a run.
 fn directive_done<'a>(
     alloc: Global,
     line: &[PpToken<'a>],

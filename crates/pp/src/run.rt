@@ -11,7 +11,7 @@ use srcset::Refusal;
 use std::alloc::Global;
 use std::mem;
 
-// Puts the tokens behind others, each at its presumed place.
+// Appends the tokens, each at its presumed place.
 fn gather<'a>(
     line: &[PpToken<'a>],
     presumed: Presumed,

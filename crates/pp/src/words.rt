@@ -58,7 +58,7 @@ fn word_role(name: &PpToken) -> Role
     Role::StandsAlone
 }
 
-// What a directive is, by the tokens behind its `#`.
+// The role of a directive, by the tokens after its `#`.
 fn hash_role(further: &[PpToken]) -> Role
     ensures { role_meant result ≡ hash_role further.now }
 {
