@@ -32,7 +32,7 @@ pub fn put_move(items: &mut Vec<Item>, home: &Home, source: &Source) -> Result<(
     }
 }
 
-/// Puts what an operation of two sources gives at home.
+/// Moves the result of an operation of two sources to its home.
 pub fn put_compute(
     items: &mut Vec<Item>,
     operation: Operation,

@@ -9,15 +9,14 @@ use asm::Item;
 use rv32::{Five, ImmediateOp, Instr, LoadKind, RegisterOp, ShiftOp, Short, StoreKind, Upper};
 use std::alloc::AllocError;
 
-/// Puts items behind those that are there.
+/// Appends items.
 pub fn put(items: &mut Vec<Item>, more: &[Item]) -> Result<(), AllocError>
     ensures { OnOk result (items.new.items ≡ items.old.items ++ more.now) }
 {
     items.extend_from_slice(more)
 }
 
-/// Puts an item behind those that are there, which costs less than a list of one. The match is there because it names
-/// `Instr`, of which the borrow checker is else not told.
+/// Appends an item, which costs less than a list of one. The match is there because it names `Instr`, which the borrow checker does not see otherwise.
 pub fn put_one(items: &mut Vec<Item>, item: Item) -> Result<(), AllocError>
     ensures { OnOk result (items.new.items ≡ items.old.items ++ item ∷ []) }
 {
