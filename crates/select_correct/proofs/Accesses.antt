@@ -62,7 +62,7 @@ sized width.Half = omega arith
 sized width.SignedHalf = omega arith
 sized width.Word = omega arith
 
--- ---- what is done and the input left stay
+-- ---- the trace and the remaining input stay the same
 
 frames_input : (s : State) (fs : List Frame) → s.input ≡ (with_frames s fs).input
 frames_input s [] = refl
