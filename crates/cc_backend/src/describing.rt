@@ -15,20 +15,20 @@ use std::alloc::{AllocError, Global};
 use tac::{CodeScope, CodeStart, code_scopes, code_starts};
 use typed_ast::{Function, Program, Static};
 
-/// The address at which the code of what stands at a place begins.
+/// The address at which the code of the item at a place begins.
 #[derive(Clone, Copy, Debug)]
 pub struct CodeRow {
     pub place: Pos,
     pub address: u32,
 }
 
-/// The code of a scope (ISO/IEC 9899:2011 6.2.1p4): a block, or a `for` with what it declares.
+/// The code of a scope (ISO/IEC 9899:2011 6.2.1p4): a block, or a `for` with its declarations.
 #[derive(Clone, Copy, Debug)]
 pub struct ScopeCode {
     /// The number of its first object, and how many it has; those of a scope within it are among them.
     pub first: usize,
     pub count: usize,
-    /// The address of its first instruction, and that behind its last.
+    /// The address of its first instruction, and that after its last.
     pub start: u32,
     pub end: u32,
 }
@@ -38,7 +38,7 @@ pub struct ScopeCode {
 pub struct FunctionCode {
     /// The number of its name.
     pub name: usize,
-    /// The address of its first instruction, and that behind its last.
+    /// The address of its first instruction, and that after its last.
     pub start: u32,
     pub end: u32,
     /// Its statements, in the order of their code.
@@ -113,7 +113,7 @@ fn first_labels(
     Ok(firsts)
 }
 
-/// Looks through the items for what marks a label, calls, or loads an address in the data.
+/// Looks through the items for those that mark a label, call, or load an address in the data.
 fn found_in(
     alloc: Global,
     items: &[Item],
