@@ -1,4 +1,4 @@
--- What a command leaves of its port, what it says, and its exit status.
+-- The effect of a command on its port, its message, and its exit status.
 use Rattle.std.specs.Prelude.{◌≡◌, ◌⊎◌, ℕ, List, [], Some, Ok, Err, IsOk}
 use Rattle.std.specs.Io.KnownBytes.{Appends}
 use Rattle.srcset.specs.Files.{Files}
@@ -62,7 +62,7 @@ Builds stack set name output refuses old new said status =
 
 -- ---- printing
 
--- what a writer took before a call and after it, where that is told, is unchanged
+-- the bytes that a writer took before a call and after it, where they are known, are the same
 abbrev pub IsUntouched : Said → Type 0
 IsUntouched out = out.after ≡ out.before
 
@@ -80,8 +80,7 @@ pub record PrintsSome (set : Files) (name : List ℕ) (out : Said) (fault : Faul
   pub has_list : HasList set name texts list
   pub refused : IsPrintRefused list out.before out.after fault
 
--- the set has no tokens, or there was no memory for them, which this fault tells, and nothing was written; or they were
--- not written whole
+-- the set has no tokens, or memory ran out, as this fault reports, and nothing was written; or they were not written whole
 abbrev pub FailsPrint : Files → List ℕ → Said → Fault → Type 0
 FailsPrint set name out fault =
     (IsUntouched out × (FailsPreprocessing set name fault ⊎ IsMemoryFault fault)) ⊎ PrintsSome set name out fault
@@ -133,8 +132,8 @@ exit_status outcome.Budget = 124
 exit_status (outcome.Trapped pc cause) = 125
 exit_status (outcome.Port fault) = 126
 
--- the run from an image came to what the definition's run of max instructions over the port comes to, or to the
--- port's fault before, and that is the exit status and what is said; the port's fault is what the port refused with
+-- the run from an image had the outcome of the definition's run of max instructions over the port, or the port's fault before it, and that gives the exit
+-- status and the message; the port's fault is the one that the port refused with
 pub record RanAs (image : Image) (max : ℕ) (refuses : PortFault → Type 0) (old new : PortView) (said : Said) (status : ℕ) : Type 0 where
   pub run : Outcome
   pub machine : Machine
@@ -165,8 +164,8 @@ interpreted_status interpreted.TicksUsed = 124
 interpreted_status (interpreted.Port fault) = 126
 interpreted_status interpreted.Memory = 1
 
--- what the program does on the port's input with so many ticks is what its definition says, or it was given up, and that is the
--- exit status and what is said; the port's fault is what the port refused with
+-- the behaviour of the program on the port's input with at most max ticks is that of its definition, or the run was abandoned, and that gives the exit status
+-- and the message; the port's fault is the one that the port refused with
 pub record InterpretedAs (texts : Texts) (program : Program) (max : ℕ) (refuses : PortFault → Type 0) (old new : PortView) (said : Said) (status : ℕ) : Type 0 where
   pub run : Interpreted
   pub greatest : ℕ
@@ -184,13 +183,13 @@ pub record InterpretsSet (stack : ℕ) (set : Files) (name : List ℕ) (max : �
   pub has_program : HasProgram stack set name texts unit program
   pub interpreted_as : InterpretedAs texts program max refuses old new said status
 
--- the set has a program, which was interpreted; or it has none, which the fault that is said tells
+-- the set has a program, which was interpreted; or it has none, as the printed fault reports
 abbrev pub Interprets : (stack : ℕ) → Files → List ℕ → ℕ → (PortFault → Type 0) → PortView → PortView → Said → ℕ → Type 0
 Interprets stack set name max refuses old new said status =
     InterpretsSet stack set name max refuses old new said status
     ⊎ ((status ≡ 1) × (new ≡ old) × ((fault : Fault) × IsRefused stack set name fault × Says said (fault_text fault)))
 
--- By the main file's name, for a stack of so many bytes. Only what is printed or listed goes to `out`, and that does not touch the port.
+-- By the main file's name, for a stack of `stack` bytes. Only printed tokens and listings go to `out`, and they do not touch the port.
 abbrev pub Performs : (stack : ℕ) → Cmd → Files → List ℕ → List ℕ → (PortFault → Type 0) → PortView → PortView → Said → Said → ℕ → Type 0
 Performs stack (command.Build output) set name file refuses old new out said status = IsUntouched out × Builds stack set name output.now refuses old new said status
 Performs stack command.Pp set name file refuses old new out said status = (new ≡ old) × Prints set name out said status

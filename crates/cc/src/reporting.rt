@@ -58,7 +58,7 @@ fn write_both<E: Write>(err: &mut E, first: &[u8], second: &[u8]) -> bool
     write_text(err, second)
 }
 
-/// Where a fault stands: `FILE:LINE: `, or `cc: ` where there is no file.
+/// The place of a fault: `FILE:LINE: `, or `cc: ` where there is no file.
 fn write_place<E: Write>(err: &mut E, file: &str, line: u32) -> bool
     ensures all { result ≡ true → Appends (E.contents err.old) (E.contents err.new) (place_text file.now line) }
     ensures some { TakesBeginning (E.contents err.old) (E.contents err.new) (place_text file.now line) }
