@@ -9,7 +9,7 @@ use Rattle.machine_kept.specs.declared.feed.Feed.{Feed}
 abbrev pub port_of : Feed → PortView
 port_of p = record { input = Some (drop p.next p.input.items); output = Some p.output.items; failures = p.failures }
 
--- it refuses a read where the input is used up and not closed, and nothing else but for want of memory
+-- it refuses a read where the input is used up and not closed, and nothing else except when out of memory
 abbrev pub Lacks : Feed → PortFault → Type 0
 Lacks p Memory = ⊤
 Lacks p Read = (vec_len p.input ≤ p.next) × (p.closed ≡ false)
