@@ -50,7 +50,7 @@ fn put_object(
     out.push_str("]}\n")
 }
 
-/// Puts the members that tell a place.
+/// Prints the members that describe a place.
 fn put_place(
     alloc: Global,
     told: &Told<'_>,

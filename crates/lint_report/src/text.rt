@@ -5,7 +5,7 @@ use crate::placing::Placed;
 use crate::shown::{Told, shown_bytes};
 use std::alloc::{AllocError, Global};
 
-/// Puts each warning: `FILE:LINE:COLUMN: warning: TEXT 'NAME' [KIND]`, the source line with a caret, the other declaration, and what to write.
+/// Prints each warning: `FILE:LINE:COLUMN: warning: TEXT 'NAME' [KIND]`, the source line with a caret, the other declaration, and the suggested text.
 pub(crate) fn put_text(
     alloc: Global,
     told: &Told<'_>,
@@ -95,7 +95,7 @@ fn put_blanks(before: &[u8], out: &mut String) -> Result<(), AllocError> {
     Ok(())
 }
 
-/// Puts a caret, and `~` to the end of a token with so many bytes.
+/// Prints a caret, and `~` to the end of a token with `length` bytes.
 fn put_caret(length: usize, out: &mut String) -> Result<(), AllocError> {
     out.push('^')?;
     for _ in 1..length {
