@@ -32,7 +32,7 @@ pub record InData (x : Spot) (o : Option Tree) (stored : List ℕ) : Type 0 wher
   pub past : x.offset + size_of_object x.type ≤ length stored
   pub elements : ElementsInPlace x tree (slice_get stored)
 
--- what stands in bytes between others
+-- the elements of bytes between others
 pub get_between : (before bytes after : List ℕ) (k x : ℕ) → slice_get bytes k ≡ Some x → slice_get (before ++ (bytes ++ after)) (length before + k) ≡ Some x
 get_between before bytes after k x e = get_right before (bytes ++ after) k ∙ get_left bytes after k x e
 

@@ -11,7 +11,7 @@ use Rattle.frames.specs.Layout as layout
 use Rattle.frames_correct.specs.Matched.{Spot, Piece, spot_of, spots_from, literal_piece, static_piece, own_piece, function_for, stack_bytes, spots}
 use Rattle.frames_correct.proofs.Lists.{same_some, get_right, IsBehind, get_in_both, some_below, from_map}
 
--- ---- pieces one behind the other
+-- ---- consecutive pieces
 
 abbrev pub all_bytes : List Piece → ℕ
 all_bytes [] = 0

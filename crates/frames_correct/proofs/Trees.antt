@@ -14,7 +14,7 @@ pub at_none : (path : List ℕ) → at_path None path ≡ None
 at_none [] = refl
 at_none (i ∷ path) = at_none path
 
--- what is left of the lengths behind a path
+-- the rest of the lengths after a path
 abbrev pub behind : (lengths path : List ℕ) → List ℕ
 behind lengths [] = lengths
 behind [] (i ∷ path) = []

@@ -1,4 +1,4 @@
--- What it is for flat code to stand where three-address code stands.
+-- The relation of a state of flat code to one of three-address code.
 use Rattle.std.specs.Prelude.{◌≡◌, ◌≤◌, ◌<◌, ℕ, ◌+◌, ◌*◌, ◌^◌, Bool, true, not, List, [], ◌∷◌, ◌++◌, map, length, slice_get, Option, Some, None, ℤ}
 use Rattle.ctypes.specs.declared.types.IntType.{IntType}
 use Rattle.ctypes.specs.declared.types.IntType.TheVariants as ty
@@ -31,7 +31,7 @@ pub record Spot : Type 0 where
   pub offset : ℕ
   pub type : ObjectType
 
--- what lies one behind the other in a list, and how many bytes each takes
+-- the objects that are consecutive in a list, and how many bytes each takes
 pub record Piece : Type 0 where
   pub in_bytes : Bool
   pub size : ℕ
@@ -63,14 +63,13 @@ abbrev pub stack_bytes : tac.Program → List ℕ → ℕ
 stack_bytes q [] = 0
 stack_bytes q (f ∷ fs) = frame_bytes (function_for q f) + stack_bytes q fs
 
--- of the objects that live where these functions' calls are open, the innermost first: the literals and the statics behind 16 bytes, then
--- those of the calls
+-- of the objects that live where these functions' calls are open, the innermost first: the literals and the statics after 16 bytes, then those of the calls
 abbrev pub spots : tac.Program → List ℕ → List Spot
 spots q [] = spots_from 0 16 (map literal_piece q.literals ++ map static_piece q.statics)
 spots q (f ∷ fs) =
     spots q fs ++ spots_from (stack_bytes q (f ∷ fs)) (area_home (function_for q f)) (map own_piece (tac.function_at q f).objects)
 
--- ---- what references lead to
+-- ---- the targets of references
 
 -- how many elements lie before the part that the subscripts name
 abbrev pub elements_before : (lengths path : List ℕ) → ℕ
