@@ -9,7 +9,7 @@ pub data Entry : Type 0 where
   Entered : (f : ℕ) → Entry
   Left : Entry
 
--- what was done to the outside, the newest first
+-- the input and output events, the newest first
 abbrev pub trace_of : List Entry → List Event
 trace_of [] = []
 trace_of (Did e ∷ earlier) = e ∷ trace_of earlier

@@ -80,7 +80,7 @@ pub data Flow : Type 0 where
   Continued : Flow
   Returned : (value : Option ℤ) → Flow
 
--- what stands next is executed where the statement before it was left normally (6.8p2)
+-- the next statement is executed where the one before it was left normally (6.8p2)
 abbrev pub next_after : Flow → State → (State → Run Flow) → Run Flow
 next_after Normal s go = go s
 next_after Broken s go = Goes Broken s

@@ -5,7 +5,7 @@
 
 ghost use Rattle.csem.specs.Laws.{HistoryGrows, EndedStays, OtherObjectStays, OtherPartStays, WrittenIsRead, OperationFits, SignFits, ReadFits, WriteFits, NewFits, StaticFits};
 
-/// With more ticks a run has done what it did with fewer, and perhaps more after it (5.1.2.3).
+/// With more ticks the history of a run is that of fewer ticks, perhaps with newer entries (5.1.2.3).
 pub fn history_grows()
     ensures { HistoryGrows }
 {}
@@ -25,7 +25,7 @@ pub fn other_part_stays()
     ensures { OtherPartStays }
 {}
 
-/// What was written where something stands is read there.
+/// A tree written where there is one is read there.
 pub fn written_is_read()
     ensures { WrittenIsRead }
 {}
@@ -45,7 +45,7 @@ pub fn read_fits()
     ensures { ReadFits }
 {}
 
-/// It keeps to the type where what is written lies in it.
+/// It keeps to the type where the written value is one of it.
 pub fn write_fits()
     ensures { WriteFits }
 {}
