@@ -125,15 +125,14 @@ pub enum Instruction {
         index: Operand,
         size: usize,
     },
-    /// A reference to the element that lies `count` elements behind the one that `from` leads to, or behind the first one there, in the
-    /// same object.
+    /// A reference to the element that is `count` elements after the one that `from` leads to, or after the first one there, in the same object.
     Element {
         element: IntType,
         target: Target,
         from: Operand,
         count: Operand,
     },
-    /// So many objects of the call, from number `first` on, become indeterminate (6.2.4p6).
+    /// `count` objects of the call, from number `first` on, become indeterminate (6.2.4p6).
     Forget {
         first: usize,
         count: usize,
@@ -174,7 +173,7 @@ pub struct Function {
     pub kept: usize,
 }
 
-/// A program: its functions, its string literals with the zero behind them, its objects with static storage, and the number of `main`.
+/// A program: its functions, its string literals with their terminating zero, its objects with static storage, and the number of `main`.
 #[derive(Drop)]
 pub struct TacProgram {
     pub functions: Vec<Function>,
