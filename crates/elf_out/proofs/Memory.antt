@@ -78,7 +78,7 @@ data_byte p k h =
 lt_true : (m n : ℕ) → m < n → ltb m n ≡ true
 lt_true m n h = grind (arith, nat_tests)
 
--- what the tests of a place say
+-- the meaning of the tests of a place
 within_low : (s n a : ℕ) → is_within s n a ≡ true → s ≤ a
 within_low s n a h = grind (arith, nat_tests)
 
