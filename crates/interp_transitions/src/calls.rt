@@ -90,7 +90,7 @@ fn push_objects(store: &mut Store, alloc: Global, types: &[ObjectType]) -> Resul
     Ok(())
 }
 
-/// The types behind the first `count`.
+/// The types after the first `count`.
 fn behind<'p>(types: &'p [ObjectType], count: usize) -> &'p [ObjectType]
     ensures { result.now ≡ drop count types.now }
 {

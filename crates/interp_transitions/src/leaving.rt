@@ -1,4 +1,4 @@
-//! What a frame does with what it waited for. What it did not wait for goes on to the next one.
+//! How a frame continues with the result that it waited for. A result that it did not wait for goes on to the next one.
 
 ghost use Rattle.std.specs.Prelude.{◌≡◌, Ok};
 ghost use Rattle.interp_store.specs.View.{reference_of};
@@ -114,7 +114,7 @@ fn leave_given<'p>(machine: &mut Machine<'p>, frame: Frame<'p>) -> Result<Step<'
     }
 }
 
-/// What a frame does with what is found.
+/// How a frame continues with the place found.
 ///
 /// Errors: why there is no next step.
 pub fn leave<'p>(
