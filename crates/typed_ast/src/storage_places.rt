@@ -1,4 +1,4 @@
-//! What names designate and what is called.
+//! The objects that names designate, and callees.
 
 /// What a name or a string literal designates (6.2.4), each kind numbered apart.
 #[derive(Clone, Copy, PartialEq, Eq, Debug)]
