@@ -104,8 +104,8 @@ fn not_constant(pos: Pos) -> Refusal
     }
 }
 
-/// The value of a typed expression as far as it is evaluated, operands from the left. Else 501 stands at what has no constant
-/// value, 503 at the first division by zero that is evaluated, or 502 at the first other operation without a value.
+/// The value of a typed expression as far as it is evaluated, operands from the left. Else it fails with 501 at an operand that has no constant value, 503 at
+/// the first division by zero that is evaluated, or 502 at the first other operation without a value.
 ///
 /// Its recursion is no deeper than the expression.
 pub fn folded(e: &Value) -> Result<i64, Refusal>
