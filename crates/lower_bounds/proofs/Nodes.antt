@@ -82,7 +82,7 @@ pub chosen_le : (sense : Bool) (a b l : ℕ) → a ≤ l → b ≤ l → choose 
 chosen_le true a b l x y = x
 chosen_le false a b l x y = y
 
--- the first temporary and slot that are free beside a place
+-- the first temporary and slot that are free in addition to a place
 abbrev pub temporary_beside : Place → Bool → ℕ → ℕ → ℕ
 temporary_beside place c t k = free_temporary_at (found place c t k) t
 
