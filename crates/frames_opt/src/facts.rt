@@ -1,4 +1,4 @@
-//! What the temporaries hold, as far as the code itself tells it.
+//! The contents of the temporaries, as far as the code itself determines them.
 
 ghost use Rattle.std.specs.Prelude.{◌≡◌, replicate};
 ghost use Rattle.frames_opt.specs.inside.Facts as facts_in;
@@ -12,9 +12,9 @@ pub enum Known {
     /// Anything, or nothing yet.
     Unknown,
     Word(u32),
-    /// A reference to so many bytes from the start of the statics.
+    /// A reference at this offset in bytes from the start of the statics.
     Statics(usize),
-    /// A reference to so many bytes from the start of the arrays of the frame.
+    /// A reference at this offset in bytes from the start of the arrays of the frame.
     Frame(usize),
 }
 
@@ -79,7 +79,7 @@ fn forget(facts: &mut Facts)
     *facts = nothing();
 }
 
-/// What is known behind an instruction.
+/// The facts known after an instruction.
 pub fn pass(facts: &mut Facts, instruction: Instruction)
     ensures { facts.new ≡ facts_in.behind facts.old instruction }
 {
