@@ -6,8 +6,8 @@ use explain_findings::{Finding, Fix, Note, Shown, Topic, Undefined};
 use srcset::message;
 use std::alloc::{AllocError, Global};
 
-/// Puts a fault as one object on a line of its own, with the members file, line, column, end, code, text, token and notes, and fix
-/// where a change mends it. The code is a string, of digits for a fault. Columns are counted in bytes from 1, `end` is that behind the token; both are null where they are not known.
+/// Prints a fault as one object on a line of its own, with the members file, line, column, end, code, text, token and notes, and fix where a change corrects
+/// it. The code is a string, of digits for a fault. Columns are counted in bytes from 1, `end` is that after the token; both are null where they are not known.
 pub fn put_json(alloc: Global, finding: &Finding, out: &mut String) -> Result<(), AllocError> {
     let fault = &finding.fault;
     let code = fault.code;
@@ -47,7 +47,7 @@ pub fn put_json_report(
     put_rest(alloc, report.text, report.shown, out)
 }
 
-/// Puts the members that tell a place.
+/// Prints the members that describe a place.
 fn put_place(
     alloc: Global,
     file: &str,
@@ -77,7 +77,7 @@ fn put_rest(alloc: Global, text: &str, shown: &Shown, out: &mut String) -> Resul
     out.push_str("}\n")
 }
 
-/// Puts the member fix: the lines and columns of what is replaced, and the text that stands there instead.
+/// Prints the member fix: the lines and columns of the replaced text, and its replacement.
 fn put_fix(alloc: Global, fix: &Fix, out: &mut String) -> Result<(), AllocError> {
     let (line, column) = (fix.start.line, fix.start.column);
     let (end_line, end) = (fix.end.line, fix.end.column);
@@ -88,7 +88,7 @@ fn put_fix(alloc: Global, fix: &Fix, out: &mut String) -> Result<(), AllocError>
     out.push_str("}")
 }
 
-/// The text of a fault's code, and what the fault adds to it.
+/// The text of a fault's code, and the text that the fault adds to it.
 pub(crate) fn said(alloc: Global, finding: &Finding) -> Result<String, AllocError> {
     let mut text = String::from_str(alloc, message(finding.fault.code))?;
     text.push_str(finding.fault.text.as_str())?;

@@ -7,8 +7,8 @@ use explain_findings::{Finding, Fix, Note, Shown, Undefined, act_help, act_title
 use srcset::message;
 use std::alloc::{AllocError, Global};
 
-/// Puts what stands before the results: the program with its version and its rules, one for each of these codes of faults and each of these
-/// numbers of undefined acts.
+/// Prints the part before the results: the program with its version and its rules, one for each of these codes of faults and each of these numbers of undefined
+/// behaviours.
 pub fn put_sarif_start(
     alloc: Global,
     version: &str,
@@ -22,7 +22,7 @@ pub fn put_sarif_start(
     put_sarif_results(out)
 }
 
-/// Puts what stands before the rules: the program with its version.
+/// Prints the part before the rules: the program with its version.
 pub fn put_sarif_tool(alloc: Global, version: &str, out: &mut String) -> Result<(), AllocError> {
     out.push_str(
         "{\"$schema\":\"https://json.schemastore.org/sarif-2.1.0.json\",\"version\":\"2.1.0\",\"runs\":[",
@@ -32,12 +32,12 @@ pub fn put_sarif_tool(alloc: Global, version: &str, out: &mut String) -> Result<
     out.push_str(",\"rules\":[")
 }
 
-/// Puts what stands between the rules and the results.
+/// Prints the part between the rules and the results.
 pub fn put_sarif_results(out: &mut String) -> Result<(), AllocError> {
     out.push_str("]}},\"columnKind\":\"unicodeCodePoints\",\"results\":[")
 }
 
-/// The version alone, without what follows a comma.
+/// The version alone, without the part from a comma on.
 fn plain_version(version: &str) -> &str {
     match version.split_once(',') {
         Some((plain, _)) => plain,
@@ -63,7 +63,7 @@ fn put_code_rules(alloc: Global, codes: &[u16], out: &mut String) -> Result<(), 
     Ok(())
 }
 
-/// Puts the rules of these undefined acts, where no other stands before them.
+/// Prints the rules of these undefined behaviours, where no other rule precedes them.
 pub fn put_sarif_act_rules(
     alloc: Global,
     acts: &[u32],
@@ -132,7 +132,7 @@ fn put_name(title: &str, out: &mut String) -> Result<(), AllocError> {
     Ok(())
 }
 
-/// Puts a fault as a result; a comma stands before each but the first.
+/// Prints a fault as a result; a comma precedes each but the first.
 pub fn put_sarif_result(
     alloc: Global,
     finding: &Finding,
@@ -165,7 +165,7 @@ pub fn put_sarif_undefined(
     put_sarif_report(alloc, Report::of_act(undefined, code.as_str()), true, out)
 }
 
-/// Puts a report as a result (3.27); a comma stands before each but the first.
+/// Prints a report as a result (3.27); a comma precedes each but the first.
 pub fn put_sarif_report(
     alloc: Global,
     report: Report<'_>,
@@ -193,7 +193,7 @@ pub fn put_sarif_report(
     out.push_str("}")
 }
 
-/// Puts what stands behind the results.
+/// Prints the part after the results.
 pub fn put_sarif_end(out: &mut String) -> Result<(), AllocError> {
     out.push_str("]}]}\n")
 }
@@ -274,7 +274,7 @@ fn put_line(alloc: Global, line: u32, column: usize, out: &mut String) -> Result
     Ok(())
 }
 
-/// Puts the notes that have a place, by its line: what stands before a note's column, in bytes, is not at hand.
+/// Prints the notes that have a place, by its line: the bytes before a note's column are not available.
 fn put_related(alloc: Global, notes: &[Note], out: &mut String) -> Result<(), AllocError> {
     let mut is_first = true;
     for note in notes {
