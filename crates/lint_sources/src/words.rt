@@ -33,7 +33,7 @@ pub(crate) fn is_type_word(spelling: &[u8]) -> bool {
         )
 }
 
-/// Whether it begins or ends a statement, assigns, or separates what stands in a list: the body is then no expression.
+/// Whether it begins or ends a statement, assigns, or separates the items of a list: the body is then no expression.
 pub(crate) fn is_of_statement(spelling: &[u8]) -> bool {
     matches!(
         spelling,
