@@ -75,7 +75,7 @@ fn put_words(view: &View, file: usize, data: &mut Data) -> Result<(), AllocError
     Ok(())
 }
 
-/// What the name at a place means. The mentions stand in the order of their places.
+/// The kind of the name at a place. The mentions are in the order of their places.
 fn kind_at(view: &View, place: Place) -> Option<SymbolKind> {
     let mentions = view.index.mentions.as_slice();
     let next = mentions.partition_point(|mention| {
