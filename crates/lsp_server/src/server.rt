@@ -11,9 +11,9 @@ pub(crate) enum Phase {
     /// Before `initialize`.
     Fresh,
     Running,
-    /// Behind `shutdown`.
+    /// After `shutdown`.
     ShutDown,
-    /// Behind `exit`, with this status of the process.
+    /// After `exit`, with this status of the process.
     Ended(u8),
 }
 
