@@ -1,4 +1,4 @@
--- What #line does to the state.
+-- The effect of #line on the state.
 use Rattle.std.proofs.Common.{◌≡◌, ◌<◌, ◌≤◌, inl, inr, ℕ, suc, ◌+◌, ◌*◌, ◌-◌, take, get_or, Result, List, [], ◌∷◌, length, drop, Bool, true, false, Some, None, refl, sym, ap, subst, ◌∙◌, arith}
 use Rattle.std.specs.Prelude.{nat_le, ◌&&◌, if◌then◌else◌, slice_get, slice_index_or}
 use Rattle.std.specs.List.{list_all}

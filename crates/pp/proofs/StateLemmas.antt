@@ -1,4 +1,4 @@
--- What ends of runs and directives do to the state.
+-- The effect of ends of runs and of directives on the state.
 use Rattle.std.proofs.Common.{◌≡◌, ◌≤◌, ◌<◌, ℕ, zero, suc, List, [], ◌∷◌, ◌++◌, length, Bool, true, false, Result, Ok, Err, OnOk, IfErr, get_or, drop, take, ◌-◌, arith, slice_index_or, refl, sym, ap, subst, ◌∙◌}
 use Rattle.std.specs.Prelude.{codes, if◌then◌else◌, map, ◌&&◌}
 use Rattle.std.specs.List.{flat_map}

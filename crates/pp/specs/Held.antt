@@ -1,4 +1,4 @@
--- What the state that a stream holds is to that of the definition.
+-- The relation of the state that a stream holds to that of the definition.
 use Rattle.std.specs.Prelude.{◌≡◌, ◌≤◌, ◌<◌, ℕ, suc, List, length}
 use Rattle.srcset.specs.NameTable.{Texts}
 use Rattle.phases.specs.Token.{Token}

@@ -1,4 +1,4 @@
--- What is left of the files that are open, the includers with the innermost first.
+-- The rest of the files that are open, the includers with the innermost first.
 use Rattle.std.specs.Prelude.{◌≡◌, ◌≤◌, ◌<◌, ◌-◌, ◌+◌, ◌++◌, ◌&&◌, not, ℕ, suc, List, [], ◌∷◌, length, drop, slice_get, Bool, true, false, Option, Some, None, Result, Ok, Err}
 use Rattle.srcset.specs.NameTable.{Texts}
 use Rattle.phases.specs.Token.{Token}
@@ -106,7 +106,7 @@ pub record AreOpen (names : Texts) (innermost : Reading) (is : List Includer) : 
   pub has_files : HaveFiles names innermost.file.run.tokens
   pub idle : innermost.file.run.begun ≡ false → innermost.file.run.tokens ≡ []
 
--- how many further files may be opened, one in the other
+-- how many further files may be opened, nested
 abbrev pub room_of : List Includer → ℕ
 room_of is = max_includes - length is
 

@@ -38,7 +38,7 @@ pub record Presumed : Type 0 where
   pub line : ℕ
   pub file : ℕ
 
--- What was done so far: the macros, the replacements left, the tokens of whole runs, and how places are presumed.
+-- The state so far: the macros, the replacements left, the tokens of whole runs, and how places are presumed.
 pub record State : Type 0 where
   pub macros : Macros
   pub left : ℕ

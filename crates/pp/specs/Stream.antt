@@ -88,7 +88,7 @@ IsFirst x names texts pp rest =
     ((more : List Token) × (rest.tokens ≡ x ∷ more) × IsRest names texts pp (record { tokens = more; fault = rest.fault }))
     ⊎ ((rest.tokens ≡ []) × (is_some rest.fault ≡ true) × IsRest names texts pp rest)
 
--- What comes of this rest: its first token, and the others are left; none, where it is the end alone; its fault, where no token is
+-- The result of this rest: its first token, and the others are left; none, where it is the end alone; its fault, where no token is
 -- left.
 abbrev pub IsNext : Result (Option Token) Refusal → Texts → Texts → Pp → Phase4 → Type 0
 IsNext (Ok (Some x)) names texts pp rest = IsFirst x names texts pp rest

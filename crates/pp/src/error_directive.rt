@@ -24,7 +24,7 @@ fn printable(byte: u8) -> u8
     }
 }
 
-// Puts the bytes, as far as they are printable.
+// Appends the bytes, as far as they are printable.
 fn put_printable(text: &mut Vec<u8>, bytes: &[u8]) -> Result<(), AllocError>
     ensures { OnOk result (text.new.items ≡ text.old.items ++ map printable bytes.now) }
 {

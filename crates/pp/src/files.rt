@@ -181,7 +181,7 @@ impl<'a> Files<'a> {
         })
     }
 
-    // How many further files may be opened, one in the other.
+    // How many further files may be opened, nested.
     fn room(&self) -> usize
         ensures { result ≡ room_of self.now.includers.items }
     {

@@ -222,8 +222,8 @@ fn included<'a>(
     string_named(alloc, set, room, &tokens, at, state, names)
 }
 
-/// The file that an `#include` names, before which the run has ended; `None` where the line is skipped. So many files may still
-/// be opened, one in the other.
+/// The file that an `#include` names, before which the run has ended; `None` where the line is skipped. `room` further files may still
+/// be opened, nested.
 pub fn include_done<'a>(
     alloc: Global,
     set: &'a FileSet,

@@ -89,7 +89,7 @@ impl<'a> Scanned<'a> {
         self.name == name
     }
 
-    /// The same lines once more, where they are those of this file.
+    /// The same lines, shared, where they are those of this file.
     pub fn shared_as(&self, source: &Source<'a>) -> Option<Scanned<'a>>
         ensures { IfSome result (λ lines. scanned source.now.name source.now.bytes.now ≡ Ok lines) }
     {

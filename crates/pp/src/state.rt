@@ -28,7 +28,7 @@ use std::alloc::Global;
 /// The greatest number of replacements of macros.
 pub const MAX_REPLACEMENTS: u32 = 1048576;
 
-/// What was done so far: the macros, the replacements left, how many tokens were given, and how places are presumed.
+/// The state so far: the macros, the replacements left, how many tokens were given, and how places are presumed.
 #[derive(Drop)]
 pub struct State<'a> {
     pub table: MacroTable<'a>,
@@ -62,7 +62,7 @@ impl<'a> State<'a> {
         }
     }
 
-    /// What comes of the tokens of a directive once macros are replaced.
+    /// The expansion of the tokens of a directive.
     pub fn expand_directive(
         &mut self,
         alloc: Global,

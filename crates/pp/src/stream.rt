@@ -39,7 +39,7 @@ pub struct Pp<'a> {
     set: &'a FileSet,
     files: Files<'a>,
     state: State<'a>,
-    // What is left of the run that is pulled, where one is.
+    // The rest of the run that is pulled, if there is one.
     run: Expander<'a>,
     stage: Stage,
 }
@@ -193,7 +193,7 @@ impl<'a> Pp<'a> {
         }
     }
 
-    // The next token of the run that is pulled, where one is. Behind its last one lines are read.
+    // The next token of the run that is pulled, if there is one. After its last one lines are read.
     #[inline(always)]
     fn pull(&mut self, alloc: Global, names: &Names) -> Option<PpToken<'a>>
         requires { IsStream names.now self.old }
@@ -232,7 +232,7 @@ impl<'a> Pp<'a> {
         }
     }
 
-    // What the stream ends with.
+    // The end of the stream.
     fn end(&self) -> Result<Option<PpToken<'a>>, Refusal>
         ensures { result ≡ end_of self.now.stage }
     {
