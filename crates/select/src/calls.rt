@@ -142,7 +142,7 @@ fn take_return(items: &mut Vec<Item>, function: &Function, calls: bool) -> Resul
     }
 }
 
-/// What a function begins with: its frame, the address to return to, and the caller's registers.
+/// The prologue of a function: its frame, the address to return to, and the caller's registers.
 pub fn put_entry(items: &mut Vec<Item>, function: &Function, calls: bool) -> Result<(), AllocError>
     requires small { flat.frame_bytes (function_of function.now) ≤ most_bytes }
     requires few { function.now.resident ≤ 12 }

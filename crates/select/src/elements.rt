@@ -42,7 +42,7 @@ fn store_kind(width: Width) -> StoreKind
     }
 }
 
-/// What comes before an access to an element.
+/// The items before an access to an element.
 fn put_reach(
     items: &mut Vec<Item>,
     function: &Function,
