@@ -20,7 +20,7 @@ abbrev pub start_of : Ground → ℕ → ℕ
 start_of G zero = G.data_at
 start_of G (suc l) = G.sp - suc l
 
--- a list lies there, open, with its bytes
+-- a list is there, open, with its bytes
 pub record Lives (G : Ground) (l : ℕ) (m : Memory) (b : ℕ → ℕ) : Type 0 where
   pub top : start_of G l + m.past ≤ 2 ^ 31
   pub aligned : start_of G l % 4 ≡ 0

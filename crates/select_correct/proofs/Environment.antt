@@ -98,7 +98,7 @@ module _ (G : Ground) (s : State) (r b : ℕ → ℕ) (ready : Ready G) (m : Mat
   abbrev end : ℕ
   end = address G s.frame.function (s.frame.at + 1)
 
-  -- the byte's word lies between the temporaries and the cells
+  -- the byte's word is between the temporaries and the cells
   abbrev byte_at : ℕ
   byte_at = m.sp + byte_home (fn G s r b ready m)
 

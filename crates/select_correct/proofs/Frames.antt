@@ -1,4 +1,4 @@
--- What stays matched when registers and bytes of the frame change.
+-- The parts of a match that are kept when registers and bytes of the frame change.
 use Rattle.std.proofs.Common.{◌≡◌, ◌≢◌, ◌⊎◌, inl, inr, ⊎_elim, ℕ, ◌+◌, ◌*◌, ◌-◌, ◌^◌, ◌<◌, ◌≤◌, Some, true, false, refl, sym, ap, ◌∙◌, subst, arith, eqb}
 use Rattle.std.specs.Prelude.{nat_lt}
 use Rattle.std.proofs.lemmas.Bool.{lt-ltb, ltb-true, le-ltb, ltb-false}
@@ -284,7 +284,7 @@ module _ (G : Ground) (ready : Ready G) (s : State) (r : ℕ → ℕ) (at : ℕ)
         let same : cell_home the c ≡ o = cc in
         subst (λ x. Matched G (set (target.Cell c) w (now_at a s.frame.cells s.temporaries arguments)) r2 at2 (with_word b (m.sp + x) (shown G w))) same (to_memory c fit t off))
 
-  -- where a target's word lies
+  -- the address of a target's word
   pub home_lies : (d : Target) (o : ℕ) → home_of the d ≡ home.Frame o → TargetFits the d → Lies m.sp o
   home_lies (target.Temporary k) o eh fit =
       bool_cases (nat_lt k 8)

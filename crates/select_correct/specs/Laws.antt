@@ -1,4 +1,4 @@
--- What simulation is: each form of instruction, and steps.
+-- The statement of simulation: each form of instruction, and steps.
 use Rattle.std.specs.Prelude.{◌≡◌, ◌<◌, ℕ, ◌^◌, List, slice_get, Some, length}
 use Rattle.rv32.specs.declared.instr.Test.{Test}
 use Rattle.frames_code.specs.declared.code.Operand.{Operand}

@@ -42,7 +42,7 @@ Progresses = (p : Program) (n : ℕ) (s t : State) → run p n s ≡ running t �
 
 -- ---- a function that is called from outside (RISC-V ELF psABI, "Integer Calling Convention")
 
--- What a call finds: arguments in a0 to a7, the further ones from the stack pointer up, and the stack pointer, the address to return to, s0 to
+-- The state at a call: arguments in a0 to a7, the further ones from the stack pointer up, and the stack pointer, the address to return to, s0 to
 -- s11 and the bytes from the stack pointer up as `Returned` has them.
 pub record Entered (G : Ground) (f : ℕ) (temporaries arguments : Values) (statics : Bytes) (r : ℕ → ℕ) (at : ℕ) (b : ℕ → ℕ) : Type 0 where
   pub at_is : at ≡ G.env f
