@@ -1,4 +1,4 @@
--- The memory of an image has a flat program's items and statics where the machine's laws want them.
+-- The memory of an image has a flat program's items and statics at the places that the machine's laws require.
 use Rattle.std.proofs.Common.{◌≡◌, ℕ, zero, suc, ◌+◌, ◌-◌, ◌%◌, ◌^◌, ◌<◌, ◌≤◌, List, [], ◌∷◌, length, Some, Bool, true, false, ◌||◌, refl, ap, ◌∙◌, arith, eqb}
 use Rattle.std.specs.Prelude.{◌==◌, if◌then◌else◌, slice_index, slice_get, nat_le, nat_lt, replicate}
 use Rattle.std.proofs.lemmas.Bool.Decides.{nat_tests}

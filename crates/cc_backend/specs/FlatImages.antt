@@ -1,4 +1,4 @@
--- What it is for an image to be that of a flat program, and how it then runs.
+-- The relation of an image to a flat program, and how it then runs.
 use Rattle.std.specs.Prelude.{◌≡◌, ◌≤◌, ◌<◌, ℕ, ◌+◌, ◌*◌, List, ◌∷◌, length, Some}
 use Rattle.memory_map.specs.MemoryMap.{text_start, IsStackSize}
 use Rattle.elf_out.specs.Layout.{Parts}

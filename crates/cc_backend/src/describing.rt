@@ -1,4 +1,4 @@
-//! Where the functions, the statements and the objects of a program lie in its file, for listings and debuggers.
+//! The addresses of the functions, the statements and the objects of a program in its file, for listings and debuggers.
 
 ghost use Rattle.typed_ast.specs.View.{program_of};
 ghost use Rattle.cc_backend.specs.Made.{IsReady};
@@ -68,12 +68,12 @@ pub enum Reference {
     Data(u32, u32),
 }
 
-/// Where the parts of a program lie.
+/// The addresses of the parts of a program.
 #[derive(Drop)]
 pub struct CodeMap {
     /// In the order of their definitions.
     pub functions: Vec<FunctionCode>,
-    /// String literals, and then the objects with static storage, in the order in which they lie.
+    /// String literals, and then the objects with static storage, in the order of their addresses.
     pub objects: Vec<DataObject>,
     /// In the order of their addresses.
     pub references: Vec<Reference>,
@@ -300,7 +300,7 @@ fn starts_of(alloc: Global, program: &Program) -> Result<Starts, AllocError>
     Starts::new(alloc, &program.literals, &program.statics)
 }
 
-/// Where the parts of the file lie that `generate` makes of a program that breaks no constraint.
+/// The addresses of the parts of the file that `generate` makes of a program that breaks no constraint.
 ///
 /// Fails only where there is no memory.
 pub fn code_map(alloc: Global, program: &Program, stack: StackSize) -> Result<CodeMap, AllocError>
