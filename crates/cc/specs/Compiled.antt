@@ -1,4 +1,4 @@
--- What the compiler promises of a file that it returns: the sources are a program, and the file runs as that program does.
+-- The promise of the compiler for a file that it returns: the sources are a program, and the file runs as that program does.
 use Rattle.std.specs.Prelude.{◌≡◌, ℕ, List, [], ◌∷◌, String, Some, None, length, map, slice_get}
 use Rattle.std.specs.String.{string_bytes}
 use Rattle.std.specs.Global.{Global}

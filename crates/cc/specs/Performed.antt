@@ -54,7 +54,7 @@ pub record BuildsSome (stack : ℕ) (set : Files) (name output : List ℕ) (refu
 abbrev pub FailsBuild : (stack : ℕ) → Files → List ℕ → List ℕ → (PortFault → Type 0) → PortView → PortView → Fault → Type 0
 FailsBuild stack set name output refuses old new fault = ((new ≡ old) × IsRefused stack set name fault) ⊎ BuildsSome stack set name output refuses old new fault
 
--- 0, and the whole file was put and nothing said; or 1 and a fault, which is said
+-- 0, and the whole file was put and nothing printed; or 1 and a fault, which is printed
 abbrev pub Builds : (stack : ℕ) → Files → List ℕ → List ℕ → (PortFault → Type 0) → PortView → PortView → Said → ℕ → Type 0
 Builds stack set name output refuses old new said status =
     ((status ≡ 0) × BuildsInto stack set name old new × (said.after ≡ said.before))
@@ -85,7 +85,7 @@ abbrev pub FailsPrint : Files → List ℕ → Said → Fault → Type 0
 FailsPrint set name out fault =
     (IsUntouched out × (FailsPreprocessing set name fault ⊎ IsMemoryFault fault)) ⊎ PrintsSome set name out fault
 
--- 0, and the whole text was written and nothing said; or 1 and a fault, which is said
+-- 0, and the whole text was written and nothing printed; or 1 and a fault, which is printed
 abbrev pub Prints : Files → List ℕ → Said → Said → ℕ → Type 0
 Prints set name out said status =
     ((status ≡ 0) × PrintsAll set name out × IsUntouched said)
@@ -117,7 +117,7 @@ pub record ListsSome (stack : ℕ) (set : Files) (name : List ℕ) (out : Said) 
 abbrev pub FailsList : (stack : ℕ) → Files → List ℕ → Said → Fault → Type 0
 FailsList stack set name out fault = (IsUntouched out × IsRefused stack set name fault) ⊎ ListsSome stack set name out fault
 
--- 0, and the whole listing was written and nothing said; or 1 and a fault, which is said
+-- 0, and the whole listing was written and nothing printed; or 1 and a fault, which is printed
 abbrev pub ListsCode : (stack : ℕ) → Files → List ℕ → Said → Said → ℕ → Type 0
 ListsCode stack set name out said status =
     ((status ≡ 0) × ListsAll stack set name out × IsUntouched said)
@@ -148,7 +148,7 @@ abbrev pub FailsLoad : List ℕ → List ℕ → Fault → Type 0
 FailsLoad file name fault =
     ((why : LoadFault) × (file_image file ≡ Err why) × IsFaultOrMemory fault (code_of why) name 0) ⊎ (IsOk (file_image file) × IsMemoryFault fault)
 
--- the file has an image, from which the run went; or 1 and a fault, which is said, and the port was not touched
+-- the file has an image, from which the run went; or 1 and a fault, which is printed, and the port was not touched
 abbrev pub Runs : List ℕ → List ℕ → ℕ → (PortFault → Type 0) → PortView → PortView → Said → ℕ → Type 0
 Runs file name max refuses old new said status =
     ((image : Image) × (file_image file ≡ Ok image) × RanAs image max refuses old new said status)

@@ -1,4 +1,4 @@
--- What the program says on standard error.
+-- The messages of the program on standard error.
 use Rattle.std.specs.Prelude.{◌≡◌, ◌⊎◌, ℕ, ◌-◌, ◌^◌, List, ◌++◌, ◌∷◌, Option, codes, decimal, true, false, []}
 use Rattle.std.specs.Fmt.{digits, padded_integral, format_spec}
 use Rattle.srcset.specs.declared.fault.Fault.{Fault}

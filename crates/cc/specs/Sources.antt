@@ -1,4 +1,4 @@
--- What a call that reads a source file leaves of its port, and why it fails.
+-- The effect of a call that reads a source file on its port, and why it fails.
 use Rattle.std.specs.Prelude.{◌≡◌, ◌⊎◌, ℕ, suc, ◌≤◌, List, [], Option, Some, None, length}
 use Rattle.std.specs.Io.KnownBytes.{Keeps, Consumes}
 use Rattle.srcset.specs.Files.{max_file_bytes}

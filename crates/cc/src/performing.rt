@@ -94,7 +94,7 @@ fn build<P: Port, E: Write>(
     }
 }
 
-/// Puts the executable file on the port.
+/// Writes the executable file to the port.
 fn build_into<P: Port>(
     alloc: Global,
     set: &FileSet,

@@ -1,4 +1,4 @@
--- What comes of a stream of preprocessing tokens that a lexer reads to its end.
+-- The outcome of a stream of preprocessing tokens that a lexer reads to its end.
 use Rattle.std.specs.Prelude.{◌≡◌, ◌⊎◌, true, List, [], ◌++◌, None, is_some}
 use Rattle.srcset.specs.declared.refusal.Refusal.{Refusal}
 use Rattle.srcset.specs.declared.refusal.Refusal.TheVariants.{Memory, At, Told}
