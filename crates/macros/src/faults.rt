@@ -1,4 +1,4 @@
-//! What is wrong with a definition (ISO/IEC 9899:2011 6.10.3, 6.10.3.2p1, 6.10.3.3p1).
+//! The faults of a definition (ISO/IEC 9899:2011 6.10.3, 6.10.3.2p1, 6.10.3.3p1).
 ghost use Rattle.std.specs.Prelude.{◌≡◌, ℕ, List, false, codes};
 ghost use Rattle.std.specs.List.{list_any};
 ghost use Rattle.std.specs.Str.{bytes_eq};

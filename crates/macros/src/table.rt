@@ -219,7 +219,7 @@ impl<'a> MacroTable<'a> {
         self.get(n).is_some()
     }
 
-    // What is wrong with a macro under this number.
+    // The fault of a macro under this number.
     fn fault_of(&self, n: usize, found: &Macro<'a>, names: &Names) -> Option<Code>
         ensures { result ≡ fault names.now self.now n found.now }
     {
@@ -247,7 +247,7 @@ impl<'a> MacroTable<'a> {
         None
     }
 
-    // Puts a macro under its number, where there is none.
+    // Enters a macro under its number, where there is none.
     fn put(&mut self, n: usize, found: Macro<'a>) -> Result<(), Refusal>
         ensures ok { OnOk result (Puts self.old n found.entry self.new) }
         ensures unchanged { OnErr result (self.new ≡ self.old) }

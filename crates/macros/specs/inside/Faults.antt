@@ -1,4 +1,4 @@
--- What is wrong with a definition, by the numbers of names.
+-- The faults of a definition, by the numbers of names.
 use Rattle.std.specs.Prelude.{ℕ, List, [], ◌∷◌, length, slice_get, nat_lt, nat_le, Bool, true, false, not, ◌&&◌, ◌||◌, Option, Some, None, is_some, codes}
 use Rattle.std.specs.List.{list_any}
 use Rattle.std.specs.Str.{bytes_eq}

@@ -1,4 +1,4 @@
--- What a new macro does to the table.
+-- The effect of a new macro on the table.
 use Rattle.std.specs.Prelude.{◌≡◌, ℕ, ◌+◌, cond, length, nat_eq, Option, Some, None}
 use Rattle.macros.specs.Table.{NumberedMacro, Table, numbered}
 
