@@ -53,7 +53,7 @@ pub(crate) struct BlockItemPart<'t> {
     pub rest: &'t [Token],
 }
 
-/// What a block consists of, its depth, and the rest of the list after the closing brace.
+/// The items of a block, its depth, and the rest of the list after the closing brace.
 #[derive(Drop)]
 pub(crate) struct BlockPart<'t> {
     pub items: Vec<BlockItem>,

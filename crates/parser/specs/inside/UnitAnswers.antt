@@ -67,7 +67,7 @@ pub record Counts (before : ℕ) (e : ExternalTree) (after : ℕ) : Type 0 where
   pub total : after ≡ before + external_nodes e
   pub few : after ≤ program_node_limit
 
--- it is not, and that is said at this place
+-- it is not, and that is reported at this place
 abbrev pub CountsTooMany : ℕ → ExternalTree → Pos → Fault → Type 0
 CountsTooMany before e at f = ((f ≡ fault.At FunctionNodeLimit at) × (IsSmall e → ⊥)) ⊎ ((f ≡ fault.At ProgramNodeLimit at)
     × (program_node_limit < before + external_nodes e))
