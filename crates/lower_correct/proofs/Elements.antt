@@ -1,4 +1,4 @@
--- Elements by their numbers, in the order in which they lie: where they are, and trees that have the same ones (ISO/IEC 9899:2011 6.5.2.1p3).
+-- Elements by their numbers, in memory order: where they are, and trees that have the same ones (ISO/IEC 9899:2011 6.5.2.1p3).
 use Rattle.std.proofs.Common.{◌≡◌, ℕ, zero, suc, ◌+◌, ◌-◌, ◌*◌, ◌<◌, ◌≤◌, List, [], ◌∷◌, ◌++◌, Some, Bool, true, false, refl, ap, ◌∙◌, subst, arith}
 use Rattle.std.specs.Prelude.{option_map, nat_lt, if◌then◌else◌}
 use Rattle.std.proofs.lemmas.Bool.Decides.{nat_tests}

@@ -1,4 +1,4 @@
--- What a call begins with: its parameters, and the objects of its body (ISO/IEC 9899:2011 6.9.1p9, p10).
+-- The start of a call: its parameters, and the objects of its body (ISO/IEC 9899:2011 6.9.1p9, p10).
 use Rattle.std.proofs.Common.{◌≡◌, ℕ, zero, suc, ◌+◌, ◌<◌, ◌≤◌, List, [], ◌∷◌, ◌++◌, length, take, map, Option, Some, None, Bool, true, ◌&&◌, ℤ, refl, sym, ap, ◌∙◌, subst, arith}
 use Rattle.std.specs.Prelude.{nat_eq, slice_get, if◌then◌else◌}
 use Rattle.std.specs.List.{list_all}

@@ -1,4 +1,4 @@
--- The code finds lvalues and arrays that lie in memory (ISO/IEC 9899:2011 6.3.2.1, 6.5.2.1), if it follows their indices.
+-- The code finds lvalues and arrays in memory (ISO/IEC 9899:2011 6.3.2.1, 6.5.2.1), if it follows their indices.
 use Rattle.std.proofs.Common.{◌≡◌, inl, inr, ℕ, zero, suc, ◌+◌, ◌*◌, ◌<◌, ◌≤◌, List, [], ◌∷◌, length, map, Option, Some, None, Bool, true, false, ◌||◌, ℤ, pos, negsuc, refl, sym, ap, ◌∙◌, subst, arith}
 use Rattle.std.specs.Prelude.{◌%◌, ◌^◌, nat_lt, slice_get, option_map}
 use Rattle.std.proofs.lemmas.Int.{ints}

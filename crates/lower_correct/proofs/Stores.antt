@@ -232,7 +232,7 @@ after_put w x new s e = record {
       (λ m. differ (sym h ∙ (ap w (let z : y ≡ x = omega (arith, m) in z) ∙ e)));
 }
 
--- a value that is read lies in the object's type
+-- a value that is read is one of the object's type
 value_fits : (t : ObjectType) (o : Option Tree) (v : ℤ) → ObjectFits t o → value_of o ≡ Some v → IsValueOf t.element v
 value_fits t None v h e = absurd h
 value_fits t (Some tree) v h e = value_in t.element t.lengths tree v h e

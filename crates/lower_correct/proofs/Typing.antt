@@ -1,4 +1,4 @@
--- What the constraints say of the parts of an expression.
+-- The facts that the constraints give of the parts of an expression.
 use Rattle.std.proofs.Common.{◌≡◌, ℕ, zero, suc, List, [], ◌∷◌, Option, Some, None, Bool, true, false, not, ◌&&◌, ◌||◌, refl, sym, ap, ◌∙◌, arith}
 use Rattle.std.specs.Prelude.{nat_eq, length, slice_get}
 use Rattle.std.proofs.lemmas.Bool.Decides.{nat_tests}

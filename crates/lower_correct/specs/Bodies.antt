@@ -1,4 +1,4 @@
--- What it is for instructions to be the code of a statement (ISO/IEC 9899:2011 6.8), of a function and of a program.
+-- The relation of instructions to the statement (ISO/IEC 9899:2011 6.8), the function or the program that they are the code of.
 --
 -- `out` and `again` are the positions where `break` and `continue` go. A function has one Return, which is long in machine code, at `back`.
 -- Each full expression has all temporaries and slots.

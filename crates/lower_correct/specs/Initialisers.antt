@@ -1,5 +1,5 @@
 -- The code of initialisers of arrays (ISO/IEC 9899:2011 6.7.9): each element is written in a tick of its own, so that elements that
--- become zero, and characters, are written by loops. Elements are counted in the order in which they lie, across all rows of the array.
+-- become zero, and characters, are written by loops. Elements are counted in memory order, across all rows of the array.
 --
 -- Nothing is evaluated meanwhile: temporary 0 counts, temporary 1 is the reference of the first element, 2 that of the literal.
 use Rattle.std.specs.Prelude.{◌≡◌, ℕ, zero, suc, ◌+◌, ◌*◌, ◌-◌, min, nat_lt, Bool, true, false, ◌||◌, List, length, slice_get}
