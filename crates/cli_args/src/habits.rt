@@ -432,7 +432,7 @@ fn put<'a>(word: &'a str, plain: &mut Vec<&'a str>) -> Result<(), Refused> {
     }
 }
 
-/// Puts the words as they are.
+/// Appends the words as they are.
 fn put_each<'a>(words: &'a [String], plain: &mut Vec<&'a str>) -> Result<(), Refused> {
     for word in words {
         put(word.as_str(), plain)?;
@@ -440,18 +440,18 @@ fn put_each<'a>(words: &'a [String], plain: &mut Vec<&'a str>) -> Result<(), Ref
     Ok(())
 }
 
-/// What a word is by those before it.
+/// The kind of a word, by those before it.
 #[derive(Clone, Copy, PartialEq, Eq)]
 enum Turn {
     /// Any word.
     Word,
     /// The value of the word before.
     Value,
-    /// Behind `--`, where all stay.
+    /// After `--`, where all stay.
     Rest,
 }
 
-/// Puts the words of a command that reads sources.
+/// Appends the words of a command that reads sources.
 fn put_words<'a>(words: &'a [String], plain: &mut Vec<&'a str>) -> Result<(), Refused> {
     let mut turn = Turn::Word;
     for word in words {

@@ -1,4 +1,4 @@
-//! What a parse found, as a request. All words are read here, once.
+//! The result of a parse, as a request. All words are read here, once.
 
 use crate::request::{
     Colours, Command, ImageForm, Program, Request, Role, Rule, ShownForm, Stage, Telling, Trace,

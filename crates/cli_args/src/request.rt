@@ -1,6 +1,6 @@
 //! The request of a command line.
 
-/// What a word names that belongs to the program.
+/// The part of the program that a word names.
 #[derive(Clone, Copy, Debug, PartialEq, Eq)]
 pub enum Role {
     /// A further file of the set.
@@ -106,7 +106,7 @@ pub enum ImageForm {
 pub struct Rule<'a> {
     /// The path of the file that has the rule; where there is none, that of the output with `d` as extension.
     pub file: Option<&'a str>,
-    /// What the rule is about; where that is not said, the output.
+    /// The target of the rule; where none is given, the output.
     pub target: Option<&'a str>,
     /// Whether each included file is a target of its own too, without a recipe, so that one that is removed stops no build.
     pub has_phony: bool,
