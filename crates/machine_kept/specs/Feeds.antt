@@ -1,4 +1,4 @@
--- What a port is seen as whose input is given while the run goes on.
+-- The view of a port whose input is given while the run goes on.
 use Rattle.std.specs.Prelude.{◌≡◌, ◌≤◌, [], Some, false, ⊤, drop, vec_len}
 use Rattle.io_ports.specs.Port.{PortView}
 use Rattle.io_ports.specs.declared.port.PortFault.{PortFault}

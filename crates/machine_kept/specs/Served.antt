@@ -1,4 +1,4 @@
--- What is answered to a request.
+-- The answer to a request.
 use Rattle.std.specs.Prelude.{◌≡◌, ℕ, ◌==◌, Option, Some, None, if◌then◌else◌}
 use Rattle.machine_kept.specs.Kept.{TakesFile, Loads, TakesInput, Closes, Runs, GivesOutput, SetsRegister, Writes, detail_now, register_shown, byte_shown}
 use Rattle.machine_kept.specs.declared.kept.Kept.{Kept}
