@@ -124,7 +124,7 @@ fn put_fill_all(
     Ok(())
 }
 
-/// What begins at an element, and has these lengths.
+/// An initialiser that begins at an element, and has these lengths.
 #[cycle(fills)]
 fn put_fills(
     scope: &Scope<'_>,

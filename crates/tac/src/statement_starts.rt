@@ -28,7 +28,7 @@ pub struct CodeScope {
     pub end: usize,
 }
 
-/// What is found of a function. A scope comes before those within it.
+/// The starts and scopes found in a function. A scope comes before those within it.
 #[derive(Drop)]
 struct Found {
     starts: Vec<CodeStart>,

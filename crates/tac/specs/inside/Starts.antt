@@ -1,4 +1,4 @@
--- What begins at an element of an array.
+-- Parts that begin at an element of an array.
 use Rattle.std.specs.Prelude.{ℕ, List}
 use Rattle.tac_code.specs.declared.code.Target.TheVariants as target
 use Rattle.tac_code.specs.declared.code.Place.{Place as Spot}

@@ -1,4 +1,4 @@
--- What it is to write the code of a statement.
+-- The relation of written instructions to the statement that they are the code of.
 use Rattle.std.specs.Prelude.{ℕ, List, Option}
 use Rattle.typing_spec.specs.Types.{ObjectType}
 use Rattle.typing_spec.specs.Program as typed
