@@ -119,7 +119,7 @@ fn has_comment(file: &File<'_>, is_laid: bool, line: u32) -> bool {
     }
 }
 
-/// Puts the faults of macros of each file that a person wrote.
+/// Prints the faults of macros of each file that a person wrote.
 fn put_macros(
     alloc: Global,
     files: &Files<'_>,
