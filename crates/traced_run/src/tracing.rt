@@ -34,7 +34,7 @@ pub enum TraceEnd {
     Unwritten,
 }
 
-/// What a step came to, and whether the trace goes on.
+/// The outcome of a step, and whether the trace goes on.
 #[derive(Clone, Copy)]
 struct Told {
     outcome: Outcome,
