@@ -1,4 +1,4 @@
--- Where objects lie: apart from each other, and at multiples of 4.
+-- The places of objects: apart from each other, and at multiples of 4.
 use Rattle.std.proofs.Common.{◌≡◌, ◌⊎◌, inl, inr, ⊎_elim, ℕ, zero, suc, ◌+◌, ◌%◌, ◌<◌, ◌≤◌, List, [], ◌∷◌, ◌++◌, length, map, Option, Some, Bool, true, false, refl, sym, ap, ◌∙◌, subst, arith}
 use Rattle.std.specs.Prelude.{slice_get, not}
 use Rattle.typing_spec.specs.Types.{ObjectType, size_of_object}

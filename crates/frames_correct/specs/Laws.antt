@@ -1,4 +1,4 @@
--- What flat code does in step with the three-address code that it was made of.
+-- Flat code in step with the three-address code that it was made of.
 use Rattle.std.specs.Prelude.{◌≡◌, ◌⊎◌, ◌≤◌, ◌<◌, ℕ, List, ◌+◌}
 use Rattle.tac_code.specs.Code.{Program}
 use Rattle.tac_code.specs.Costs.{cost_if}

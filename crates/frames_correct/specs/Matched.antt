@@ -22,9 +22,9 @@ use Rattle.frames.specs.Layout.{is_scalar, bytes_of_array, layout_of, starts_of}
 use Rattle.frames.specs.Translated.{width_of, flat_function}
 use Rattle.frames.specs.Laws.{cell}
 
--- ---- where objects lie
+-- ---- places of objects
 
--- an object: whether it lies in bytes; the list of these, how many of them lie before it; its type
+-- an object: whether it is in bytes; the list of these, how many of them precede it; its type
 pub record Spot : Type 0 where
   pub in_bytes : Bool
   pub list : ℕ
@@ -71,7 +71,7 @@ spots q (f ∷ fs) =
 
 -- ---- the targets of references
 
--- how many elements lie before the part that the subscripts name
+-- how many elements precede the part that the subscripts name
 abbrev pub elements_before : (lengths path : List ℕ) → ℕ
 elements_before [] path = 0
 elements_before (n ∷ lengths) [] = 0
@@ -161,7 +161,7 @@ abbrev pub ElementsInPlace : Spot → Tree → Bytes → Type 0
 ElementsInPlace x tree bytes = (path : List ℕ) (v : ℤ) → at_path (Some tree) path ≡ Some (Element (Some v))
     → element_in (width_of x.type.element) bytes (offset_at x path) ≡ Some (word_for v)
 
--- an object in the list that it lies in
+-- an object in the list that contains it
 pub record InPlace (x : Spot) (o : Option Tree) (m : Option Memory) : Type 0 where
   pub tree : Tree
   pub tree_is : o ≡ Some tree
@@ -177,7 +177,7 @@ AllInPlace xs store lists = (n : ℕ) (x : Spot) → slice_get xs n ≡ Some x �
 
 -- ---- states
 
--- What flat code finds of its arguments is no part: only the moves at a function's beginning read it.
+-- The arguments of flat code are no part of the match: only the moves at a function's beginning read it.
 pub record Matched (q : tac.Program) (f : flat.Program) (t : tac_run.State) (s : flat_run.State) : Type 0 where
   pub frames : FramesHold q (t.call ∷ t.waiting) (s.frame ∷ s.waiting) t.store
   pub temporaries : AllShow (spots q (open_calls t)) t.temporaries s.temporaries
