@@ -17,7 +17,7 @@ Excuses Memory d k = Unit {0}
 -- Below, `spells` says which trees of a category spell which fronts of a list, `ends` where one can end, before
 -- these tokens; `height` is its depth.
 
--- the tree x at the front of the list, and no other; it lies below d nodes and is k deep
+-- the tree x at the front of the list, and no other; it is nested in d nodes and is k deep
 pub record ReadsOf {A : Type 0} (spells : A → List Token → List Token → Type 0) (ends : A → List Token → Type 0) (height : A → ℕ) (d : ℕ) (ts : List Token)
     (x : A) (k : ℕ) (rest : List Token) : Type 0 where
   pub spelled : spells x ts rest
