@@ -43,7 +43,7 @@ pub record Steady {A : Type 0} (f f' : State → Run A) : Type 0 where
   pub grows' : (s : State) → Grows s.history (done (f' s))
   pub longer : (s : State) → Longer (f s) (f' (more s))
 
--- a change of the state that neither does anything nor looks at the clock
+-- a change of the state that neither adds to the history nor reads the clock
 record Plain (g : State → State) : Type 0 where
   same : (s : State) → (g s).history ≡ s.history
   moves : (s : State) → g (more s) ≡ more (g s)

@@ -1,4 +1,4 @@
--- What a run did: bytes got and put, calls entered and left. A history has the newest first.
+-- The history of a run: bytes got and put, calls entered and left. A history has the newest first.
 use Rattle.std.specs.Prelude.{ℕ, ◌+◌, List, [], ◌∷◌, max, Option, Some, None, slice_get}
 use Rattle.csem_events.specs.Events.{Event}
 use Rattle.typing_spec.specs.Program.{Function, Program}

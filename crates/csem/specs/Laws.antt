@@ -92,7 +92,7 @@ abbrev pub ValueFits : IntType → Option ℤ → Type 0
 ValueFits t None = Unit {0}
 ValueFits t (Some v) = IsValueOf t v
 
--- an object whose elements lie in a type gives values of it, and keeps to it when such a tree is put in it
+-- an object each of whose elements, if it has a value, has one of a type gives values of that type only, and keeps to it when such a tree is put in it
 abbrev pub ReadFits : Type 0
 ReadFits = (t : IntType) (store : Store) (r : Reference) → FitsWhere t (slice_get store r.object) → ValueFits t (value_at store r)
 
@@ -100,7 +100,7 @@ abbrev pub WriteFits : Type 0
 WriteFits = (t : IntType) (store : Store) (r : Reference) (new : Tree) → FitsWhere t (slice_get store r.object) → TreeFits t new →
     FitsWhere t (slice_get (put store r new) r.object)
 
--- a new object lies in every type, and a static object of a typed program in its own
+-- a new object fits every type, and a static object of a typed program its own
 abbrev pub NewFits : Type 0
 NewFits = (t : IntType) (object : ObjectType) → TreeFits t (indeterminate object)
 

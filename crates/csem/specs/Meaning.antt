@@ -1,4 +1,4 @@
--- What a program does (ISO/IEC 9899:2011 5.1.2.3, 6.5.2.2, 6.9.1), with a clock of n ticks.
+-- The behaviour of a program (ISO/IEC 9899:2011 5.1.2.3, 6.5.2.2, 6.9.1), with a clock of n ticks.
 use Rattle.std.specs.Prelude.{ℕ, zero, suc, List, [], ◌∷◌, ◌++◌, map, take, drop, reverse, length, Option, Some, None, Bool, true, false, ℤ, pos, nat_eq, slice_get}
 use Rattle.ctypes.specs.Types.{modulo}
 use Rattle.csem_events.specs.Events.{Event, written}
