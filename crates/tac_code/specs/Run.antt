@@ -227,7 +227,7 @@ abbrev mutual
   elements_of_row no_parts = 0
   elements_of_row (and_part t row) = elements_of t + elements_of_row row
 
--- ---- elements, counted in the order in which they lie (6.5.2.1p3)
+-- ---- elements, counted in memory order (6.5.2.1p3)
 
 -- the subscripts of element i
 abbrev mutual

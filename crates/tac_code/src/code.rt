@@ -3,7 +3,7 @@
 use ctypes::IntType;
 use typed_ast::{ObjectType, Static};
 
-/// What an instruction reads.
+/// An operand of an instruction.
 #[derive(Clone, Copy, Debug, PartialEq, Eq)]
 pub enum Operand {
     /// A temporary, which a call loses.
@@ -12,7 +12,7 @@ pub enum Operand {
     Kept(usize),
     /// An object of the present call that is no array.
     Object(usize),
-    /// What an array parameter refers to, these numbered apart.
+    /// The array that an array parameter refers to, these numbered apart.
     Parameter(usize),
     Constant(u32),
 }
@@ -33,7 +33,7 @@ pub enum Place {
     Static(usize),
     /// An array of the present call.
     Array(usize),
-    /// One of its elements, counted from 0 in the order in which they lie (6.5.2.1p3), and their type.
+    /// One of its elements, counted from 0 in memory order (6.5.2.1p3), and their type.
     Element {
         array: usize,
         number: usize,
@@ -154,7 +154,7 @@ pub enum Instruction {
     Return,
 }
 
-/// What a call passes for a parameter (6.9.1p10): a number, which becomes an object, or a reference to an array.
+/// The value that a call passes for a parameter (6.9.1p10): a number, which becomes an object, or a reference to an array.
 #[derive(Clone, Copy, Debug, PartialEq, Eq)]
 pub enum Parameter {
     Number,
