@@ -193,7 +193,7 @@ pub enum Test {
     GreaterEqualUnsigned,
 }
 
-/// What a load takes from memory (unprivileged ISA manual, 2.6): LB, LH, LW, LBU, LHU. A value of
+/// The kind of a load from memory (unprivileged ISA manual, 2.6): LB, LH, LW, LBU, LHU. A value of
 /// under 32 bits is sign-extended, or zero-extended where the name says `Unsigned`.
 #[derive(Clone, Copy, PartialEq, Eq, Debug)]
 pub enum LoadKind {

@@ -21,7 +21,7 @@ pub fn read_after_write()
     ensures other { ReadsOther }
 {}
 
-/// What was stored is loaded at the same address.
+/// A stored value is loaded at the same address.
 pub fn load_after_store()
     ensures byte { LoadsStoredByte }
     ensures half { LoadsStoredHalf }
