@@ -162,7 +162,7 @@ fn arrays_of(alloc: Global, passed: &[Passed]) -> Result<Vec<Reference>, Stop>
     Ok(arrays)
 }
 
-/// What a caller had: the number of its objects' first one, how many objects lived, and its arrays.
+/// The state of a caller: the number of its objects' first one, how many objects lived, and its arrays.
 #[derive(Drop)]
 pub struct Caller {
     pub count: usize,
