@@ -31,7 +31,7 @@ pub enum Statement {
     Default(Pos),
     While(Pos, Value, Box<Statement>),
     DoWhile(Pos, Box<Statement>, Value),
-    /// What is declared, the expressions in the parentheses and the body (6.8.5.3).
+    /// The declarations, the expressions in the parentheses and the body (6.8.5.3).
     For(Pos, Vec<Statement>, Box<ForControl>, Box<Statement>),
     Break(Pos),
     Continue(Pos),
