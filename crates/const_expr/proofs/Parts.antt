@@ -1,4 +1,4 @@
--- What the parts of an expression say of it, with the string literals counted.
+-- The result for an expression by those for its parts, with the string literals counted.
 use Rattle.std.proofs.Common.{◌≡◌, ℕ, ◌+◌, List, ◌++◌, length, sym, ap, ◌∙◌, subst, arith, Option, length-append}
 use Rattle.std.specs.Prelude.{replicate}
 use Rattle.std.proofs.lemmas.List.{length-replicate}

@@ -16,7 +16,7 @@ use srcset::{Code, Pos, Refusal};
 use tree::PrefixOp;
 use typed_ast::{Place, Value};
 
-/// What a sign makes of a value (6.5.3.3).
+/// The result of a sign on a value (6.5.3.3).
 fn sign_of(op: PrefixOp, ty: IntType, value: i64) -> Result<i64, Undef>
     ensures { result ≡ operators.sign_of op ty value }
 {
