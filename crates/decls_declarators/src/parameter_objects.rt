@@ -26,7 +26,7 @@ use typed_ast::{DeclaredType, ObjectType, ParameterType, Storage};
 use typing_expressions::broken;
 use typing_scopes::{Linkage, Meaning, Scope, State};
 
-/// What a parameter is in its function.
+/// The object of a parameter in its function.
 #[derive(Drop)]
 pub(crate) enum ParameterObject {
     /// A number, which may be `const`.
@@ -126,7 +126,7 @@ fn fresh_if_named(scope: &Scope, pos: Pos, name: Option<usize>) -> Result<(), Re
     }
 }
 
-/// What a parameter whose name is fresh is in its function.
+/// The object of a parameter whose name is fresh, in its function.
 pub(crate) fn fresh_parameter(
     alloc: Global,
     names: &Names,
