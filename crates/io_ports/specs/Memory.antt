@@ -1,4 +1,4 @@
--- What a contract sees of a port over memory.
+-- The view that a contract has of a port over memory.
 use Rattle.std.specs.Prelude.{ℕ, List, Some}
 use Rattle.io_ports.specs.Port.{PortView}
 

@@ -1,4 +1,4 @@
--- What a call of a port does to the input left, the output so far and the count of failures.
+-- The effect of a call of a port on the input left, the output so far and the count of failures.
 use Rattle.std.specs.Prelude.{◌≡◌, ℕ, ◌+◌, ◌-◌, ◌^◌, List, [], ◌∷◌, Option, Some, None, min}
 use Rattle.std.specs.Io.KnownBytes.{Keeps, Appends, Consumes, IsAtEnd}
 use Rattle.srcset.specs.declared.code.Code.{Code}

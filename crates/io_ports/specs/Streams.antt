@@ -1,4 +1,4 @@
--- What a contract sees of a port over a reader and a writer.
+-- The view that a contract has of a port over a reader and a writer.
 use Rattle.std.specs.Prelude.{ℕ, List, Option, Bool}
 use Rattle.io_ports.specs.Port.{PortView}
 

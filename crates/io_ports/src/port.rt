@@ -50,7 +50,7 @@ pub trait Port {
     // The input left and the output so far, where they are known, and the count of failures.
     ghost seen: { Self → PortView };
 
-    // What the fault of a refused call is known to be, by the port that the call left. By default nothing.
+    // The facts known of the fault of a refused call, by the port that the call left. By default none.
     ghost refused_with: { Self → PortFault → Type 0 } = { λ _ _. Unit {0} };
 
     /// The first byte of the input left, or `None` at its end.
