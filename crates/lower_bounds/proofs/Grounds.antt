@@ -1,4 +1,4 @@
--- What the instructions of a program's code may name.
+-- The things that the instructions of a program's code may name.
 use Rattle.std.proofs.Common.{◌≡◌, ℕ, ◌+◌, ◌<◌, ◌≤◌, ◌^◌, List, length, map, true, Some, None}
 use Rattle.std.specs.Prelude.{slice_get}
 use Rattle.srcset.specs.declared.refusal.Pos.{Pos}

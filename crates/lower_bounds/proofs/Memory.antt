@@ -150,7 +150,7 @@ module _ (z : Ground) where
   pub placed : {u d pc : ℕ} (m : Mode) (p pc2 : ℕ) → p ≤ pc2 → Within z (p ≤ z.limit) u d pc p → Within z (Aims z m pc2) u d pc p
   placed m p pc2 h s = aimed z (λ a. on p pc2 z.limit h a.0) s
 
-  -- a place that is an object of the call, or lies in memory
+  -- a place that is an object of the call, or is in memory
   pub on_object : {G : Type 0} (o : Option ℕ) (F : ℕ → Type 0) (M : Type 0) → RestsFine z o → OnObject o F M → ((x : ℕ) → IsNumber z x → F x → G)
       → (o ≡ None → M → G) → G
   on_object None F M r i g h = h refl i

@@ -102,7 +102,7 @@ module _ (z : Ground) where
 
   -- ---- objects
 
-  -- where they lie in memory, they are found first
+  -- where they are in memory, they are found first
   abbrev pub FoundAt : Place → Bool → ℕ → ℕ → Type 0
   FoundAt place c t k = object_of place ≡ None → FindsAt z place c t k × SpotFine z (found place c t k)
 
