@@ -1,4 +1,4 @@
--- What is known holds all along a run.
+-- The known facts are an invariant of a run.
 use Rattle.std.proofs.Common.{◌≡◌, ◌⊎◌, inl, inr, ⊎_elim, ℕ, zero, suc, ◌+◌, ◌*◌, ◌%◌, ◌^◌, List, [], ◌∷◌, Option, Some, None, Bool, true, false, refl, sym, ap, ◌∙◌, subst}
 use Rattle.std.specs.Prelude.{◌==◌, if◌then◌else◌, get_or, set, replicate}
 use Rattle.std.proofs.lemmas.Bool.{eqb-true, eqb-false}

@@ -6,7 +6,7 @@ ghost use Rattle.frames_opt.specs.inside.Facts as facts_in;
 use crate::operations::computed;
 use frames_code::{Instruction, Location, Operand, Target};
 
-/// What a temporary holds.
+/// The abstract value of a temporary.
 #[derive(Clone, Copy, Debug)]
 pub enum Known {
     /// Anything, or nothing yet.
@@ -18,7 +18,7 @@ pub enum Known {
     Frame(usize),
 }
 
-/// What is known of the first eight temporaries, which live in registers.
+/// The facts known of the first eight temporaries, which live in registers.
 pub type Facts = [Known; 8];
 
 /// Nothing is known.
@@ -38,7 +38,7 @@ fn held(facts: &Facts, number: usize) -> Known
     }
 }
 
-/// What an operand is known to be.
+/// The abstract value of an operand.
 pub fn known_of(facts: &Facts, operand: Operand) -> Known
     ensures { result ≡ facts_in.known_of facts.now operand }
 {

@@ -55,7 +55,7 @@ fn result_with(operation: Operation, left: u32, right: Operand) -> Known
     }
 }
 
-/// What an operation gives, where it is known.
+/// The result of an operation, where it is known.
 pub fn computed(operation: Operation, left: Operand, right: Operand) -> Known
     ensures { result ≡ facts_in.computed operation left right }
 {

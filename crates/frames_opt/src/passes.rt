@@ -11,7 +11,7 @@ use crate::unread::kept;
 use frames_code::Instruction;
 use std::alloc::{AllocError, Global};
 
-/// How many instructions are looked at for the next use of a temporary.
+/// How many instructions are searched for the next use of a temporary.
 const WINDOW: usize = 16;
 
 /// The code by the facts known before each instruction; jumps lead to marked ones alone.
