@@ -33,7 +33,7 @@ struct Placed {
 #[derive(Drop)]
 struct Rows<'a> {
     rows: &'a [CodeRow],
-    /// How many lie before the present item.
+    /// How many precede the present item.
     passed: usize,
 }
 

@@ -49,7 +49,7 @@ pub fn show(
     }
 }
 
-/// What was written, or the fault 801.
+/// The text written, or the fault 801.
 fn told(alloc: Global, written: Result<String, AllocError>) -> Result<String, Fault> {
     match written {
         Ok(text) => Ok(text),
