@@ -12,7 +12,7 @@ pub struct Body {
     pub past: usize,
 }
 
-/// What has been passed of a file's tokens.
+/// The state of a walk over a file's tokens.
 #[derive(Clone, Copy)]
 struct Passed {
     depth: usize,
