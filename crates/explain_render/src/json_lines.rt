@@ -24,7 +24,7 @@ pub fn put_json(alloc: Global, finding: &Finding, out: &mut String) -> Result<()
     put_json_report(alloc, report, out)
 }
 
-/// Puts undefined behaviour in the same form; its code is U1 to U8.
+/// Prints undefined behaviour in the same form; its code is U1 to U8.
 pub fn put_json_undefined(
     alloc: Global,
     undefined: &Undefined,
@@ -35,7 +35,7 @@ pub fn put_json_undefined(
     put_json_report(alloc, Report::of_act(undefined, code.as_str()), out)
 }
 
-/// Puts a report in the same form.
+/// Prints a report in the same form.
 pub fn put_json_report(
     alloc: Global,
     report: Report<'_>,
@@ -61,7 +61,7 @@ fn put_place(
     put_columns(alloc, shown, out)
 }
 
-/// Puts the members text, token, notes and fix, and the end of the line.
+/// Prints the members text, token, notes and fix, and the end of the line.
 fn put_rest(alloc: Global, text: &str, shown: &Shown, out: &mut String) -> Result<(), AllocError> {
     out.push_str(",\"text\":")?;
     put_string(alloc, text, out)?;
@@ -95,7 +95,7 @@ pub(crate) fn said(alloc: Global, finding: &Finding) -> Result<String, AllocErro
     Ok(text)
 }
 
-/// Puts the members column and end.
+/// Prints the members column and end.
 fn put_columns(alloc: Global, shown: &Shown, out: &mut String) -> Result<(), AllocError> {
     let column = column_of(shown);
     if column == 0 {
@@ -118,7 +118,7 @@ fn put_notes(alloc: Global, notes: &[Note], out: &mut String) -> Result<(), Allo
     Ok(())
 }
 
-/// Puts a note: its topic, its text, and where it has one its place.
+/// Prints a note: its topic, its text, and where it has one its place.
 fn put_note(alloc: Global, note: &Note, out: &mut String) -> Result<(), AllocError> {
     out.push_str("{\"topic\":\"")?;
     out.push_str(match note.topic {
@@ -145,7 +145,7 @@ fn put_note(alloc: Global, note: &Note, out: &mut String) -> Result<(), AllocErr
     out.push_str("}")
 }
 
-/// Puts a string with its quotes: `"`, `\` and the characters below U+0020 are escaped (RFC 8259, section 7).
+/// Prints a string with its quotes: `"`, `\` and the characters below U+0020 are escaped (RFC 8259, section 7).
 pub(crate) fn put_string(alloc: Global, text: &str, out: &mut String) -> Result<(), AllocError> {
     out.push('"')?;
     for letter in text.chars() {

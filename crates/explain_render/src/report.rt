@@ -1,4 +1,4 @@
-//! What is reported of a place.
+//! A report on a place.
 
 use explain_findings::{Certainty, Shown, Undefined};
 
