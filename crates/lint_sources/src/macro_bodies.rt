@@ -7,10 +7,10 @@ use explain_places::Tokens;
 use phases::{Kind, PpToken};
 use std::alloc::{AllocError, Global};
 
-/// The most parameters that are looked at, which is the most that a macro may have.
+/// The most parameters that are examined, which is the most that a macro may have.
 const MAX_PARAMETERS: usize = 127;
 
-/// What a macro lacks parentheses around.
+/// The part of a macro that lacks parentheses around it.
 #[derive(Clone, Copy, Debug, PartialEq, Eq)]
 pub struct MacroFault {
     /// The number of the token: a parameter in the body, or the macro's name where the whole body lacks them.
@@ -54,7 +54,7 @@ fn directive_end(tokens: &Tokens<'_>, start: usize) -> usize {
     tokens.spots.len()
 }
 
-/// What is wrong with the macro whose name has this number.
+/// The fault of the macro whose name has this number.
 fn fault_of(all: &[PpToken<'_>], name: usize, past: usize) -> Option<MacroFault> {
     let list = list_end(all, name, past);
     let behind = name.saturating_add(1);
