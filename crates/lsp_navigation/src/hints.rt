@@ -56,7 +56,7 @@ fn is_in(view: &View, file: usize, word: Word, span: Span) -> bool {
     span.start.line <= at.start.line && at.start.line <= span.end.line
 }
 
-/// Puts the hints of the call whose name has this number; none of a declaration.
+/// Prints the hints of the call whose name has this number; none of a declaration.
 fn put_hints(
     alloc: Global,
     view: &View,
@@ -92,7 +92,7 @@ fn is_declared_at(view: &View, file: usize, number: usize) -> bool {
     }
 }
 
-/// Puts a hint before each argument, of which these tokens are the first.
+/// Prints a hint before each argument, of which these tokens are the first.
 fn put_arguments(
     alloc: Global,
     view: &View,

@@ -82,7 +82,7 @@ fn put_place(
     }
 }
 
-/// Puts a `DocumentHighlight`: of kind 3 (write) for a declaration, and 2 (read) for a use.
+/// Prints a `DocumentHighlight`: of kind 3 (write) for a declaration, and 2 (read) for a use.
 fn put_highlight(
     alloc: Global,
     view: &View,

@@ -1,4 +1,4 @@
-//! What a file has: its symbols, and the parts that an editor may hide.
+//! The contents of a file: its symbols, and the parts that an editor may hide.
 
 use lsp_names::{Fold, Mention, Symbol, SymbolKind};
 use lsp_program::{View, put_comma, put_span, put_text_member};
