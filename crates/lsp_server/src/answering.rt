@@ -68,7 +68,7 @@ impl<H: Host + Drop> Server<H> {
         self.note_change(path.as_str(), self.options.verifies)
     }
 
-    /// What a request is answered.
+    /// The response to a request.
     fn outcome(&mut self, call: &Call) -> Result<Outcome, AllocError> {
         match call.method.as_str() {
             "initialize" => self.initialize(&call.params),

@@ -10,7 +10,7 @@ use std::alloc::AllocError;
 pub(crate) const VERIFY: &str = "zikorape.verify";
 
 impl<H: Host + Drop> Server<H> {
-    /// Notes that the programs with the file of a command are to be verified when changes are looked at.
+    /// Notes that the programs with the file of a command are to be verified when changes are examined.
     pub(crate) fn note_command(&mut self, params: &Value) -> Result<(), AllocError> {
         let Some(uri) = verified_file(params) else {
             return Ok(());

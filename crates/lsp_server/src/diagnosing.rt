@@ -18,7 +18,7 @@ const MAX_FAULTS: u64 = 10;
 /// How much work these may be. The compiler is run several times for each.
 const FAULT_WORK: u64 = 1_000_000;
 
-/// What is done with a program when files changed.
+/// The action on a program when files changed.
 #[derive(Clone, Copy, PartialEq, Eq)]
 enum Plan {
     /// It has a file that changed.
@@ -66,7 +66,7 @@ impl<H: Host + Drop> Server<H> {
         self.publish()
     }
 
-    /// The programs that are looked at.
+    /// The programs that are examined.
     pub(crate) fn programs(&self) -> Result<Vec<Program>, AllocError> {
         let mut programs = Vec::new(self.alloc);
         for root in self.roots()? {
@@ -224,7 +224,7 @@ fn faults_within(work: u64) -> usize {
     usize::try_from(count.min(MAX_FAULTS).max(1)).unwrap_or(1)
 }
 
-/// What is done with each program. One whose main file another includes is a part of that.
+/// The action on each program. One whose main file another includes is a part of that.
 fn plans_of(
     alloc: Global,
     programs: &[Program],
