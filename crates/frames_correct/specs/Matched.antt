@@ -177,7 +177,7 @@ AllInPlace xs store lists = (n : ℕ) (x : Spot) → slice_get xs n ≡ Some x �
 
 -- ---- states
 
--- The arguments of flat code are no part of the match: only the moves at a function's beginning read it.
+-- The arguments of flat code are no part of the match: only the moves at a function's beginning read them.
 pub record Matched (q : tac.Program) (f : flat.Program) (t : tac_run.State) (s : flat_run.State) : Type 0 where
   pub frames : FramesHold q (t.call ∷ t.waiting) (s.frame ∷ s.waiting) t.store
   pub temporaries : AllShow (spots q (open_calls t)) t.temporaries s.temporaries
