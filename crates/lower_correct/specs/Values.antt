@@ -1,4 +1,4 @@
--- Where values of expressions are, in three-address code: their words, and the objects that an expression writes and whether it calls.
+-- Where values of expressions are, in three-address code: their words, the objects that an expression writes, and whether it calls.
 use Rattle.std.specs.Prelude.{ℕ, ◌+◌, Bool, true, false, ◌&&◌, ◌||◌, nat_eq, ℤ, int_le, if◌then◌else◌, Option, Some, None}
 use Rattle.ctypes.specs.declared.types.IntType.{IntType}
 use Rattle.ctypes.specs.declared.types.IntType.TheVariants as ty
