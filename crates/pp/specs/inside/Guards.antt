@@ -57,7 +57,7 @@ unplaced os = map (λ (o : Open). record o { at = nowhere }) os
 abbrev pub opened_by : List Token → BranchState → Open
 opened_by ts b = record { at = nowhere; branch = b; behind_else = is_else ts }
 
--- Something results in this rest of a file, in the same state. An empty run may precede it.
+-- The outcome is that of this rest of a file, in the same state. An empty run may precede it.
 pub record Passes (around : Around) (s : State) (opened : List Open) (o : Outcome State) (p : Parsed) : Type 0 where
   pub conditionals : List Open
   pub begun : Bool
