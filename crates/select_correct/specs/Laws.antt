@@ -20,14 +20,14 @@ abbrev pub Anything : Light → Type 0
 Anything m = Unit {0}
 
 -- At the instruction, the machine goes from matching a state to matching the state after the instruction, in the number of instructions that the table gives.
--- The frame on top begins below the call of `Ground`, if any.
+-- The frame on top begins below the waiting call that `Ground` singles out, if any.
 abbrev pub Follows : Instruction → Type 0
 Follows x =
     (G : Ground) (s : State) (r b : ℕ → ℕ) → Ready G → Matched G s r (address G s.frame.function s.frame.at) b → IsBelow G (running s)
     → slice_get (function_at G.program s.frame.function).code s.frame.at ≡ Some x → HasRoom G (act G.program s x)
     → Comes G.machine Anything (least_at s.frame.at x) (most_at G.program (function_at G.program s.frame.function) s.frame.at x) (Go r (address G s.frame.function s.frame.at) b s.input s.trace) (Matches G (act G.program s x))
 
--- the input is bytes
+-- the input is bytes: each value is less than 2^8
 abbrev pub AreBytes : List ℕ → Type 0
 AreBytes input = (k c : ℕ) → slice_get input k ≡ Some c → c < 2 ^ 8
 

@@ -27,7 +27,7 @@ StepFollows =
     → Comes G.machine Anything (least_if s.frame.at (next_of G.program s)) (most_next G.program s) (Go r (address G s.frame.function s.frame.at) b s.input s.trace) (Matches G (step G.program s))
 
 -- After n steps of flat code, after a count of instructions between the sums of the table's rows, the machine matches, where all frames on
--- the way fit the stack, and lie below the call of which one speaks, if any.
+-- the way fit the stack, and are below the waiting call that `Ground` singles out, if any.
 abbrev pub RunsFollow : Type 0
 RunsFollow =
     (G : Ground) (n : ℕ) (s : State) (r b : ℕ → ℕ) → Ready G → Matched G s r (address G s.frame.function s.frame.at) b → AreBytes s.input → ((k : ℕ) → k ≤ n → HasRoom G (run G.program k s)) → ((k : ℕ) → k < n → IsBelow G (run G.program k s))
