@@ -80,7 +80,7 @@ fn constant_name(pos: Pos, binding: Option<&Binding>) -> Result<(), Refusal>
 }
 
 /// Whether an expression may be a constant expression: of names enumerators alone, and string literals and subscripts under
-/// `sizeof` alone. Else 501 is reported at a part that may not be.
+/// `sizeof` alone. Else 501 is reported at a part that is not allowed.
 pub fn constant_form(scope: &Scope, e: &Expr) -> Result<(), Refusal>
     ensures ok { OnOk result (typed.constant_form scope.now (tree_of e.now) ≡ fine tt) }
     ensures err { IfErr result (λ r. IsOf r (typed.constant_form scope.now (tree_of e.now))) }
