@@ -9,7 +9,7 @@ use lsp_program::{
 use lsp_wire::notification;
 use std::alloc::{AllocError, Global};
 
-/// How many programs are examined at the same time.
+/// How many programs are examined at most.
 const MAX_PROGRAMS: usize = 32;
 
 /// How many faults of a program are requested at most.
