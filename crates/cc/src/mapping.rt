@@ -1,4 +1,4 @@
-//! From source files to the typed program, and to where its parts lie in the executable file.
+//! From source files to the typed program, and to the addresses of its parts in the executable file.
 
 ghost use Rattle.std.specs.Prelude.{◌≡◌, List, [], IfOk, IfErr};
 ghost use Rattle.tree.specs.Tree.{ExternalTree};
@@ -16,14 +16,14 @@ use srcset::{Fault, FileSet, Names};
 use std::alloc::Global;
 use typed_ast::Program;
 
-/// A typed program, and where its parts lie in the executable file.
+/// A typed program, and the addresses of its parts in the executable file.
 #[derive(Drop)]
 pub struct Mapped {
     pub program: Program,
     pub map: CodeMap,
 }
 
-/// The typed program of the file `main` of the set, and where its functions, statements and objects lie in the file that `compile_with`
+/// The typed program of the file `main` of the set, and the addresses of its functions, statements and objects in the file that `compile_with`
 /// makes of it. The names are numbered in `names`, which is to have none. It refuses as `compile_with` does.
 pub fn map_of(
     alloc: Global,

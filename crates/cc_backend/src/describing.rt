@@ -1,4 +1,4 @@
-//! Where the functions, the statements and the objects of a program lie in its file, for listings and debuggers.
+//! The addresses of the functions, the statements and the objects of a program in its file, for listings and debuggers.
 
 ghost use Rattle.typed_ast.specs.View.{program_of};
 ghost use Rattle.cc_backend.specs.Made.{IsReady};
@@ -15,20 +15,20 @@ use std::alloc::{AllocError, Global};
 use tac::{CodeScope, CodeStart, code_scopes, code_starts};
 use typed_ast::{Function, Program, Static};
 
-/// The address at which the code of what stands at a place begins.
+/// The address at which the code of the item at a place begins.
 #[derive(Clone, Copy, Debug)]
 pub struct CodeRow {
     pub place: Pos,
     pub address: u32,
 }
 
-/// The code of a scope (ISO/IEC 9899:2011 6.2.1p4): a block, or a `for` with what it declares.
+/// The code of a scope (ISO/IEC 9899:2011 6.2.1p4): a block, or a `for` with its declarations.
 #[derive(Clone, Copy, Debug)]
 pub struct ScopeCode {
     /// The number of its first object, and how many it has; those of a scope within it are among them.
     pub first: usize,
     pub count: usize,
-    /// The address of its first instruction, and that behind its last.
+    /// The address of its first instruction, and that after its last.
     pub start: u32,
     pub end: u32,
 }
@@ -38,7 +38,7 @@ pub struct ScopeCode {
 pub struct FunctionCode {
     /// The number of its name.
     pub name: usize,
-    /// The address of its first instruction, and that behind its last.
+    /// The address of its first instruction, and that after its last.
     pub start: u32,
     pub end: u32,
     /// Its statements, in the order of their code.
@@ -68,12 +68,12 @@ pub enum Reference {
     Data(u32, u32),
 }
 
-/// Where the parts of a program lie.
+/// The addresses of the parts of a program.
 #[derive(Drop)]
 pub struct CodeMap {
     /// In the order of their definitions.
     pub functions: Vec<FunctionCode>,
-    /// String literals, and then the objects with static storage, in the order in which they lie.
+    /// String literals, and then the objects with static storage, in the order of their addresses.
     pub objects: Vec<DataObject>,
     /// In the order of their addresses.
     pub references: Vec<Reference>,
@@ -113,7 +113,7 @@ fn first_labels(
     Ok(firsts)
 }
 
-/// Looks through the items for what marks a label, calls, or loads an address in the data.
+/// Looks through the items for those that mark a label, call, or load an address in the data.
 fn found_in(
     alloc: Global,
     items: &[Item],
@@ -300,7 +300,7 @@ fn starts_of(alloc: Global, program: &Program) -> Result<Starts, AllocError>
     Starts::new(alloc, &program.literals, &program.statics)
 }
 
-/// Where the parts of the file lie that `generate` makes of a program that breaks no constraint.
+/// The addresses of the parts of the file that `generate` makes of a program that breaks no constraint.
 ///
 /// Fails only where there is no memory.
 pub fn code_map(alloc: Global, program: &Program, stack: StackSize) -> Result<CodeMap, AllocError>

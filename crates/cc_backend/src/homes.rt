@@ -16,7 +16,7 @@ use typed_ast::{Function, ObjectType, ParameterType, Program};
 pub enum ObjectHome {
     /// In a register of the machine, by its number: s0 to s11.
     Register(u32),
-    /// In the frame, so many bytes above the stack pointer.
+    /// In the frame, at this offset in bytes above the stack pointer.
     Frame(u32),
 }
 
@@ -29,7 +29,7 @@ pub struct FunctionHomes {
     pub arrays: Vec<ObjectHome>,
 }
 
-/// A function's words under their numbers in its flat code, and what that says of its frame.
+/// A function's words under their numbers in its flat code, and the description of its frame that they give.
 #[derive(Drop)]
 struct Words {
     numbers: Vec<usize>,
@@ -91,7 +91,7 @@ fn count_numbers(objects: &[ObjectType]) -> usize {
     count
 }
 
-/// Where the objects of one function live, whose flat code has these words. The words of its array parameters are behind those of its objects.
+/// Where the objects of one function live, whose flat code has these words. The words of its array parameters follow those of its objects.
 fn lived_in(
     alloc: Global,
     function: &Function,

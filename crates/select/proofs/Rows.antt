@@ -1,5 +1,5 @@
--- Flat programs, and what their items come to on the symbolic machine. Status and output are what the C text above each gives by
--- ISO/IEC 9899:2011. Branches are short here, and where a label or the data lies is put into one instruction whole.
+-- Flat programs, and the execution of their items on the symbolic machine. Status and output are those of the C text above each by ISO/IEC 9899:2011. Branches
+-- are short here, and the address of a label or of the data is put into one instruction whole.
 use Rattle.std.proofs.Common.{◌≡◌, refl}
 use Rattle.std.specs.Prelude.{ℕ, suc, zero, ◌+◌, ◌-◌, ◌*◌, ◌/◌, ◌%◌, ◌^◌, ◌==◌, nat_lt, true, if◌then◌else◌, List, [], ◌∷◌, ◌++◌, length, slice_get, slice_index_or, Option, Some, None}
 use Rattle.std.specs.Int.Count.{count_trailing_zeros}

@@ -64,7 +64,7 @@ kept j = if nat_lt j 2 then 8 + j else 16 + j
 abbrev pub argument : ℕ → ℕ
 argument k = 10 + k
 
--- ---- places of the frame, so many bytes above sp
+-- ---- places of the frame, by their offset in bytes above sp
 
 -- an offset in two parts: a multiple of 4096, and one of 12 bits with a sign
 abbrev pub upper_of : ℕ → ℕ
@@ -73,8 +73,7 @@ upper_of o = (o + 0x800) / 0x1000 * 0x1000
 abbrev pub lower_of : ℕ → ℕ
 lower_of o = (o + (2 ^ 32 - upper_of o)) % 2 ^ 32
 
--- what comes before an access to a place past the reach of 12 bits, where register x is free; and the register that the access
--- counts from
+-- the items before an access to a place past the reach of 12 bits, where register x is free; and the base register of the access
 abbrev pub far : ℕ → ℕ → List Item
 far x o = if nat_lt o 0x800 then [] else item.Plain (instr.Lui x (upper_of o)) ∷ operate_on register_op.Add x x 2 ∷ []
 
@@ -108,7 +107,7 @@ home_of f (target.Cell c) = if nat_lt c f.resident then home.Register (kept c) e
 abbrev pub set_to : ℕ → ℕ → Item
 set_to rd v = if nat_lt ((v + 0x800) % 2 ^ 32) 0x1000 then add_to rd 0 v else load_constant rd v
 
--- what makes a value be in the register that it is then read from; x is free
+-- the items that load a value into the register that it is then read from; x is free
 abbrev pub fetch : ℕ → Source → List Item
 fetch x (source.Register r) = []
 fetch x (source.Frame o) = load_word x o
@@ -125,7 +124,7 @@ into rd (source.Register r) = add_to rd r 0 ∷ []
 into rd (source.Frame o) = load_word rd o
 into rd (source.Constant v) = set_to rd v ∷ []
 
--- the register that a result is made in, and what puts it where it belongs
+-- the register that a result is computed in, and the items that move it to its home
 abbrev pub made_in : Home → ℕ
 made_in (home.Register r) = r
 made_in (home.Frame o) = 5
@@ -140,7 +139,7 @@ abbrev pub move : Home → Source → List Item
 move (home.Register r) x = into r x
 move (home.Frame o) x = fetch 5 x ++ store_word (register_of 5 x) o
 
--- the machine's operation, and what makes of its result whether words are equal
+-- the machine's operation, and the items that turn its result into whether words are equal
 abbrev pub machine_of : Operation → RegisterOp
 machine_of (operation.Machine o) = o
 machine_of operation.Equal = register_op.Xor
@@ -207,7 +206,7 @@ narrow conversion.ToTruth rd a = operate_on register_op.LessUnsigned rd 0 a ∷ 
 abbrev pub convert : Conversion → Home → Source → List Item
 convert c d x = fetch 5 x ++ (narrow c (made_in d) (register_of 5 x) ++ keep d)
 
--- what comes before an access to an element, the register that it counts from, and by how many bytes; x6 is free
+-- the items before an access to an element, its base register, and its offset in bytes; x6 is free
 abbrev pub reach : Function → Location → List Item
 reach f (location.Statics o) = item.DataAddress 6 o ∷ []
 reach f (location.Frame o) = far 6 (area_home f + o)
@@ -281,15 +280,15 @@ branch t x y to = fetch 5 x ++ (fetch 6 y ++ (item.Branch t (register_of 5 x) (r
 abbrev pub byte_home : Function → ℕ
 byte_home f = 4 * f.outgoing
 
--- a0 is then 1; with any other answer, which the machine never gives, the program ends with the status 126
+-- a0 is then 1; with any other result, which the machine never gives, the program ends with the status 126
 abbrev pub put_byte : Function → List Item
 put_byte f =
     address_of 11 (byte_home f) ++ (
     item.Plain (instr.Store store_kind.Byte 10 11 0) ∷ add_to 10 0 1 ∷ add_to 12 0 1 ∷ add_to 17 0 64 ∷ item.Plain instr.Ecall ∷
     add_to 10 10 (2 ^ 32 - 1) ∷ item.Plain (instr.Branch test.Equal 10 0 16) ∷ add_to 10 0 126 ∷ add_to 17 0 93 ∷ item.Plain instr.Ecall ∷ [])
 
--- a0 is then 1 and a byte was got, or 0 at the input's end, or another answer, which the machine never gives. With 1 taken from it, a0 is 0 or not;
--- whether it is 0, with 1 taken from that, is 0, or has all bits set
+-- a0 is then 1 and a byte was read, or 0 at the input's end, or another result, which the machine never gives. With 1 subtracted, a0 is 0 or not; whether it is
+-- 0, minus 1, is 0, or has all bits set
 abbrev pub get_byte : Function → List Item
 get_byte f =
     address_of 11 (byte_home f) ++ (
@@ -375,7 +374,7 @@ items_of f first instruction.GetByte = get_byte f
 items_of f first instruction.Exit = exit
 items_of f first instruction.Return = leave f
 
--- ---- what need not be done
+-- ---- instructions that need no code
 
 -- a register into itself
 abbrev pub is_same : Target → Operand → Bool

@@ -42,7 +42,7 @@ fn store_kind(width: Width) -> StoreKind
     }
 }
 
-/// What comes before an access to an element.
+/// The items before an access to an element.
 fn put_reach(
     items: &mut Vec<Item>,
     function: &Function,
@@ -95,7 +95,7 @@ fn reach_offset(function: &Function, location: &Location) -> Short
     }
 }
 
-/// Loads what lies at a location, with the width that it has there, and puts it at home.
+/// Loads the value at a location, with the width that it has there, and moves it to its home.
 pub fn put_load(
     items: &mut Vec<Item>,
     function: &Function,
@@ -238,7 +238,7 @@ fn scaled_in(register: Five, size: usize) -> Five
     if size == 1 { register } else { Five::new(6) }
 }
 
-/// The reference so many elements on.
+/// The reference advanced by a number of elements.
 pub fn put_element(
     items: &mut Vec<Item>,
     home: &Home,

@@ -1,4 +1,4 @@
--- Running what reads operands and writes results: words of the frame, near and far, constants, registers.
+-- Running the items that read operands and write results: words of the frame, near and far, constants, registers.
 use Rattle.std.proofs.Common.{◌≡◌, ◌≢◌, ℕ, suc, ◌+◌, ◌/◌, ◌%◌, ◌^◌, ◌<◌, ◌≤◌, List, [], ◌∷◌, Bool, true, false, refl, sym, ap, ◌∙◌, subst, arith, eqb}
 use Rattle.std.specs.Prelude.{nat_lt}
 use Rattle.std.proofs.lemmas.Bool.{ltb-true}
@@ -34,7 +34,7 @@ pub record Open (F : Fixed) (sp : ℕ) : Type 0 where
 pub four_open : (p : ℕ → Bool) (sp a : ℕ) → ((k : ℕ) → sp ≤ k → k < 2 ^ 31 → p k ≡ true) → sp ≤ a → a + 4 ≤ 2 ^ 31 → all_four p a ≡ true
 four_open p sp a all lo hi = rw (all a lo (omega (arith, hi)), all (a + 1) (omega (arith, lo)) (omega (arith, hi)), all (a + 2) (omega (arith, lo)) (omega (arith, hi)), all (a + 3) (omega (arith, lo)) (omega (arith, hi))) refl
 
--- a word of the stack, so many bytes above the stack pointer
+-- a word of the stack, at this offset in bytes above the stack pointer
 pub record Lies (sp o : ℕ) : Type 0 where
   pub top : sp + o + 4 ≤ 2 ^ 31
   pub aligned : sp % 4 ≡ 0
@@ -56,7 +56,7 @@ module _ (F : Fixed) (env : ℕ → ℕ) (seg : ℕ) (i : List ℕ) (h : List Ev
   pub onward : {a0 : ℕ} → (n pc pc2 : ℕ) (r b : ℕ → ℕ) → pc ≡ pc2 → Comes F Anything a0 n (Go r pc2 b i h) Q → Comes F Anything a0 n (Go r pc b i h) Q
   onward {a0} n pc pc2 r b e c = subst (λ x. Comes F Anything a0 n (Go r x b i h) Q) (sym e) c
 
-  -- what comes before an access to a place past the reach of 12 bits
+  -- the items before an access to a place past the reach of 12 bits
   pub far_runs : (n x o sp here mid : ℕ) (r b : ℕ → ℕ) → 0 < x → x ≢ 2 → r 2 ≡ sp → sp + o < 2 ^ 31 → Stands F.text env seg (far x o) here mid
       → ((r2 : ℕ → ℕ) → Only x r r2 → sum32 (reg r2 (base_of x o)) (lower_of o) ≡ sp + o → Comes F Anything 1 n (Go r2 mid b i h) Q) → Comes F Anything 1 (far_cost o + n) (Go r here b i h) Q
   far_runs n x o sp here mid r b pos ne e2 small st next =
@@ -186,7 +186,7 @@ module _ (F : Fixed) (env : ℕ → ℕ) (seg : ℕ) (i : List ℕ) (h : List Ev
 
 -- ---- sources
 
--- what an operand is read from has its value, where no register is free that it is in
+-- the source of an operand has its value, where the register that it is in is not a free one
 abbrev pub SourceHolds : (r b : ℕ → ℕ) → ℕ → Source → ℕ → Type 0
 SourceHolds r b sp (source.Register q) w = (reg r q ≡ w) × (q ≢ 5) × (q ≢ 6) × (q ≢ 7)
 SourceHolds r b sp (source.Frame o) w = Lies sp o × (word_at b (sp + o) ≡ w)

@@ -50,7 +50,7 @@ module _ (G : Ground) (s : State) (r b : ℕ → ℕ) (ready : Ready G) (m : Mat
   none_left : (k : ℕ) (v : Value) → unset k ≡ Some v → s.arguments k ≡ Some v
   none_left k v e = cc
 
-  -- where the frame lies that is named
+  -- the address of the named frame
   pub frame_shown : (o : ℕ) → o < frame_bytes (fn G s r b ready m) → shown G (reference (name_of G.program s.frame s.waiting) o) ≡ m.sp + o
   frame_shown o lt =
       let sum = sum_is G ready s r start b m in

@@ -73,7 +73,7 @@ elements_thirteen = refl
 branches_eight : bytes_of (instruction.Branch test.Less far_operand far_operand 0) ≡ 4 * cost (instruction.Branch test.Less far_operand far_operand 0)
 branches_eight = refl
 
--- behind the call the three that end the program are passed over
+-- after the call the three that end the program are skipped
 puts_ten : bytes_of instruction.PutByte ≡ 4 * (cost instruction.PutByte + 3)
 puts_ten = refl
 

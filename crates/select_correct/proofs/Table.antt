@@ -1,4 +1,4 @@
--- What the table of costs comes to: never more than the table of `frames`, and few where nothing is far.
+-- The sums of the table of costs: never more than the table of `frames`, and few where nothing is far.
 use Rattle.std.proofs.Common.{◌≡◌, ℕ, zero, suc, ◌+◌, ◌*◌, ◌-◌, ◌%◌, ◌^◌, ◌≤◌, Option, Some, None, Bool, true, false, arith}
 use Rattle.std.specs.Prelude.{if◌then◌else◌, ◌==◌, nat_lt}
 use Rattle.rv32.specs.declared.instr.Instr.{Instr}

@@ -34,7 +34,7 @@ program = record { functions = plain ∷ near ∷ wide ∷ []; statics = []; mai
 abbrev items : Function → Instruction → ℕ
 items f x = longest (items_of f 0 x)
 
--- ---- what is near
+-- ---- near places
 
 element_by_a_shift : row near (instruction.Element (target.Temporary 0) (operand.Temporary 1) (operand.Cell 2) 256) ≡ 2
 unfolding count_trailing_zeros
@@ -171,7 +171,7 @@ far_entry = refl
 far_return : row wide instruction.Return ≡ 3 + 2 + 4 * 2
 far_return = refl
 
--- ---- what only goes on to the next instruction
+-- ---- instructions that only go on to the next one
 
 jump_to_the_next : most_at program near 4 (instruction.Jump 5) ≡ 0
 jump_to_the_next = refl

@@ -1,4 +1,4 @@
--- How many instructions of the machine a run of flat code comes to, at least and at most.
+-- The number of machine instructions that a run of flat code takes, at least and at most.
 use Rattle.std.specs.Prelude.{◌≡◌, ℕ, zero, suc, ◌+◌, ◌-◌, ◌*◌, ◌%◌, ◌^◌, ◌==◌, ◌≤◌, nat_lt, if◌then◌else◌, Option, Some, None}
 use Rattle.rv32.specs.declared.instr.Instr.{Instr}
 use Rattle.asm.specs.Layout.{longest}
@@ -48,7 +48,7 @@ abbrev pub least_if : ℕ → Option Instruction → ℕ
 least_if k None = 0
 least_if k (Some x) = least_at k x
 
--- what n steps come to at least
+-- the least cost of n steps
 abbrev pub least_spent : Program → ℕ → State → ℕ
 least_spent p zero s = 0
 least_spent p (suc n) s = least_if s.frame.at (next_of p s) + cost_on (step p s) (least_spent p n)
@@ -171,7 +171,7 @@ row f instruction.GetByte = address_cost (byte_home f) + 9
 row f instruction.Exit = 2
 row f instruction.Return = saved_cost f f.resident + (return_cost f + (frame_cost (frame_bytes f) + 1))
 
--- how many instructions the items are: behind a byte that is put stand three more, which no run comes to where each call answers 1
+-- the number of instructions of the items: three more follow the output of a byte, which no run executes where each call returns 1
 abbrev pub item_count : Function → Instruction → ℕ
 item_count f instruction.PutByte = row f instruction.PutByte + 3
 item_count f x = row f x
@@ -193,7 +193,7 @@ abbrev pub most_if : Program → Function → ℕ → Option Instruction → ℕ
 most_if p f k None = 0
 most_if p f k (Some x) = most_at p f k x
 
--- what the next step comes to at most, and n steps
+-- the greatest cost of the next step, and of n steps
 abbrev pub most_next : Program → State → ℕ
 most_next p s = most_if p (function_at p s.frame.function) s.frame.at (next_of p s)
 

@@ -10,25 +10,25 @@ use srcset::Pos;
 use std::alloc::{AllocError, Global};
 use typed_ast::{ForControl, Function, Place, Program, Statement, Value};
 
-/// A place in the source, and the number of the instruction of its function with which the code of what stands there begins.
+/// A place in the source, and the number of the instruction of its function with which the code of the construct there begins.
 #[derive(Clone, Copy, Debug)]
 pub struct CodeStart {
     pub place: Pos,
     pub number: usize,
 }
 
-/// The instructions of a scope (6.2.1p4): a block, or a `for` with what it declares. It has `count` objects from number `first` on; those
-/// of a scope within it are among them.
+/// The instructions of a scope (6.2.1p4): a block, or a `for` with its declarations. It has `count` objects from number `first` on; those of a scope within it
+/// are among them.
 #[derive(Clone, Copy, Debug)]
 pub struct CodeScope {
     pub first: usize,
     pub count: usize,
-    /// The number of its first instruction, and that behind its last.
+    /// The number of its first instruction, and that after its last.
     pub start: usize,
     pub end: usize,
 }
 
-/// What is found of a function. A scope comes before those within it.
+/// The starts and scopes found in a function. A scope comes before those within it.
 #[derive(Drop)]
 struct Found {
     starts: Vec<CodeStart>,
@@ -40,7 +40,7 @@ fn put_start(found: &mut Found, place: Pos, number: usize) -> Result<(), AllocEr
     Ok(())
 }
 
-/// Puts a scope that begins at an instruction. It answers its number.
+/// Adds a scope that begins at an instruction. Returns its number.
 fn open_scope(
     found: &mut Found,
     first: usize,
@@ -89,7 +89,7 @@ fn place_of_object(place: &Place) -> Pos {
     }
 }
 
-/// A `for` (6.8.5.3), from behind its first instruction on.
+/// A `for` (6.8.5.3), from after its first instruction on.
 #[cycle(code_starts)]
 fn put_for(
     scope: &Scope<'_>,
@@ -111,7 +111,7 @@ fn put_for(
     Ok(behind)
 }
 
-/// A body behind which its test stands (6.8.5.1, 6.8.5.2).
+/// A body followed by its test (6.8.5.1, 6.8.5.2).
 #[cycle(code_starts)]
 fn put_loop(
     scope: &Scope<'_>,
@@ -126,7 +126,7 @@ fn put_loop(
     Ok(plus(behind, value_size(test, Shape::Jump)))
 }
 
-/// Statements one behind the other, from the instruction `at` on. It answers the number of the one behind them.
+/// Consecutive statements, from the instruction `at` on. Returns the number of the instruction after them.
 #[cycle(code_starts)]
 fn put_statements(
     scope: &Scope<'_>,
@@ -159,7 +159,7 @@ fn put_block(
     Ok(behind)
 }
 
-/// A statement whose code begins at the instruction `at`. It answers the number of the one behind it.
+/// A statement whose code begins at the instruction `at`. Returns the number of the instruction after it.
 #[cycle(code_starts)]
 fn put_statement(
     scope: &Scope<'_>,
@@ -211,8 +211,8 @@ fn found_in(alloc: Global, program: &Program, function: &Function) -> Result<Fou
     Ok(found)
 }
 
-/// Where the code of each statement of a function begins, in the order of their code: the numbers of instructions of the code that
-/// `lower_function` makes. That of a loop's test or step, which stands behind the loop's body, is told too.
+/// Where the code of each statement of a function begins, in the order of their code: the numbers of instructions of the code that `lower_function` makes. That
+/// of a loop's test or step, which follows the loop's body, is included.
 ///
 /// Fails only where there is no memory. Takes time by the statements and the depth to which they are nested.
 pub fn code_starts(

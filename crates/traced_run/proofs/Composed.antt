@@ -14,7 +14,7 @@ use Rattle.traced_run.specs.Traced.{machine_in, machines_of, TracesUntil, Traces
 rvrun_on : (j k n : ℕ) (w v : World) → rvrun j w ≡ Running v → n ≡ j + k → rvrun n w ≡ rvrun k v
 rvrun_on j k n w v h e = ap (λ m. rvrun m w) e ∙ rvrun-add j k w ∙ ap (λ p. goes_on p (rvrun k)) h
 
--- what a run of n steps from v came to, that of k + n steps came to from where k lead to v
+-- the outcome of a run of n steps from v is that of k + n steps from where k lead to v
 pub behind : (o : Option (List ℕ)) (w v : World) (k n : ℕ) (x : Outcome) (m : Machine) (port : PortView) → rvrun k w ≡ Running v
     → RunMeets o v n x m port → RunMeets o w (k + n) x m port
 behind o w v k n outcome.Budget m port r t = (t.0, rvrun_on k n (k + n) w v r refl ∙ t.1, t.2)
@@ -24,7 +24,7 @@ behind o w v k n (outcome.Port x) m port r t =
     let lt = t.1.1 in
     (k + t.0, (t.1.0, omega arith, rvrun_on k t.0 (k + t.0) w v r refl ∙ t.1.2, t.1.3))
 
--- where it does not go on, each longer one comes to the same
+-- where it does not go on, each longer run has the same outcome
 pub stays : (o : Option (List ℕ)) (w : World) (n max : ℕ) (x : Outcome) (m : Machine) (port : PortView) → n ≤ max → x ≢ outcome.Budget
     → RunMeets o w n x m port → RunMeets o w max x m port
 stays o w n max outcome.Budget m port le ends t = absurd (ends refl)
@@ -36,14 +36,14 @@ stays o w n max (outcome.Port x) m port le ends t =
     let lt = t.1.1 in
     (t.0, (t.1.0, omega arith, t.1.2, t.1.3))
 
--- a step that goes on, behind k that went on
+-- a step that goes on, after k that went on
 pub goes : (o : Option (List ℕ)) (w v : World) (k : ℕ) (x : Outcome) (m : Machine) (port : PortView) → rvrun k w ≡ Running v → x ≡ outcome.Budget
     → RunMeets o v 1 x m port → (u : World) × (rvrun (k + 1) w ≡ Running u) × At o u m port
 goes o w v k x m port r e t =
     let P : Outcome → Type 0 = λ y. RunMeets o w (k + 1) y m port in
     subst P e (behind o w v k 1 x m port r t)
 
--- what holds of the machines up to a step holds of all, where the run stopped there
+-- a property of the machines up to a step holds of all, where the run stopped there
 pub until : (T : List Machine → Type 0) (o : Option (List ℕ)) (w : World) (max : ℕ) (x : Outcome) (m : Machine) (port : PortView) → x ≢ outcome.Budget
     → TracesUntil T o w max x m port → TracesMachines T o w max (Stopped x) m port
 until T o w max outcome.Budget m port ends t = absurd (ends refl)

@@ -1,4 +1,4 @@
--- What a run that is told comes to.
+-- The result of a traced run.
 use Rattle.std.specs.Prelude.{◌<◌, ◌+◌, ℕ, zero, suc, List, [], ◌∷◌, ◌++◌, Option}
 use Rattle.rv32.specs.Step.{Machine}
 use Rattle.io_ports.specs.Port.{PortView}
@@ -9,12 +9,13 @@ use Rattle.sim.specs.declared.machine.Outcome.TheVariants as outcome
 use Rattle.traced_run.specs.declared.tracing.TraceEnd.{TraceEnd}
 use Rattle.traced_run.specs.declared.tracing.TraceEnd.TheVariants.{Stopped, Unwritten}
 
--- from the world w on: what the run of max steps comes to; or, where a line was not written, what that of fewer or as many does, with the step of that line
+-- from the world w on: the outcome of the run of max steps; or, where a line was not written, that of a run of at most max steps, which includes the step of
+-- that line
 abbrev pub TraceMeets : Option (List ℕ) → World → ℕ → TraceEnd → Machine → PortView → Type 0
 TraceMeets o w max (Stopped outcome) m port = RunMeets o w max outcome m port
 TraceMeets o w max Unwritten m port = (k : ℕ) × ((outcome : Outcome) × (k < max) × RunMeets o w (k + 1) outcome m port)
 
--- ---- what a tracer is told
+-- ---- the machines that a tracer sees
 
 abbrev pub machine_in : Progress → Machine
 machine_in (Running v) = v.machine

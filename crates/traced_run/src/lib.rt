@@ -1,4 +1,4 @@
-//! A run of an executable file that is told instruction by instruction.
+//! A run of an executable file that is traced instruction by instruction.
 #![tactic(auto)]
 
 mod instruction;

@@ -10,7 +10,7 @@ use std::alloc::{AllocError, Global};
 use std::io::Write;
 use symbol_table::SymbolTable;
 
-/// The column in which what an instruction did begins.
+/// The column in which the effects of an instruction begin.
 const WIDTH: usize = 44;
 
 /// Writes a line for each step: the instruction, each register whose value changed, and the address that it loaded from or stored to; with a
@@ -24,7 +24,7 @@ pub struct TextTrace<'a, W: Write + Drop> {
     start: u32,
     /// The line of the step that is taken, as far as it is known before it.
     line: Vec<u8>,
-    /// How many bytes of the line stand before its instruction.
+    /// How many bytes of the line precede its instruction.
     before: usize,
     touched: Option<u32>,
     registers: [u32; 32],
@@ -45,7 +45,7 @@ impl<'a, W: Write + Drop> TextTrace<'a, W> {
         }
     }
 
-    /// Flushes the writer. Answers whether it could.
+    /// Flushes the writer. Returns whether it could.
     pub fn finish(self) -> bool {
         let mut out = self.out;
         out.flush().is_ok()
@@ -74,7 +74,7 @@ impl<'a, W: Write + Drop> Tracer for TextTrace<'a, W> {
     }
 }
 
-/// Puts where the run is, where its function is another than that which starts at `start`; answers where its function starts.
+/// Appends the place of the run, where its function is another than that which starts at `start`; returns where its function starts.
 fn put_function(
     alloc: Global,
     map: &SymbolTable,
@@ -139,7 +139,7 @@ fn effects(
     Ok(line)
 }
 
-/// Puts the effects, where there are some, in their column of a line whose instruction begins behind so many bytes.
+/// Appends the effects, where there are some, in their column of a line whose instruction begins after `before` bytes.
 fn put_effects(before: usize, effects: &[u8], line: &mut Vec<u8>) -> Result<(), AllocError> {
     if effects.is_empty() {
         return Ok(());

@@ -14,14 +14,14 @@ use std::alloc::AllocError;
 
 /// Follows a run step by step, and changes nothing of it.
 pub trait Tracer {
-    // That the machines of which it was told, the first first, are these. By default nothing is known of it.
+    // That the machines that it has seen, the first first, are these. By default nothing is known of it.
     ghost traced: { Self → List Hart → Type 0 } = { λ _ _. Unit {0} };
 
     /// The machine in this state is about to take a step.
     fn begins(&mut self, state: &State) -> Result<(), AllocError>
         ensures { IfOk result (λ _. (ms : List Hart) → traced self.old ms → traced self.new (ms ++ (machine_of state.now ∷ []))) };
 
-    /// The step of which it was told last has led to this state, or the run has stopped at it. Answers whether the trace goes on.
+    /// The step of which it was notified last has led to this state, or the run has stopped at it. Returns whether the trace goes on.
     fn ends(&mut self, state: &State) -> Result<bool, AllocError>
         ensures { IfOk result (λ _. (ms : List Hart) → traced self.old ms → traced self.new ms) };
 }
@@ -34,17 +34,16 @@ pub enum TraceEnd {
     Unwritten,
 }
 
-/// What a step came to, and whether the trace goes on.
+/// The outcome of a step, and whether the trace goes on.
 #[derive(Clone, Copy)]
 struct Told {
     outcome: Outcome,
     is_written: bool,
 }
 
-/// Takes at most `max` steps, and tells the tracer of each.
+/// Takes at most `max` steps, and notifies the tracer of each.
 ///
-/// The machine does what `Machine::run` does in as many steps. A tracer that was told of nothing is told of the machines of the table's run, one a
-/// step.
+/// The machine does what `Machine::run` does in as many steps. A tracer that has seen nothing is notified of the machines of the table's run, one a step.
 pub fn traced_run<P: Port, T: Tracer>(
     machine: &mut Machine,
     port: &mut P,
@@ -70,7 +69,7 @@ pub fn traced_run<P: Port, T: Tracer>(
     Ok(TraceEnd::Stopped(Outcome::Budget))
 }
 
-/// Takes a step, and tells the tracer of it.
+/// Takes a step, and notifies the tracer of it.
 fn told_step<P: Port, T: Tracer>(
     machine: &mut Machine,
     port: &mut P,
