@@ -1,4 +1,5 @@
 -- A run, and one step more.
+use Rattle.std.specs.Prelude.{suc}
 use Rattle.std.proofs.Common.{ℕ, List, [], ◌∷◌, ◌++◌, Option, ◌≡◌, ◌≢◌, ◌<◌, ◌≤◌, ◌+◌, ◌-◌, ap, ◌∙◌, refl, subst, sym, arith}
 use Rattle.io_ports.specs.Port.{PortView}
 use Rattle.rv32.specs.Step.{Machine}
@@ -54,4 +55,6 @@ until T o w max (outcome.Port x) m port ends t = t
 -- one machine more
 pub one_more : (T : List Machine → Type 0) (k : ℕ) (w v : World) (m : Machine) → rvrun k w ≡ Running v → m ≡ v.machine
     → T (machines_of k w ++ (m ∷ [])) → T (machines_of (k + 1) w)
-one_more T k w v m r e t = subst (λ (n : Machine). T (machines_of k w ++ (n ∷ []))) (e ∙ sym (ap machine_in r)) t
+one_more T k w v m r e t =
+    let next : suc k ≡ k + 1 = omega arith in
+    subst (λ (n : ℕ). T (machines_of n w)) next (subst (λ (n : Machine). T (machines_of k w ++ (n ∷ []))) (e ∙ sym (ap machine_in r)) t)

@@ -17,10 +17,12 @@ returns-then-not-told g c = record {
   traces = λ s o w h t.
       let v = c.loop-steps.invariant.came s o w h in (
         c.in_ok-told.told.outcome,
-        c.loop-steps.steps,
-        c.loop-steps-test.true,
-        behind o w v.0 c.loop-steps.steps 1 c.in_ok-told.told.outcome _ _ v.1 (c.in_ok-told.ensures.meets (c.loop-steps.invariant.goes_on s) o v.0 v.2),
-        one_more (g.T.Tracer.traced c.told_step.new.tracer) c.loop-steps.steps w v.0 _ v.1 v.2.machine_is (c.in_ok-told.ensures.traces _ (c.loop-steps.invariant.traced s o w h t)),
+        (
+          c.loop-steps.steps,
+          c.loop-steps-test.true,
+          behind o w v.0 c.loop-steps.steps 1 c.in_ok-told.told.outcome _ _ v.1 (c.in_ok-told.ensures.meets (c.loop-steps.invariant.goes_on s) o v.0 v.2),
+          one_more (g.T.Tracer.traced c.told_step.new.tracer) c.loop-steps.steps w v.0 _ v.1 v.2.machine_is (c.in_ok-told.ensures.traces _ (c.loop-steps.invariant.traced s o w h t)),
+        ),
       );
 }
 
