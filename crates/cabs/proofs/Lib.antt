@@ -6,3 +6,4 @@ pub mod Told
 pub mod Acts
 pub mod Ticking
 pub mod AtOnce
+pub mod Showing

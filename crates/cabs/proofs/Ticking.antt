@@ -232,18 +232,18 @@ tick_stops T U p all o k now mid x port s none r tally port2 h = stops_by U p al
 
 -- ---- the definition's run
 
-given_stops : {A : Type 0} (f : A → on.Found) (r : machine.Run A) (e : Ending) (s : State) → given f r ≡ Stops e s → r ≡ Stops e s
+pub given_stops : {A : Type 0} (f : A → on.Found) (r : machine.Run A) (e : Ending) (s : State) → given f r ≡ Stops e s → r ≡ Stops e s
 given_stops f (Goes a t) e s h = absurd (cc h)
 given_stops f (Stops d t) e s h =
     let a : d ≡ e = cc h in
     let b : t ≡ s = cc h in
     ap (λ e. Stops e t) a ∙ ap (Stops e) b
 
-given_last : {A : Type 0} (f : A → on.Found) (r : machine.Run A) → last_of (given f r) ≡ last_of r
+pub given_last : {A : Type 0} (f : A → on.Found) (r : machine.Run A) → last_of (given f r) ≡ last_of r
 given_last f (Goes a s) = refl
 given_last f (Stops e s) = refl
 
-never_goes : (f : Option ℤ → on.Found) (r : machine.Run (Option ℤ)) (x : on.Found) (s : State) → given f (then_do r end_with) ≡ Goes x s → ⊥
+pub never_goes : (f : Option ℤ → on.Found) (r : machine.Run (Option ℤ)) (x : on.Found) (s : State) → given f (then_do r end_with) ≡ Goes x s → ⊥
 never_goes f (Goes v t) x s h = cc h
 never_goes f (Stops e t) x s h = cc h
 

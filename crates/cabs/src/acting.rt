@@ -6,6 +6,7 @@ ghost use Rattle.ctypes.specs.Types.{modulo};
 ghost use Rattle.typed_ast.specs.View.{callee_of};
 ghost use Rattle.csem.specs.Expressions as meaning;
 ghost use Rattle.csem.specs.History.{Entry};
+ghost use Rattle.csem.specs.Store.{Store};
 ghost use Rattle.io_ports.specs.Port.{PortView};
 ghost use Rattle.typing_spec.specs.Program as typed;
 ghost use Rattle.interp_store.specs.layer.Frames as on;
@@ -36,6 +37,8 @@ pub fn finish<P: Port, O: Observer>(
         StoppingBy (Knows b (O.told observer.old)) p whole o sent stop interpreter.old (P.seen port.old) → StoppedBy (Knows b (O.told observer.new)) p whole o sent result interpreter.new.tally (P.seen port.new) }
     ensures counts { Counts result (P.seen port.old).failures (P.seen port.new).failures }
     ensures fault { Blames (P.refused_with port.new) result }
+    ensures shown { (l : List Store) → O.shown observer.old l → O.shown observer.new l }
+    ensures always { O.always observer.old → O.always observer.new }
 {
     observer.stops(&stop);
     match stop {
@@ -65,6 +68,8 @@ fn act_found<'p, P: Port, O: Observer>(
     ensures nears { Nears (frames_of interpreter.old.machine) (on.leaves (found_of found)) result (frames_of interpreter.new.machine) }
     ensures counts { CountsUntil result (P.seen port.old).failures (P.seen port.new).failures }
     ensures fault { BlamesUntil (P.refused_with port.new) result }
+    ensures shown { (l : List Store) → O.shown observer.old l → O.shown observer.new l }
+    ensures always { O.always observer.old → O.always observer.new }
 {
     let Some(frame) = interpreter.machine.pop() else {
         return Err(Run::TicksUsed);
@@ -94,6 +99,8 @@ fn get<'p, P: Port, O: Observer>(
     ensures machine { interpreter.new.machine ≡ interpreter.old.machine }
     ensures counts { CountsUntil result (P.seen port.old).failures (P.seen port.new).failures }
     ensures fault { BlamesUntil (P.refused_with port.new) result }
+    ensures shown { (l : List Store) → O.shown observer.old l → O.shown observer.new l }
+    ensures always { O.always observer.old → O.always observer.new }
 {
     if interpreter.kept.is_some() {
         return Err(Run::Memory);
@@ -125,6 +132,8 @@ fn put<'p, O: Observer>(
     ensures found { IfOk result (λ x. IsLeft x) }
     ensures machine { interpreter.new.machine ≡ interpreter.old.machine }
     ensures memory { IfErr result (λ run. run ≡ Run.Memory) }
+    ensures shown { (l : List Store) → O.shown observer.old l → O.shown observer.new l }
+    ensures always { O.always observer.old → O.always observer.new }
 {
     match interpreter.kept {
         Some(_) => Err(Run::Memory),
@@ -143,7 +152,9 @@ fn tell_call<O: Observer>(
     callee: Callee,
     passed: &[Passed],
 )
-    ensures { (h : List Entry) → O.told observer.old h → O.told observer.new h }
+    ensures told { (h : List Entry) → O.told observer.old h → O.told observer.new h }
+    ensures shown { (l : List Store) → O.shown observer.old l → O.shown observer.new l }
+    ensures always { O.always observer.old → O.always observer.new }
 {
     if let Callee::Function(f) = callee {
         observer.enters(f, passed, &interpreter.machine.scene);
@@ -168,6 +179,8 @@ fn act_call<'p, P: Port, O: Observer>(
     ensures nears { Nears (frames_of interpreter.old.machine) (on.calls at (callee_of callee) used (map passed_of passed.now)) result (frames_of interpreter.new.machine) }
     ensures counts { CountsUntil result (P.seen port.old).failures (P.seen port.new).failures }
     ensures fault { BlamesUntil (P.refused_with port.new) result }
+    ensures shown { (l : List Store) → O.shown observer.old l → O.shown observer.new l }
+    ensures always { O.always observer.old → O.always observer.new }
 {
     match interpreter.count_call(observer, callee) {
         Ok(()) => {}
@@ -198,6 +211,8 @@ pub fn act<'p, P: Port, O: Observer>(
     ensures nears { NearsFrom (frames_of interpreter.old.machine) (step_of next.entry) result (frames_of interpreter.new.machine) }
     ensures counts { CountsUntil result (P.seen port.old).failures (P.seen port.new).failures }
     ensures fault { BlamesUntil (P.refused_with port.new) result }
+    ensures shown { (l : List Store) → O.shown observer.old l → O.shown observer.new l }
+    ensures always { O.always observer.old → O.always observer.new }
 {
     match next {
         Step::Enters(node) => Ok(Step::Enters(node)),

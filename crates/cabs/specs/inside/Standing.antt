@@ -1,5 +1,5 @@
 -- Where a run stands between two steps, and how it stops, over a port that tells its input.
-use Rattle.std.specs.Prelude.{◌≡◌, ◌≤◌, ◌<◌, ◌⊎◌, ℕ, ◌+◌, ◌*◌, List, [], ◌∷◌, ◌++◌, length, Bool, true, false, Option, Some, None, Result, Ok, Err, ⊤, slice_get}
+use Rattle.std.specs.Prelude.{◌≡◌, ◌≤◌, ◌<◌, ◌⊎◌, ℕ, zero, suc, ◌+◌, ◌*◌, List, [], ◌∷◌, ◌++◌, length, Bool, true, false, Option, Some, None, Result, Ok, Err, ⊤, slice_get}
 use Rattle.std.specs.Bool.{OnTrue}
 use Rattle.std.specs.Io.KnownBytes.{Appends}
 use Rattle.csem_events.specs.Events.{written}
@@ -8,7 +8,7 @@ use Rattle.typed_ast.specs.View.{program_of}
 use Rattle.csem.specs.History.{Entry, Entered, Left, trace_of}
 use Rattle.csem.specs.Machine as machine
 use Rattle.csem.specs.Machine.{Ending, State, Stops, Goes}
-use Rattle.csem.specs.Store.{first_store}
+use Rattle.csem.specs.Store.{Store, first_store}
 use Rattle.csem.specs.Meaning.{last_of}
 use Rattle.interp_store.specs.declared.stop.Stop.{Stop}
 use Rattle.interp_store.specs.declared.stop.Stop.TheVariants as stop
@@ -268,3 +268,43 @@ IsCalm (Err (run.Undefined act at)) = ⊤
 IsCalm (Err run.TicksUsed) = ⊤
 IsCalm (Err (run.Port fault)) = ⊥
 IsCalm (Err run.Memory) = ⊤
+
+-- ---- what an observer was shown
+
+-- the objects with which the first k of these runs stop, those of the last first
+abbrev pub moments_of : Whole → ℕ → List Store
+moments_of all zero = []
+moments_of all (suc k) = (last_of (all k)).store ∷ moments_of all k
+
+-- a run stops for want of a tick
+abbrev pub Waits : machine.Run on.Found → Type 0
+Waits whole = (s : State) × (whole ≡ Stops machine.TicksUsed s)
+
+-- k ticks were taken, and each was shown
+pub record Showing (S : List Store → Type 0) (all : Whole) (k : ℕ) : Type 0 where
+  pub shown : S (moments_of all k)
+  pub waits : (j : ℕ) → j < k → Waits (all j)
+
+-- and the run stops there
+pub record ShowsWhole (S : List Store → Type 0) (all : Whole) (ticks : ℕ) (e : Ending) : Type 0 where
+  pub taken : ℕ
+  pub within : taken ≤ ticks
+  pub shows : Showing S all taken
+  pub state : State
+  pub stops : all taken ≡ Stops e state
+
+abbrev pub ShowsSome : (List Store → Type 0) → Whole → ℕ → Type 0
+ShowsSome S all ticks = (k : ℕ) × ((k ≤ ticks) × Showing S all k)
+
+-- what was shown of a run of so many ticks that stops so
+abbrev pub ShowsUntil : (List Store → Type 0) → Whole → ℕ → Run → Type 0
+ShowsUntil S all ticks (run.Ended status) = ShowsWhole S all ticks (machine.Ended status)
+ShowsUntil S all ticks (run.Undefined act at) = ShowsWhole S all ticks (machine.Undefined act at)
+ShowsUntil S all ticks run.TicksUsed = Showing S all ticks ⊎ ((k : ℕ) × ((x : on.Found) × ((s : State) × (all k ≡ Goes x s))))
+ShowsUntil S all ticks (run.Port fault) = ShowsSome S all ticks
+ShowsUntil S all ticks run.Memory = ShowsSome S all ticks
+
+-- the run goes on with so many ticks spent, or it stops where so many are allowed
+abbrev pub ShowsAt : (List Store → Type 0) → Whole → ℕ → Result Step Run → ℕ → Type 0
+ShowsAt S all limit (Ok x) spent = Showing S all spent
+ShowsAt S all limit (Err r) spent = ShowsUntil S all limit r
