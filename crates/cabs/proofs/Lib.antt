@@ -2,6 +2,8 @@ pub mod Laid
 pub mod Calm
 pub mod Following
 pub mod Telling
+pub mod Growing
+pub mod Begun
 pub mod Told
 pub mod Acts
 pub mod Ticking

@@ -1,5 +1,5 @@
 -- What an observer was shown, through a run.
-use Rattle.std.proofs.Common.{◌≡◌, ◌≤◌, ◌<◌, inl, inr, ℕ, zero, suc, ◌+◌, List, [], ◌∷◌, Option, refl, sym, ap, ◌∙◌, subst, arith, Bor}
+use Rattle.std.proofs.Common.{◌≡◌, ◌≤◌, ◌<◌, inl, inr, ℕ, zero, suc, ◌+◌, List, [], ◌∷◌, refl, sym, ap, ◌∙◌, subst, arith, Bor}
 use Rattle.std.proofs.lemmas.Bool.{cases_lt}
 use Rattle.typing_spec.specs.Program as typed
 use Rattle.typed_ast.specs.declared.units.Program as unit
@@ -19,7 +19,7 @@ use Rattle.cabs.specs.declared.state.Interpreter.{Interpreter}
 use Rattle.cabs.specs.declared.outcome.Run.{Run}
 use Rattle.cabs.specs.declared.outcome.Run.TheVariants as run
 use Rattle.cabs.specs.Interpreting.{moments, IsShownWhole, IsShownSome, IsShown}
-use Rattle.cabs.specs.inside.Standing.{Whole, Stands, StopsAs, StoppedBy, moments_of, Waits, Showing, ShowsWhole, ShowsUntil}
+use Rattle.cabs.specs.inside.Standing.{Outset, Whole, Stands, StopsAs, StoppedBy, moments_of, Waits, Showing, ShowsWhole, ShowsUntil}
 use Rattle.cabs.proofs.Following.{outside, node_waits_in}
 use Rattle.cabs.proofs.Ticking.{given_stops, given_last, never_goes, as_found, run_of}
 
@@ -52,7 +52,7 @@ shown_next S U all k s tell is shows =
     }
 
 -- at a node that takes the next tick
-pub tick_shown : (T : List Entry → Type 0) (S U : List Store → Type 0) (p : typed.Program) (all : Whole) (o : Option (List ℕ)) (k : ℕ) (now : List ℕ) (mid : Interpreter) (x : on.Node) (port : PortView) →
+pub tick_shown : (T : List Entry → Type 0) (S U : List Store → Type 0) (p : typed.Program) (all : Whole) (o : Outset) (k : ℕ) (now : List ℕ) (mid : Interpreter) (x : on.Node) (port : PortView) →
     Stands T p (λ n. all (n + k)) o now mid (enters x) port → ((l : List Store) → S l → U (store_of mid.machine.scene.store ∷ l)) → Showing S all k → Showing U all (k + 1)
 tick_shown T S U p all o k now mid x port s tell shows =
     let same : k ≡ 0 + k = omega arith in
@@ -68,7 +68,7 @@ module _ (S : List Store → Type 0) (all : Whole) (k ticks : ℕ) (le : k ≤ t
       let same : k ≡ 0 + k = omega arith in
       record { taken = k; within = le; shows = shows; state = s.state; stops = ap all same ∙ s.is }
 
-  pub shown_until : (T : List Entry → Type 0) (p : typed.Program) (o : Option (List ℕ)) (sent : List ℕ) (r : Run) (tally : Tally) (port : PortView) →
+  pub shown_until : (T : List Entry → Type 0) (p : typed.Program) (o : Outset) (sent : List ℕ) (r : Run) (tally : Tally) (port : PortView) →
       StoppedBy T p (λ n. all (n + k)) o sent r tally port → ShowsUntil S all ticks r
   shown_until T p o sent (run.Ended status) tally port s = shown_whole (machine.Ended status) s.input s.history (s.stops 0)
   shown_until T p o sent (run.Undefined act at) tally port s = shown_whole (machine.Undefined act at) s.input s.history (s.stops 0)

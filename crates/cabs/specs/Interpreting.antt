@@ -1,10 +1,10 @@
 -- What interpreting a program comes to, over a port that tells its input, and perhaps its output.
-use Rattle.std.specs.Prelude.{◌≡◌, ◌≤◌, ◌<◌, ℕ, zero, suc, List, [], ◌∷◌, Option, None, Some, ⊤}
+use Rattle.std.specs.Prelude.{◌≡◌, ◌≤◌, ◌<◌, ℕ, zero, suc, List, [], ◌∷◌, ◌++◌, Option, None, Some, ⊤}
 use Rattle.std.specs.Io.KnownBytes.{Appends}
 use Rattle.typing_spec.specs.Program.{Program}
 use Rattle.csem.specs.Machine.{Ending, Ended, Undefined, TicksUsed}
-use Rattle.csem_events.specs.Events.{Event, Got, GotEnd}
-use Rattle.csem.specs.History.{Entry}
+use Rattle.csem_events.specs.Events.{Event, Got, GotEnd, written, taken}
+use Rattle.csem.specs.History.{Entry, trace_of}
 use Rattle.csem.specs.Store.{Store}
 use Rattle.csem.specs.Meaning.{Answer, answer, cstep, last_of}
 use Rattle.io_ports.specs.declared.port.PortFault.{PortFault}
@@ -23,13 +23,25 @@ pub record IsAnswer (a : Answer) (e : Ending) (greatest : ℕ) (old new : PortVi
 abbrev pub IsGivenUp : Program → List ℕ → ℕ → PortView → PortView → Type 0
 IsGivenUp p input ticks old new = (clock : ℕ) × ((clock ≤ ticks) × Appends old.output new.output (answer clock p input).output)
 
+-- what was got and put together is a beginning of what the run does with some clock no greater: all events up to one of them, the
+-- newest first. So no byte is held back that was put before another was got
+pub record IsBegun (p : Program) (input : List ℕ) (ticks : ℕ) (old new : PortView) : Type 0 where
+  pub clock : ℕ
+  pub within : clock ≤ ticks
+  pub events : List Event
+  pub begins : (newer : List Event) × (trace_of (last_of (cstep clock p input)).history ≡ newer ++ events)
+  pub output_is : Appends old.output new.output (written events)
+  pub left : List ℕ
+  pub left_is : new.input ≡ Some left
+  pub got_is : input ≡ taken events ++ left
+
 -- what the run of p on this input with so many ticks came to: it is the definition's, or it was given up
 abbrev pub RunMeets : Program → List ℕ → ℕ → Run → ℕ → PortView → PortView → Type 0
 RunMeets p input ticks (run.Ended status) greatest old new = IsAnswer (answer ticks p input) (Ended status) greatest old new
 RunMeets p input ticks (run.Undefined act at) greatest old new = IsAnswer (answer ticks p input) (Undefined act at) greatest old new
 RunMeets p input ticks run.TicksUsed greatest old new = IsAnswer (answer ticks p input) TicksUsed greatest old new
-RunMeets p input ticks (run.Port fault) greatest old new = IsGivenUp p input ticks old new
-RunMeets p input ticks run.Memory greatest old new = IsGivenUp p input ticks old new
+RunMeets p input ticks (run.Port fault) greatest old new = IsGivenUp p input ticks old new × IsBegun p input ticks old new
+RunMeets p input ticks run.Memory greatest old new = IsGivenUp p input ticks old new × IsBegun p input ticks old new
 
 -- ---- what an observer was told
 

@@ -13,7 +13,7 @@ ghost use Rattle.interp_store.specs.layer.Frames as on;
 ghost use Rattle.interp_store.specs.layer.Agrees.{frames_of};
 ghost use Rattle.interp_store.specs.layer.Views.{found_of, passed_of, step_of};
 ghost use Rattle.cabs.specs.Interpreting.{Blames, Counts};
-ghost use Rattle.cabs.specs.inside.Standing.{ActMeets, BlamesUntil, CountsUntil, IsLeft, Knows, Nears, NearsFrom, Stands, StoppedBy, StoppingBy, Whole};
+ghost use Rattle.cabs.specs.inside.Standing.{ActMeets, BlamesUntil, CountsUntil, IsLeft, Knows, Nears, NearsFrom, Outset, Stands, StoppedBy, StoppingBy, Whole};
 
 use crate::observing::Observer;
 use crate::outcome::Run;
@@ -33,7 +33,7 @@ pub fn finish<P: Port, O: Observer>(
     observer: &mut O,
     stop: Stop,
 ) -> Run
-    ensures meets { (b : Bool) (p : typed.Program) (whole : Whole) (o : Option (List ℕ)) (sent : List ℕ) →
+    ensures meets { (b : Bool) (p : typed.Program) (whole : Whole) (o : Outset) (sent : List ℕ) →
         StoppingBy (Knows b (O.told observer.old)) p whole o sent stop interpreter.old (P.seen port.old) → StoppedBy (Knows b (O.told observer.new)) p whole o sent result interpreter.new.tally (P.seen port.new) }
     ensures counts { Counts result (P.seen port.old).failures (P.seen port.new).failures }
     ensures fault { Blames (P.refused_with port.new) result }
@@ -63,7 +63,7 @@ fn act_found<'p, P: Port, O: Observer>(
     observer: &mut O,
     found: Found,
 ) -> Result<Step<'p>, Run>
-    ensures meets { (b : Bool) (p : typed.Program) (whole : Whole) (o : Option (List ℕ)) (sent : List ℕ) →
+    ensures meets { (b : Bool) (p : typed.Program) (whole : Whole) (o : Outset) (sent : List ℕ) →
         Stands (Knows b (O.told observer.old)) p whole o sent interpreter.old (on.leaves (found_of found)) (P.seen port.old) → ActMeets (Knows b (O.told observer.new)) p whole o sent result interpreter.new (P.seen port.new) }
     ensures nears { Nears (frames_of interpreter.old.machine) (on.leaves (found_of found)) result (frames_of interpreter.new.machine) }
     ensures counts { CountsUntil result (P.seen port.old).failures (P.seen port.new).failures }
@@ -93,7 +93,7 @@ fn get<'p, P: Port, O: Observer>(
     port: &mut P,
     observer: &mut O,
 ) -> Result<Step<'p>, Run>
-    ensures meets { (b : Bool) (p : typed.Program) (whole : Whole) (o : Option (List ℕ)) (sent : List ℕ) (at : Pos) (used : Bool) (passed : List meaning.Passed) →
+    ensures meets { (b : Bool) (p : typed.Program) (whole : Whole) (o : Outset) (sent : List ℕ) (at : Pos) (used : Bool) (passed : List meaning.Passed) →
         Stands (Knows b (O.told observer.old)) p whole o sent interpreter.old (on.calls at typed.get_byte used passed) (P.seen port.old) → ActMeets (Knows b (O.told observer.new)) p whole o sent result interpreter.new (P.seen port.new) }
     ensures found { IfOk result (λ x. IsLeft x) }
     ensures machine { interpreter.new.machine ≡ interpreter.old.machine }
@@ -126,7 +126,7 @@ fn put<'p, O: Observer>(
     observer: &mut O,
     byte: u8,
 ) -> Result<Step<'p>, Run>
-    ensures meets { (b : Bool) (p : typed.Program) (whole : Whole) (o : Option (List ℕ)) (sent : List ℕ) (at : Pos) (used : Bool) (passed : List meaning.Passed) (port : PortView) →
+    ensures meets { (b : Bool) (p : typed.Program) (whole : Whole) (o : Outset) (sent : List ℕ) (at : Pos) (used : Bool) (passed : List meaning.Passed) (port : PortView) →
         byte ≡ modulo 8 (meaning.first_number passed) →
         Stands (Knows b (O.told observer.old)) p whole o sent interpreter.old (on.calls at typed.put_byte used passed) port → ActMeets (Knows b (O.told observer.new)) p whole o sent result interpreter.new port }
     ensures found { IfOk result (λ x. IsLeft x) }
@@ -173,7 +173,7 @@ fn act_call<'p, P: Port, O: Observer>(
     used: bool,
     passed: &[Passed],
 ) -> Result<Step<'p>, Run>
-    ensures meets { (b : Bool) (p : typed.Program) (whole : Whole) (o : Option (List ℕ)) (sent : List ℕ) →
+    ensures meets { (b : Bool) (p : typed.Program) (whole : Whole) (o : Outset) (sent : List ℕ) →
         Stands (Knows b (O.told observer.old)) p whole o sent interpreter.old (on.calls at (callee_of callee) used (map passed_of passed.now)) (P.seen port.old) →
         ActMeets (Knows b (O.told observer.new)) p whole o sent result interpreter.new (P.seen port.new) }
     ensures nears { Nears (frames_of interpreter.old.machine) (on.calls at (callee_of callee) used (map passed_of passed.now)) result (frames_of interpreter.new.machine) }
@@ -206,7 +206,7 @@ pub fn act<'p, P: Port, O: Observer>(
     observer: &mut O,
     next: Step<'p>,
 ) -> Result<Step<'p>, Run>
-    ensures meets { (b : Bool) (p : typed.Program) (whole : Whole) (o : Option (List ℕ)) (sent : List ℕ) →
+    ensures meets { (b : Bool) (p : typed.Program) (whole : Whole) (o : Outset) (sent : List ℕ) →
         Stands (Knows b (O.told observer.old)) p whole o sent interpreter.old (step_of next.entry) (P.seen port.old) → ActMeets (Knows b (O.told observer.new)) p whole o sent result interpreter.new (P.seen port.new) }
     ensures nears { NearsFrom (frames_of interpreter.old.machine) (step_of next.entry) result (frames_of interpreter.new.machine) }
     ensures counts { CountsUntil result (P.seen port.old).failures (P.seen port.new).failures }

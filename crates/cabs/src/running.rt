@@ -13,7 +13,7 @@ ghost use Rattle.interp_eval.specs.layer.Quick.{quick_node};
 ghost use Rattle.csem.specs.History.{Entry};
 ghost use Rattle.csem.specs.Store.{Store};
 ghost use Rattle.cabs.specs.Interpreting.{Blames, Counts, IsShown, IsTold, RunMeets};
-ghost use Rattle.cabs.specs.inside.Standing.{BlamesUntil, CountsUntil, Fresh, Knows, MeetsAt, RunStops, Runs, SettleMeets, Showing, ShowsAt, ShowsUntil, Spends, Stands, Whole};
+ghost use Rattle.cabs.specs.inside.Standing.{BlamesUntil, CountsUntil, Fresh, Knows, MeetsAt, Outset, RunStops, Runs, SettleMeets, Showing, ShowsAt, ShowsUntil, Spends, Stands, Whole};
 
 use crate::acting::{act, finish};
 use crate::observing::{Observer, Unobserved};
@@ -39,7 +39,7 @@ fn reach<'p, P: Port>(
     port: &mut P,
     node: Node<'p>,
 ) -> Result<Node<'p>, Run>
-    ensures meets { (h : List Entry) (p : typed.Program) (whole : Whole) (o : Option (List ℕ)) (sent : List ℕ) →
+    ensures meets { (h : List Entry) (p : typed.Program) (whole : Whole) (o : Outset) (sent : List ℕ) →
         Stands (λ g. g ≡ h) p whole o sent interpreter.old (on.enters (node_of node.entry)) (P.seen port.old) → SettleMeets (λ g. g ≡ h) p whole o sent result interpreter.new (P.seen port.new) }
     ensures counts { CountsUntil result (P.seen port.old).failures (P.seen port.new).failures }
     ensures fault { BlamesUntil (P.refused_with port.new) result }
@@ -59,7 +59,7 @@ fn settle<'p, P: Port, O: Observer>(
     observer: &mut O,
     first: Step<'p>,
 ) -> Result<Node<'p>, Run>
-    ensures meets { (b : Bool) (p : typed.Program) (whole : Whole) (o : Option (List ℕ)) (sent : List ℕ) →
+    ensures meets { (b : Bool) (p : typed.Program) (whole : Whole) (o : Outset) (sent : List ℕ) →
         Stands (Knows b (O.told observer.old)) p whole o sent interpreter.old (step_of first.entry) (P.seen port.old) → SettleMeets (Knows b (O.told observer.new)) p whole o sent result interpreter.new (P.seen port.new) }
     ensures shown { (l : List Store) → O.shown observer.old l → O.shown observer.new l }
     ensures always { O.always observer.old → O.always observer.new }
@@ -120,9 +120,9 @@ fn tick<'p, P: Port, O: Observer>(
     limit: u64,
 ) -> Result<Step<'p>, Run>
     requires room { spent.old < limit }
-    ensures meets { (b : Bool) (p : typed.Program) (all : Whole) (o : Option (List ℕ)) →
+    ensures meets { (b : Bool) (p : typed.Program) (all : Whole) (o : Outset) →
         Runs (Knows b (O.told observer.old)) p all o spent.old interpreter.old (step_of next.entry) (P.seen port.old) → MeetsAt (Knows b (O.told observer.new)) p all o limit result spent.new interpreter.new (P.seen port.new) }
-    ensures shows { (b : Bool) (p : typed.Program) (all : Whole) (o : Option (List ℕ)) →
+    ensures shows { (b : Bool) (p : typed.Program) (all : Whole) (o : Outset) →
         Runs (Knows b (O.told observer.old)) p all o spent.old interpreter.old (step_of next.entry) (P.seen port.old) → O.always observer.old → Showing (O.shown observer.old) all spent.old →
         ShowsAt (O.shown observer.new) all limit result spent.new }
     ensures always { O.always observer.old → O.always observer.new }
@@ -153,9 +153,9 @@ fn run_on<'p, P: Port, O: Observer>(
     first: Step<'p>,
     ticks: u64,
 ) -> Run
-    ensures meets { (b : Bool) (p : typed.Program) (all : Whole) (o : Option (List ℕ)) →
+    ensures meets { (b : Bool) (p : typed.Program) (all : Whole) (o : Outset) →
         Runs (Knows b (O.told observer.old)) p all o 0 interpreter.old (step_of first.entry) (P.seen port.old) → RunStops (Knows b (O.told observer.new)) p all o ticks result interpreter.new.tally (P.seen port.new) }
-    ensures shows { (b : Bool) (p : typed.Program) (all : Whole) (o : Option (List ℕ)) →
+    ensures shows { (b : Bool) (p : typed.Program) (all : Whole) (o : Outset) →
         Runs (Knows b (O.told observer.old)) p all o 0 interpreter.old (step_of first.entry) (P.seen port.old) → O.always observer.old → Showing (O.shown observer.old) all 0 →
         ShowsUntil (O.shown observer.new) all ticks result }
     ensures counts { Counts result (P.seen port.old).failures (P.seen port.new).failures }

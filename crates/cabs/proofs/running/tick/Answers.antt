@@ -24,7 +24,7 @@ returns-then-is_whole-clause-meets g c b p all o r =
     let T = Knows b (g.O.Observer.told c.settle.new.observer) in
     let here = stands_rested T p (λ n. all (n + k)) o met.0 _ _ _ _ met.1.0 c.rest_before.ensures in
     let h = here.history in
-    meets_at_told (λ g. g ≡ h) T (same_history T h here.told) p o all _ _ _ _ _ (c.at_once.ensures.meets h p all o met.0 _ c.requires.room (exactly T p (λ n. all (n + k)) o met.0 _ _ _ here) met.1.1)
+    meets_at_told (λ g. g ≡ h) T (same_history T h here.told) p o all _ _ _ _ _ (c.at_once.ensures.meets h p all o met.0 _ c.requires.room r.grows (exactly T p (λ n. all (n + k)) o met.0 _ _ _ here) met.1.1)
 
 pub returns-in-Ok-take_tick-clause-meets : goal.returns-in-Ok-take_tick-clause-meets
 returns-in-Ok-take_tick-clause-meets g c b p all o r =
@@ -33,7 +33,7 @@ returns-in-Ok-take_tick-clause-meets g c b p all o r =
     let T = g.O.Observer.told c.settle.new.observer in
     let U = g.O.Observer.told c.take_tick.new.observer in
     let here = stands_told (Knows b T) (Knows b U) (known b T U (λ h. h) c.in-Ok-take_tick.ensures.told) p o (λ n. all (n + k)) met.0 _ _ _ met.1.0 in
-    tick_goes (Knows b U) p all o k met.0 c.settle.new.interpreter (node_of c.in-Ok.node) _ here met.1.1 c.take_tick.new.interpreter c.in-Ok-take_tick.then c.in-Ok-take_tick.ensures.tally c.in-Ok-take_tick.ensures.kept c.in-Ok-take_tick.ensures.program c.in-Ok-take_tick.ensures.takes
+    tick_goes (Knows b U) p all o k met.0 c.settle.new.interpreter (node_of c.in-Ok.node) _ here met.1.1 r.grows c.take_tick.new.interpreter c.in-Ok-take_tick.then c.in-Ok-take_tick.ensures.tally c.in-Ok-take_tick.ensures.kept c.in-Ok-take_tick.ensures.program c.in-Ok-take_tick.ensures.takes
 
 pub returns-in-Err-take_tick-clause-meets : goal.returns-in-Err-take_tick-clause-meets
 returns-in-Err-take_tick-clause-meets g c b p all o r =
@@ -45,7 +45,7 @@ returns-in-Err-take_tick-clause-meets g c b p all o r =
     let V = Knows b (g.O.Observer.told c.finish.new.observer) in
     let here = stands_told (Knows b T) (Knows b U) (known b T U (λ h. h) c.in-Err-take_tick.ensures.told) p o (λ n. all (n + k)) met.0 _ _ _ met.1.0 in
     run_stops V p all o (k + 1) c.args.limit _ _ _ le (tick_stops (Knows b U) V p all o k met.0 c.settle.new.interpreter (node_of c.in-Ok.node) _ here met.1.1 _ _ _
-    (c.finish.ensures.meets b p (λ n. all (n + (k + 1))) o met.0 (tick_stopping (Knows b U) p all o k met.0 c.settle.new.interpreter (node_of c.in-Ok.node) _ here met.1.1 c.take_tick.new.interpreter c.in-Err-take_tick.stop c.in-Err-take_tick.ensures.tally c.in-Err-take_tick.ensures.kept c.in-Err-take_tick.ensures.takes)))
+    (c.finish.ensures.meets b p (λ n. all (n + (k + 1))) o met.0 (tick_stopping (Knows b U) p all o k met.0 c.settle.new.interpreter (node_of c.in-Ok.node) _ here met.1.1 r.grows c.take_tick.new.interpreter c.in-Err-take_tick.stop c.in-Err-take_tick.ensures.tally c.in-Err-take_tick.ensures.kept c.in-Err-take_tick.ensures.takes)))
 
 pub returns-in-Err-clause-shows : goal.returns-in-Err-clause-shows
 returns-in-Err-clause-shows g c b p all o r a s =
@@ -82,4 +82,4 @@ returns-in-Err-take_tick-clause-shows g c b p all o r a s =
     let here = stands_told T (Knows b Behind) (known b Told Behind (λ h. h) c.in-Err-take_tick.ensures.told) p o (λ n. all (n + k)) met.0 _ _ _ met.1.0 in
     let shows = tick_shown T S U p all o k met.0 c.settle.new.interpreter (node_of c.in-Ok.node) _ met.1.0 (λ l h. c.finish.ensures.shown _ (c.in-Err-take_tick.ensures.shown l (c.in-Ok.ensures.shown l h))) s in
     shown_until U all (k + 1) c.args.limit le shows V p o met.0 _ _ _
-    (c.finish.ensures.meets b p (λ n. all (n + (k + 1))) o met.0 (tick_stopping (Knows b Behind) p all o k met.0 c.settle.new.interpreter (node_of c.in-Ok.node) _ here met.1.1 c.take_tick.new.interpreter c.in-Err-take_tick.stop c.in-Err-take_tick.ensures.tally c.in-Err-take_tick.ensures.kept c.in-Err-take_tick.ensures.takes))
+    (c.finish.ensures.meets b p (λ n. all (n + (k + 1))) o met.0 (tick_stopping (Knows b Behind) p all o k met.0 c.settle.new.interpreter (node_of c.in-Ok.node) _ here met.1.1 r.grows c.take_tick.new.interpreter c.in-Err-take_tick.stop c.in-Err-take_tick.ensures.tally c.in-Err-take_tick.ensures.kept c.in-Err-take_tick.ensures.takes))
