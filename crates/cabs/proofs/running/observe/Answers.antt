@@ -5,7 +5,7 @@ use Rattle.cabs.proofs.Showing.{none_shown, shown_new}
 use Rattle.cabs.proofs.running.observe.Goals as goal
 
 pub returns-in-Err-clause-meets : goal.returns-in-Err-clause-meets
-returns-in-Err-clause-meets g c input given = given_up_first (program_of c.args.program.now) input c.args.ticks (g.P.Port.seen c.args.port.now)
+returns-in-Err-clause-meets g c input given = given_up_first (program_of c.args.program.now) input c.args.ticks (g.P.Port.seen c.args.port.now) given
 
 pub returns-clause-meets : goal.returns-clause-meets
 returns-clause-meets g c input given =

@@ -7,11 +7,11 @@ use Rattle.cabs.specs.declared.state.Interpreter.{Interpreter}
 use Rattle.cabs.specs.inside.Standing.{Knows, history_called}
 use Rattle.cabs.proofs.Told.{asked, known, nothing_told}
 use Rattle.cabs.proofs.Showing.{is_shown, none_shown, nothing_shown, shown_until}
-use Rattle.cabs.proofs.Ticking.{run_of, answered, told_as, given_up_first, main_runs, main_stopping, main_stopped}
+use Rattle.cabs.proofs.Ticking.{outset, run_of, answered, told_as, given_up_first, main_runs, main_stopping, main_stopped}
 use Rattle.cabs.proofs.running.start.Goals as goal
 
 pub returns-in-Err-clause-meets : goal.returns-in-Err-clause-meets
-returns-in-Err-clause-meets g c b input given fresh told = (given_up_first (program_of c.args.interpreter.now.machine.program.now) input c.args.ticks (g.P.Port.seen c.args.port.now), nothing_told b)
+returns-in-Err-clause-meets g c b input given fresh told = (given_up_first (program_of c.args.interpreter.now.machine.program.now) input c.args.ticks (g.P.Port.seen c.args.port.now) given, nothing_told b)
 
 pub returns-in-Ok-call_function-clause-meets : goal.returns-in-Ok-call_function-clause-meets
 returns-in-Ok-call_function-clause-meets g c b input given fresh told =
@@ -42,7 +42,7 @@ returns-in-Err-call_function-clause-meets g c b input given fresh told =
     let W = g.O.Observer.told c.finish.new.observer in
     let begun = known b T U (history_called p (typed.function p.main)) c.in-Ok.ensures.told [] told in
     let stops = main_stopped (Knows b W) p input port c.args.ticks _ _ (g.P.Port.seen c.finish.new.port)
-    (c.finish.ensures.meets b p (λ n. run_of p input (n + 0)) port.output [] (main_stopping (Knows b U) p input old new mid main port fresh same prog refl given c.in-Ok.ensures.tells begun c.in-Ok.ensures.kept c.in-Err-call_function.stop c.in-Err-call_function.ensures.acts)) in
+    (c.finish.ensures.meets b p (λ n. run_of p input (n + 0)) (outset input port) [] (main_stopping (Knows b U) p input old new mid main port fresh same prog refl given c.in-Ok.ensures.tells begun c.in-Ok.ensures.kept c.in-Err-call_function.stop c.in-Err-call_function.ensures.acts)) in
     (answered (Knows b W) p input c.args.ticks _ _ _ _ stops, asked b W p input c.args.ticks _ (told_as (Knows b W) p input c.args.ticks _ (g.P.Port.seen c.args.port.now) (g.P.Port.seen c.finish.new.port) _ stops))
 
 pub returns-in-Err-clause-shown : goal.returns-in-Err-clause-shown
@@ -76,5 +76,5 @@ returns-in-Err-call_function-clause-shown g c input given fresh always shown =
     let W = g.O.Observer.told c.finish.new.observer in
     let S = g.O.Observer.shown c.finish.new.observer in
     let shows = nothing_shown S (run_of p input) (c.finish.ensures.shown [] (c.in-Ok.ensures.shown [] shown)) in
-    is_shown p input S c.args.ticks _ (shown_until S (run_of p input) 0 c.args.ticks (omega arith) shows (Knows false W) p port.output [] _ _ (g.P.Port.seen c.finish.new.port)
-    (c.finish.ensures.meets false p (λ n. run_of p input (n + 0)) port.output [] (main_stopping (Knows false U) p input old new mid main port fresh same prog refl given c.in-Ok.ensures.tells tt c.in-Ok.ensures.kept c.in-Err-call_function.stop c.in-Err-call_function.ensures.acts)))
+    is_shown p input S c.args.ticks _ (shown_until S (run_of p input) 0 c.args.ticks (omega arith) shows (Knows false W) p (outset input port) [] _ _ (g.P.Port.seen c.finish.new.port)
+    (c.finish.ensures.meets false p (λ n. run_of p input (n + 0)) (outset input port) [] (main_stopping (Knows false U) p input old new mid main port fresh same prog refl given c.in-Ok.ensures.tells tt c.in-Ok.ensures.kept c.in-Err-call_function.stop c.in-Err-call_function.ensures.acts)))
