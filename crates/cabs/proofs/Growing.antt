@@ -73,7 +73,7 @@ module _ (p : Program) (fs : List Frame) (h : List Entry) (more : List Event) wh
       ((gs : List Frame) (y : Step) (t : State) → onto fs m ≡ moves gs y t → distance gs y ≤ far) → Adds h (resume p (call_in p) fs (resumed p (call_in p) m))
   step_grows far rec (moves pushed y t) clock done near =
       adds_as h _ (resume p (call_in p) (fs ++ pushed) (present p (call_in p) y t)) (sym (resume_more p (call_in p) fs pushed (present p (call_in p) y t)))
-      (adds_behind h t.history more _ done (rec (fs ++ pushed) y t clock (near (fs ++ pushed) y t refl)))
+      (adds_behind h t.history more (resume p (call_in p) (fs ++ pushed) (present p (call_in p) y t)) done (rec (fs ++ pushed) y t clock (near (fs ++ pushed) y t refl)))
   step_grows far rec (halts e t) clock done near = adds_as h _ (Stops e t) (resume_stops p (call_in p) fs e t) (more, done)
 
 node_stays : (p : Program) (fs : List Frame) (n : Node) (s : State) → s.clock ≡ 0 → Adds s.history (resume p (call_in p) fs (present p (call_in p) (enters n) s))
@@ -96,7 +96,7 @@ module _ (p : Program) (far : ℕ) (rec : Grown p far) where
       let out = calm_outside true _ m calm in
       let longer : length fs ≡ length gs + 1 = ap length l.1.1 ∙ length-append gs (f ∷ []) in
       let is : resume p (call_in p) fs (Goes x s) ≡ resume p (call_in p) gs (resumed p (call_in p) m) =
-          ap (λ fs. resume p (call_in p) fs (Goes x s)) l.1.1 ∙ resume_more p (call_in p) gs (f ∷ []) (Goes x s) ∙ ap (resume p (call_in p) gs) (frame_leaves p (call_in p) (real p) f x s) in
+      ap (λ fs. resume p (call_in p) fs (Goes x s)) l.1.1 ∙ resume_more p (call_in p) gs (f ∷ []) (Goes x s) ∙ ap (resume p (call_in p) gs) (frame_leaves p (call_in p) (real p) f x s) in
       adds_as s.history _ _ is (step_grows p gs s.history [] far rec m (ap (λ (o : Outside). o.clock) out ∙ none) (ap (λ (o : Outside). trace_of o.history) out ∙ trace_left (is_flow x) (is_return f) s.history)
       (λ hs y t eq. let near : distance hs y ≤ 2 * length gs + 2 = calm_near _ m gs hs y t calm eq in omega (arith, near, longer, le)))
 

@@ -35,8 +35,8 @@ below_next : (P : ℕ → Type 0) (k j : ℕ) → ((j : ℕ) → j < k → P j) 
 below_next P k j below here le = elim (cases_lt j k) [
   | inl lt ↦ below j lt
   | inr ge ↦
-    let same : k ≡ j = omega (arith, le, ge) in
-    subst P same here
+      let same : k ≡ j = omega (arith, le, ge) in
+      subst P same here
 ]
 
 shown_next : (S U : List Store → Type 0) (all : Whole) (k : ℕ) (s : State) → ((l : List Store) → S l → U (s.store ∷ l)) → all k ≡ Stops machine.TicksUsed s → Showing S all k → Showing U all (k + 1)

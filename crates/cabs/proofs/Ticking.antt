@@ -308,9 +308,11 @@ trace_more (Left ∷ newer) h = trace_more newer h
 run_grows : (p : typed.Program) (input : List ℕ) → Grows (run_of p input)
 unfolding run_of
 run_grows p input k =
-    let g = history_grows k 1 p input in
-    (trace_of g.0, ap (λ (s : State). trace_of s.history) (given_last as_found (cstep (suc k) p input)) ∙ ap trace_of g.1 ∙ trace_more g.0 (last_of (cstep k p input)).history
-    ∙ ap (λ (s : State). trace_of g.0 ++ trace_of s.history) (sym (given_last as_found (cstep k p input))))
+    let g = history_grows k 1 p input in (
+      trace_of g.0,
+      ap (λ (s : State). trace_of s.history) (given_last as_found (cstep (suc k) p input)) ∙ ap trace_of g.1 ∙ trace_more g.0 (last_of (cstep k p input)).history
+          ∙ ap (λ (s : State). trace_of g.0 ++ trace_of s.history) (sym (given_last as_found (cstep k p input))),
+    )
 
 abbrev pub outset : List ℕ → PortView → Outset
 outset input port = record { input = input; output = port.output }
