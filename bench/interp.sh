@@ -1,6 +1,6 @@
 #!/bin/bash
-# Measures `cc interp` on scalars and on an array: millions of ticks a second, and the time of the whole program as a ratio to
-# `cc run` of the same by riscv64-unknown-elf-gcc -O0.
+# Measures `cc interp` on scalars, on an array and on a switch: millions of ticks a second, and the time of the whole program as a
+# ratio to `cc run` of the same by riscv64-unknown-elf-gcc -O0. What the switch comes to is checked.
 #
 #   bash bench/interp.sh [CC [TICKS]]
 #
@@ -29,9 +29,14 @@ char stack[65536] __attribute__((aligned(16)));
 __asm__(".text\n.globl _start\n_start: la sp, stack + 65536\n    call main\n    li a7, 93\n    ecall\n");
 C
 
-for kind in scalars arrays; do
+for kind in scalars arrays switch; do
     source=$root/bench/interp_$kind.c
     cp "$source" $kind.c
+    if [ $kind = switch ]; then
+        "$cc" interp $kind.c >/dev/null 2>&1
+        ended=$?
+        [ $ended -eq 22 ] || { echo "switch: ends with $ended, and 1133334 & 127 is 22"; exit 1; }
+    fi
     one=$(least "$cc" interp $kind.c --max 1)
     some=$(least "$cc" interp $kind.c --max "$ticks")
     awk -v k=$kind -v n="$ticks" -v a="$one" -v b="$some" 'BEGIN { printf "%s: %.1f million ticks a second\n", k, n / (b > a ? b - a : 1) }'

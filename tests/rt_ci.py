@@ -1,6 +1,5 @@
 #!/usr/bin/env python3
-"""rt_ci.py [NAME..]: runs `rt ci` of the kit, for all crates or for these, where two of its questions about a crate are answered once in
-each call.
+"""rt_ci.py: runs `rt ci` of the kit, where two of its questions about a crate are answered once in each call.
 
 What a crate stands on (`below`), and the sum of all that it is made from (`stamp`), the kit's rt asks of each library of the crate, of
 each library of these, and so on: as often as there are ways down. With the crates of this repository these are 3.3 million, by
@@ -64,10 +63,9 @@ def main():
             if inspect.isfunction(vars(kind)[name]):
                 setattr(kind, name, asked_once(vars(kind)[name]))
     except (ImportError, AttributeError, StopIteration, SyntaxError):
-        os.execvp('rt', ['rt', 'ci', *sys.argv[1:]])
-    words = ['ci', *sys.argv[1:]]
-    sys.argv = [rt, *words]
-    return kit.main(words)
+        os.execvp('rt', ['rt', 'ci'])
+    sys.argv = [rt, 'ci']
+    return kit.main(['ci'])
 
 
 if __name__ == '__main__':

@@ -1,4 +1,4 @@
--- What the emission of the items needs of their layout.
+-- The properties of the layout that the emission of the items needs.
 use Rattle.std.proofs.Common.{length, get_or, ◌≡◌, inl, inr, ℕ, zero, suc, ◌+◌, ◌%◌, ◌<◌, ◌≤◌, List, Bool, true, false, refl, sym, ap, ◌∙◌, subst, arith}
 use Rattle.std.specs.Prelude.{slice_index}
 use Rattle.std.proofs.lemmas.Bool.{cases_lt}
@@ -55,7 +55,7 @@ module _ (homes : List ℕ) (base : ℕ) (xs : List Item) (long : List Bool) (pl
   pub near_if_short : (k : ℕ) → k < length xs → NearIfShort (longs long k) (slice_index places k) (address homes places) (item_at xs k)
   near_if_short k lt = near_item k (item_at xs k) lt (table.refers k lt) (c.fits.all k lt)
 
-  -- what reaches with all branches long reaches
+  -- a distance within reach with all branches long is within reach
   reach_back : (j k d : ℕ) → d ≤ 4 → Reach (place all_long base xs j + d) (place all_long base xs k) → Reach (place (longs long) base xs j + d) (place (longs long) base xs k)
   reach_back j k d small n =
       elim (cases_lt k j) [

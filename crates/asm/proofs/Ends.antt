@@ -6,7 +6,7 @@ use Rattle.asm.specs.Layout.{item_at, size, place, all_long, longest, IsLow, End
 use Rattle.std.proofs.lemmas.List.Sums.{sum_by-append}
 use Rattle.asm.proofs.Grow.{apart_most, place_rises}
 
--- without the first item the others stand where they stood
+-- without the first item the others keep their addresses
 without_first : (base : ℕ) (x : Item) (xs : List Item) (k : ℕ) → place all_long base (x ∷ xs) (suc k) ≡ place all_long (base + size true x) xs k
 without_first base x xs zero = refl
 without_first base x xs (suc k) = ap (λ n. n + size true (item_at xs k)) (without_first base x xs k)
@@ -27,6 +27,6 @@ few_low base xs few =
 not_true : (P : Type 0) → (P → ⊥) → IsTrue false ↔ P
 not_true P differs = (λ e. cc, λ p. absurd (differs p))
 
--- items of which some stand high do not end low
+-- items of which some are at high addresses do not end low
 pub not_low : (base : ℕ) (xs : List Item) (k a : ℕ) → k ≤ length xs → a ≡ place all_long base xs k → 0x70000000 ≤ a → IsTrue false ↔ IsLow base xs
 not_low base xs k a le at high = not_true (IsLow base xs) (λ low. omega (arith, place_rises all_long base xs k (length xs) le))

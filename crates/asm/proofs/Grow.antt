@@ -1,4 +1,4 @@
--- More long branches put every item further on, and no two nearer.
+-- More long branches move every item to the same or a higher address, and no two nearer.
 use Rattle.std.proofs.lemmas.List.{get_or_default}
 use Rattle.std.proofs.Common.{length, get_or, ◌≡◌, inl, inr, ℕ, zero, suc, ◌+◌, ◌*◌, ◌<◌, ◌≤◌, List, Bool, true, false, refl, sym, ◌∙◌, arith}
 use Rattle.std.proofs.lemmas.Bool.{cases_lt}
@@ -56,7 +56,7 @@ apart_grows L M w base xs j (suc k) le =
           omega (arith, h, s))
     ]
 
--- later items stand no lower
+-- later items have no lower addresses
 pub place_rises : (L : ℕ → Bool) (base : ℕ) (xs : List Item) (j k : ℕ) → j ≤ k → place L base xs j ≤ place L base xs k
 place_rises L base xs j zero le =
     let e : j ≡ 0 = omega arith in
@@ -84,7 +84,7 @@ near_few L base xs j k a b =
       | inr ge ↦ (omega (arith, place_rises L base xs j k ge), omega (arith, apart_most L base xs j k ge))
     ]
 
--- what is near under more long branches is near under fewer
+-- items that are near under more long branches are near under fewer
 pub near_back : (L M : ℕ → Bool) → Within L M → (base : ℕ) (xs : List Item) (j k : ℕ) → Near (place M base xs j) (place M base xs k) → Near (place L base xs j) (place L base xs k)
 near_back L M w base xs j k n =
     elim (cases_lt k j) [
@@ -92,7 +92,7 @@ near_back L M w base xs j k n =
       | inr ge ↦ (omega (arith, place_rises L base xs j k ge), omega (arith, apart_grows L M w base xs j k ge))
     ]
 
--- what is read at k is item k
+-- the item read at index k is item k
 pub item_read : (xs : List Item) (k : ℕ) (x : Item) → k < length xs → x ≡ get_or xs k x → item_at xs k ≡ x
 item_read xs k x lt e = get_or_default xs k (Mark 0) x lt ∙ sym e
 

@@ -18,7 +18,7 @@ use Rattle.asm.specs.Placed.{sum32, ItemAt, Stands, StandsInParts, IsPlacedWith,
 use Rattle.asm.proofs.Emitting.{good, place_even}
 use Rattle.asm.proofs.Grow.{measured_low, place_grows, in_all}
 
--- the instructions stand from a
+-- the instructions are at a and after it
 abbrev pub TextIs : (ℕ → Option Instr) → ℕ → List Instr → Type 0
 TextIs T a [] = Unit {0}
 TextIs T a (i ∷ is) = (T a ≡ Some i) × TextIs T (a + 4) is
@@ -106,7 +106,7 @@ word_held m a w bs h =
     let d : m (a + 3) ≡ w / 2 ^ 24 = h.at 3 (omega arith) in
     omega (arith, z, b, c, d)
 
--- the bytes after the first word stand after it
+-- the bytes after the first word follow it in memory
 rest_held : (m : ℕ → ℕ) (a w : ℕ) (bs : List ℕ) → Holds m a (word_bytes w ++ bs) → Holds m (a + 4) bs
 rest_held m a w bs h = record {
   at = λ j lt.
@@ -121,7 +121,7 @@ text_held m a (i ∷ is) h d =
     let w = word_held m a (word_of i) (bytes_of (map word_of is)) h in
     (ap decode_of w ∙ d.0, text_held m (a + 4) is (rest_held m a (word_of i) (bytes_of (map word_of is)) h) d.1)
 
--- word n and what it decodes to
+-- word n and the instruction it decodes to
 pub held_at : (m : ℕ → ℕ) (a : ℕ) (is : List Instr) (n : ℕ) → Holds m a (bytes_of (map word_of is)) → Decoding is → n < length is → (word_at m (a + 4 * n) ≡ word_of (slice_index_or is n instr.Ebreak)) × (decode_of (word_at m (a + 4 * n)) ≡ Some (slice_index_or is n instr.Ebreak))
 held_at m a [] n h d lt = absurd (omega (arith, lt))
 held_at m a (i ∷ is) zero h d lt =
@@ -153,19 +153,19 @@ placed_with homes base xs bs m table aligned fits r text =
           subst (λ (e : ℕ). ItemAt (text_of m) env (data_start e) (item_at xs k) (place L base xs k) (place L base xs (suc k))) (r.chosen.measured.at n (omega arith)) stands;
     }
 
--- items that stand one by one stand as a list
+-- items placed one by one are placed as a list
 stands_all : (T : ℕ → Option Instr) (env : ℕ → ℕ) (seg : ℕ) (xs : List Item) (p : ℕ → ℕ) → ((j : ℕ) → j < length xs → ItemAt T env seg (item_at xs j) (p j) (p (suc j))) → Stands T env seg xs (p 0) (p (length xs))
 stands_all T env seg [] p h = refl
 stands_all T env seg (x ∷ rest) p h = (p 1, h 0 (omega arith), stands_all T env seg rest (λ j. p (suc j)) (λ j lt. h (suc j) (omega arith)))
 
--- a list in two parts stands in two parts
+-- a list in two parts is placed in two parts
 stands_split : (T : ℕ → Option Instr) (env : ℕ → ℕ) (seg : ℕ) (xs ys : List Item) (a e : ℕ) → Stands T env seg (xs ++ ys) a e → (mid : ℕ) × Stands T env seg xs a mid × Stands T env seg ys mid e
 stands_split T env seg [] ys a e s = (a, refl, s)
 stands_split T env seg (x ∷ xs) ys a e s =
     let q = stands_split T env seg xs ys s.0 e s.2 in
     (q.0, (s.0, s.1, q.1), q.2)
 
--- and two parts that stand one after the other stand as one list
+-- and two parts that are placed one after the other are placed as one list
 stands_joined : (T : ℕ → Option Instr) (env : ℕ → ℕ) (seg : ℕ) (xs ys : List Item) (a mid e : ℕ) → Stands T env seg xs a mid → Stands T env seg ys mid e → Stands T env seg (xs ++ ys) a e
 stands_joined T env seg [] ys a mid e s t = subst (λ (b : ℕ). Stands T env seg ys b e) (sym s) t
 stands_joined T env seg (x ∷ xs) ys a mid e s t = (s.0, s.1, stands_joined T env seg xs ys s.0 mid e s.2 t)

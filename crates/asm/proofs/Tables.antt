@@ -31,7 +31,7 @@ home_of homes xs k t l r to s lt e =
     let P : Item → Type 0 = λ x. Refers (length homes) x in
     subst P e (s.refers k lt)
 
--- what is near the table's item of a label is near the label's mark
+-- an item near the table's item of a label is near the label's mark
 pub near_mark : (homes : List ℕ) (L : ℕ → Bool) (base : ℕ) (xs : List Item) (i h to : ℕ) → IsTable homes xs → h < length xs → item_at xs h ≡ Mark to → Near (place L base xs i) (place L base xs (slice_index homes to)) → Near (place L base xs i) (place L base xs h)
 near_mark homes L base xs i h to s lt m n = subst (λ (j : ℕ). Near (place L base xs i) (place L base xs j)) (s.once h to lt m) n
 

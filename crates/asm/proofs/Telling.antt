@@ -1,4 +1,4 @@
--- What an inner step promised of its value holds of the value that is answered.
+-- A postcondition of an inner step's value holds of the value that is returned.
 use Rattle.std.proofs.Common.{◌≡◌, sym, subst}
 use Rattle.std.specs.Prelude.{Result, Ok, Err, MatchResult, IfOk, IsErrAnd}
 use Rattle.srcset.specs.declared.fault.Fault.{Fault}

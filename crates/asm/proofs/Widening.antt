@@ -78,7 +78,7 @@ grows homes base xs was now i changed t l r to s w lt len is short far =
         let counted = rw short at sums in
         omega (arith, counted)
 
--- an item that is no branch, a short branch that is near, and a long branch need nothing
+-- an item that is no branch, a short branch that is near, and a long branch need no change
 fits_other : (L : ℕ → Bool) (base : ℕ) (xs : List Item) (k : ℕ) (x : Item) → ((t : Test) (l r to : ℕ) → x ≡ Branch t l r to → ⊥) → FitsAt L base xs k x
 fits_other L base xs k (Branch t l r to) differs = absurd (differs t l r to refl)
 fits_other L base xs k (Mark l) differs = tt
@@ -155,7 +155,7 @@ least_none base xs n = record { below = λ M f. record { all = λ k e. absurd (n
 pub measured_none : (places : List ℕ) (base : ℕ) (xs : List Item) → MeasuredTo places base xs 0
 measured_none places base xs = record { at = λ k lt. absurd (omega (arith, lt)) }
 
--- the address of item n is put
+-- the address of item n is stored
 pub measured_more : (places : List ℕ) (base : ℕ) (xs : List Item) (n a : ℕ) → MeasuredTo places base xs n → n < length places → a ≡ place all_short base xs n → MeasuredTo (set places n a) base xs (n + 1)
 measured_more places base xs n a before room is = record {
   at = λ k lt. elim (cases_lt k n) [
@@ -170,11 +170,11 @@ measured_more places base xs n a before room is = record {
   ];
 }
 
--- the end's is put too
+-- the end's is stored too
 pub measured_all : (places : List ℕ) (base : ℕ) (xs : List Item) → MeasuredTo places base xs (length xs + 1) → IsMeasured places all_short base xs
 measured_all places base xs m = record { at = λ k le. m.at k (omega arith) }
 
--- what is measured with all branches short is measured with none long
+-- the places measured with all branches short are those measured with none long
 pub short_measured : (places : List ℕ) (base : ℕ) (xs : List Item) (n : ℕ) → IsMeasured places all_short base xs → IsMeasured places (longs (replicate n false)) base xs
 short_measured places base xs n m = record { at = λ k le. m.at k le ∙ same k }
   where

@@ -1,4 +1,4 @@
--- The words that are read from code, one after another.
+-- The words read from code, one after another.
 use Rattle.std.proofs.Common.{length, get_or, take, map, ◌≡◌, ℕ, ◌+◌, ◌*◌, ◌<◌, List, [], ◌∷◌, ◌++◌, sym, ap, ◌∙◌, subst, arith}
 use Rattle.std.specs.Prelude.{Some, slice_index, slice_index_or}
 use Rattle.std.proofs.lemmas.List.{take_more, map-append, get_or_default, length-map}

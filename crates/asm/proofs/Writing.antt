@@ -37,7 +37,7 @@ pub then_one : (answer : Result (Unit {0}) Refusal) (a b c : List ℕ) (i j : In
 then_one (Ok u) a b c i j is v w e = subst (λ (js : List Instr). Writes a c js) (sym e) (writes_two a b c i j v w)
 then_one (Err f) a b c i j is v w e = tt
 
--- the words of item i behind those of the items before it
+-- the words of item i after those of the items before it
 pub writes_item : (env : ℕ → ℕ) (seg : ℕ) (L : ℕ → Bool) (base : ℕ) (xs : List Item) (i : ℕ) (was now : List ℕ) (long : Bool) (at : ℕ) (x : Item)
     → Writes [] was (code env seg L base xs i) → Writes was now (item_code env seg long at x) → long ≡ L i → at ≡ place L base xs i → item_at xs i ≡ x
     → Writes [] now (code env seg L base xs (i + 1))

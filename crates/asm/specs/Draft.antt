@@ -1,4 +1,4 @@
--- Items that are being written down.
+-- Items under construction.
 use Rattle.std.specs.Prelude.{ℕ, List}
 use Rattle.asm.specs.declared.item.Item.{Item}
 

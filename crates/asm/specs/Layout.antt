@@ -1,4 +1,4 @@
--- Where items stand under a choice of long branches, which choices fit, and which lists of items are sound.
+-- The addresses of items under a choice of long branches, which choices fit, and which lists of items are sound.
 use Rattle.std.specs.Prelude.{◌≡◌, ◌≤◌, ◌<◌, ℕ, zero, suc, ◌+◌, ◌%◌, ◌^◌, Bool, true, false, if◌then◌else◌, List, ◌++◌, slice_index_or, length, sum_by}
 use Rattle.asm.specs.declared.item.Item.{Item}
 use Rattle.asm.specs.declared.item.Item.TheVariants.{Mark, Plain, Branch, Jump, Call, Constant, LabelAddress, DataAddress}
@@ -43,7 +43,7 @@ longest xs = sum_by (size true) xs
 abbrev pub EndsAfterLongest : Type 0
 EndsAfterLongest = (base : ℕ) (xs : List Item) → place all_long base xs (length xs) ≡ base + longest xs
 
--- the items of a list in two parts: those of the first stand as if they were alone, those of the second as if they were alone
+-- the items of a list in two parts: those of the first are placed as if they were alone, those of the second as if they were alone
 -- where the first ends
 abbrev pub PlacesInParts : Type 0
 PlacesInParts =

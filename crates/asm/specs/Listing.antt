@@ -20,18 +20,18 @@ hex w = digit (w / 2 ^ 28) ∷ digit (w / 2 ^ 24 % 2 ^ 4) ∷ digit (w / 2 ^ 20 
 abbrev pub line : ℕ → ℕ → List ℕ → List ℕ
 line a w text = hex a ++ codes " " ++ hex w ++ codes "  " ++ text ++ codes "\n"
 
--- a line for each word from address a, with the text of the instruction that the word is
+-- a line for each word from address a, with the text of the instruction that the word encodes
 abbrev pub IsListing : ℕ → List ℕ → List ℕ → Type 0
 IsListing a [] bs = bs ≡ []
 IsListing a (w ∷ ws) bs = (i : Instr) × (decode_of w ≡ Some i) × (rest : List ℕ) × (bs ≡ line a w (text_of i) ++ rest) × IsListing (a + 4) ws rest
 
--- the listing of the words that the items are from base, with the fewest long branches
+-- the listing of the words of the items from base, with the fewest long branches
 pub record IsListingOf (base : ℕ) (xs : List Item) (listing : List ℕ) : Type 0 where
   pub words : List ℕ
   pub assembled : IsFewest xs base (bytes_of words)
   pub lines : IsListing base words listing
 
--- a listing of the items from base was written after what was there
+-- a listing of the items from base was written after the earlier contents
 pub record Lists (base : ℕ) (xs : List Item) (before after : Option (List ℕ)) : Type 0 where
   pub listing : List ℕ
   pub is_listing : IsListingOf base xs listing

@@ -46,7 +46,7 @@ pub record Long (T : ℕ → Option Instr) (t : Test) (l r a to next : ℕ) : Ty
   pub target : sum32 (a + 4) v ≡ to
   pub next_is : next ≡ a + 8
 
--- LUI and ADDI that put v in rd
+-- LUI and ADDI that load v into rd
 pub record Loads (T : ℕ → Option Instr) (a rd v next : ℕ) : Type 0 where
   pub high : ℕ
   pub low : ℕ
@@ -71,7 +71,7 @@ pub record Calls (T : ℕ → Option Instr) (a to next : ℕ) : Type 0 where
   pub target : sum32 (sum32 a high) low ≡ to
   pub next_is : next ≡ a + 8
 
--- one item's words stand from a up to next; env has the labels' addresses, and the data begins at seg
+-- one item's words are at a up to next; env has the labels' addresses, and the data begins at seg
 abbrev pub ItemAt : (ℕ → Option Instr) → (ℕ → ℕ) → ℕ → Item → ℕ → ℕ → Type 0
 ItemAt T env seg (Mark l) a next = (env l ≡ a) × (next ≡ a)
 ItemAt T env seg (Plain i) a next = (T a ≡ Some i) × (next ≡ a + 4)
@@ -82,12 +82,12 @@ ItemAt T env seg (Constant rd v) a next = Loads T a rd v next
 ItemAt T env seg (LabelAddress rd l) a next = Loads T a rd (env l) next
 ItemAt T env seg (DataAddress rd o) a next = Loads T a rd (seg + o) next
 
--- the items' words stand from a up to e
+-- the items' words are at a up to e
 abbrev pub Stands : (ℕ → Option Instr) → (ℕ → ℕ) → ℕ → List Item → ℕ → ℕ → Type 0
 Stands T env seg [] a e = a ≡ e
 Stands T env seg (x ∷ rest) a e = (next : ℕ) × ItemAt T env seg x a next × Stands T env seg rest next e
 
--- items stand in two parts exactly where the first part stands up to some address, and the second from there
+-- items are placed in two parts exactly where the first part is placed up to some address, and the second from there
 abbrev pub StandsInParts : Type 0
 StandsInParts = (T : ℕ → Option Instr) (env : ℕ → ℕ) (seg : ℕ) (xs ys : List Item) (a e : ℕ) → Stands T env seg (xs ++ ys) a e ↔ ((mid : ℕ) × Stands T env seg xs a mid × Stands T env seg ys mid e)
 
@@ -108,11 +108,11 @@ abbrev pub bytes_of : List ℕ → List ℕ
 bytes_of [] = []
 bytes_of (w ∷ ws) = word_bytes w ++ bytes_of ws
 
--- the bytes bs stand from base
+-- the bytes bs are in memory from base on
 pub record Holds (m : ℕ → ℕ) (base : ℕ) (bs : List ℕ) : Type 0 where
   pub at : (j : ℕ) → j < length bs → m (base + j) ≡ slice_index bs j
 
--- in each memory where the bytes stand, their words decode to the items in order, up to the bytes' end, with the labels
+-- in each memory that contains the bytes, their words decode to the items in order, up to the bytes' end, with the labels
 -- at env, which is the same in each memory
 pub record Assembles (xs : List Item) (base : ℕ) (bs : List ℕ) : Type 0 where
   pub env : ℕ → ℕ

@@ -1,6 +1,6 @@
 -- The texts of instructions, as assemblers for RISC-V read them (RISC-V Assembly Programmer's Manual): the name of the row
--- in the unprivileged ISA manual, and behind a space the operands. The number of a branch or JAL is its offset, as LLVM's
--- assembler reads it; GNU as reads it as an address. The text of FENCE, whose fields stand as numbers, neither reads.
+-- in the unprivileged ISA manual, then a space and the operands. The number of a branch or JAL is its offset, as LLVM's
+-- assembler reads it; GNU as reads it as an address. Neither reads the text of FENCE, whose fields are printed as numbers.
 use Rattle.std.specs.Prelude.{ℕ, ◌/◌, ◌^◌, List, ◌++◌, codes, decimal, true, ℤ}
 use Rattle.std.specs.Fmt.{digits, signed_decimal}
 use Rattle.std.specs.Int.{cast_signed, w32}

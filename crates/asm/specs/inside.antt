@@ -1,4 +1,4 @@
--- What only proofs and private functions need: nothing here has to be believed.
+-- Definitions that only proofs and private functions need: nothing here has to be trusted.
 pub mod Choice
 pub mod Code
 pub mod Sole

@@ -34,7 +34,7 @@ fn assemble_parts(
 /// as many branches short as can be (RISC-V unprivileged ISA manual, "RV32I Base Integer Instruction
 /// Set": a branch reaches -4096 to 4094 bytes, a jump -1048576 to 1048574).
 ///
-/// Refuses with 716 only where a jump does not reach though all branches are long, and with 801
+/// Fails with 716 only where a jump does not reach though all branches are long, and with 801
 /// where there is no memory.
 pub fn assemble(alloc: Global, items: &Items, base: u32) -> Result<Vec<u8>, Fault>
     requires aligned { base % 4 ≡ 0 }

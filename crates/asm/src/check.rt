@@ -8,7 +8,7 @@ ghost use Rattle.asm.specs.inside.Choice.{IsTable, IsNoted, IsUnfit, AllAre, All
 use crate::item::Item;
 use crate::layout::size;
 
-/// Puts at each label the end, which is the number of no item.
+/// Stores for each label the end, which is the number of no item.
 fn clear(homes: &mut [usize], end: usize)
     ensures { AllAre homes.new end (length homes.new) }
 {
@@ -17,7 +17,7 @@ fn clear(homes: &mut [usize], end: usize)
     }
 }
 
-/// Puts the number of the item that marks the label, which has to have the end; says whether it had.
+/// Stores the number of the item that marks the label, whose entry must be the end; returns whether it was.
 fn mark_home(homes: &mut [usize], end: usize, number: usize, label: usize) -> bool
     ensures marked { OnTrue result ((label < length homes.old) × (slice_index homes.old label ≡ end)
         × (homes.new ≡ slice_set homes.old label number)) }
@@ -46,8 +46,8 @@ fn names_known(homes: &[usize], item: Item) -> bool
     }
 }
 
-/// Whether the item names only labels of the table, and marks none that is marked already; its number is put for a label that it marks.
-/// Most items are marks and instructions, which are told by two tests.
+/// Whether the item names only labels of the table, and marks none that is marked already; stores its number for a label that it marks.
+/// Most items are marks and instructions, which two tests recognise.
 fn note(homes: &mut [usize], end: usize, number: usize, item: Item) -> bool
     ensures noted { OnTrue result (IsNoted homes.old homes.new end number item) }
     ensures unfit { OnFalse result (IsUnfit homes.old end item) }
@@ -61,7 +61,7 @@ fn note(homes: &mut [usize], end: usize, number: usize, item: Item) -> bool
     }
 }
 
-/// Puts for each label that is marked the number of the item that marks it; says whether no item stands against a table.
+/// Stores for each label that is marked the number of the item that marks it; returns whether no item violates the table's conditions.
 fn note_items(items: &[Item], homes: &mut [usize]) -> bool
     requires clear { AllAre homes.old (length items.now) (length homes.old) }
     ensures noted { OnTrue result (Noting homes.new items.now (length items.now)) }
@@ -101,7 +101,7 @@ pub fn fill_table(items: &[Item], homes: &mut [usize]) -> bool
     }
 }
 
-/// Whether so many items end below 0x70000000 whatever they are: an item has at most 8 bytes.
+/// Whether `count` items end below 0x70000000 whatever they are: an item has at most 8 bytes.
 fn are_few(count: usize, base: u32) -> bool
     ensures { OnTrue result (base + 8 * count < 0x70000000) }
 {

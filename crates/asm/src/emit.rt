@@ -58,7 +58,7 @@ fn does_reach(from: u32, to: u32) -> bool
     from <= to + 0x10_0000 && to <= from + 0xf_fffe
 }
 
-/// Refuses where a jump does not reach. Takes no memory.
+/// Fails where a jump does not reach. Allocates nothing.
 fn check_reach(from: u32, to: u32) -> Result<(), Refusal>
     requires small { (from < 0x70000010) × (to < 0x70000000) }
     ensures ok { IsOk result ↔ Reach from to }
@@ -89,7 +89,7 @@ fn put_jump(code: &mut Vec<u8>, from: u32, to: u32) -> Result<(), Refusal>
     )
 }
 
-/// LUI and ADDI that put `value` in `rd`.
+/// LUI and ADDI that load `value` into `rd`.
 fn put_load(code: &mut Vec<u8>, rd: Five, value: u32) -> Result<(), Refusal>
     ensures ok { OnOk result (Writes code.old.items code.new.items (load_code rd value)) }
     ensures err { IfErr result (λ e. e ≡ Refusal.Memory) }
@@ -178,7 +178,7 @@ fn address_of(homes: &[usize], places: &[u32], label: Label) -> u32
     places[homes[label.number()]]
 }
 
-/// Writes the words of one item. Stands apart, so that marks and instructions jump through no table.
+/// Writes the words of one item. It is a separate function, so that marks and instructions jump through no table.
 #[inline(never)]
 fn put_other(
     code: &mut Vec<u8>,
@@ -222,7 +222,7 @@ fn put_other(
     }
 }
 
-/// Writes the words of one item. Most items are marks and instructions, which are told by two tests.
+/// Writes the words of one item. Most items are marks and instructions, which two tests recognise.
 fn put_item(
     code: &mut Vec<u8>,
     item: Item,

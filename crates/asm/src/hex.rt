@@ -17,7 +17,7 @@ fn digit_of(value: u32) -> u8
     }
 }
 
-/// The eight hexadecimal digits of a word, the highest first, in capitals, put behind `bytes`.
+/// Appends the eight hexadecimal digits of a word to `bytes`, the highest first, in capitals.
 pub fn put_hex(bytes: &mut Vec<u8>, word: u32) -> Result<(), AllocError>
     ensures { OnOk result (bytes.new.items ≡ bytes.old.items ++ hex word) }
 {

@@ -1,4 +1,4 @@
-//! What the assembler takes.
+//! The input of the assembler.
 
 ghost use Rattle.std.specs.Prelude.{◌≡◌, ℕ};
 
@@ -38,7 +38,7 @@ impl Label {
 /// One item of the code.
 ///
 /// The instructions are those of the RISC-V unprivileged ISA manual, chapter "RV32I Base Integer
-/// Instruction Set"; the items beside `Plain` are its usual pseudoinstructions.
+/// Instruction Set"; the items other than `Plain` are its usual pseudoinstructions.
 #[derive(Clone, Copy, Debug, Drop)]
 pub enum Item {
     /// The address of the label; no bytes.

@@ -76,9 +76,9 @@ impl Items {
     }
 }
 
-/// Items that are being written down, and the labels that were given out for them.
+/// Items under construction, and the labels that were allocated for them.
 ///
-/// A call that fails found no memory, and leaves the builder as it was.
+/// A call that fails ran out of memory, and leaves the builder as it was.
 #[derive(Drop)]
 pub struct ItemsBuilder {
     list: Vec<Item>,
@@ -106,7 +106,7 @@ impl ItemsBuilder {
         }
     }
 
-    /// The next label: labels are numbered from 0 in the order in which they are given out.
+    /// The next label: labels are numbered from 0 in the order of their allocation.
     pub fn label(&mut self) -> Result<Label, AllocError>
         ensures ok { IfOk result (λ label. (label ≡ self.old.labels)
             × (self.new ≡ record self.old { labels = self.old.labels + 1 })) }
@@ -117,7 +117,7 @@ impl ItemsBuilder {
         Ok(Label::new(number))
     }
 
-    /// Puts the item after those that are there.
+    /// Appends the item.
     pub fn push(&mut self, item: Item) -> Result<(), AllocError>
         ensures ok { OnOk result (self.new ≡ record self.old { items = self.old.items ++ item ∷ [] }) }
         ensures err { OnErr result (self.new ≡ self.old) }
@@ -125,7 +125,7 @@ impl ItemsBuilder {
         self.list.extend_from_slice(&[item])
     }
 
-    /// Marks the label at the end of the items that are there.
+    /// Marks the label at the end of the present items.
     pub fn mark(&mut self, label: Label) -> Result<(), AllocError>
         ensures ok { OnOk result (self.new ≡ record self.old { items = self.old.items ++ Item.Mark label ∷ [] }) }
         ensures err { OnErr result (self.new ≡ self.old) }
@@ -133,7 +133,7 @@ impl ItemsBuilder {
         self.push(Item::Mark(label))
     }
 
-    /// The items, where each label that was given out is marked exactly once, no other label is
+    /// The items, where each allocated label is marked exactly once, no other label is
     /// named, and each offset in the data is below 0x10000000; none where they are not so.
     pub fn finish(self) -> Option<Items>
         ensures { MatchOption result (IsSound self.labels self.items → ⊥)

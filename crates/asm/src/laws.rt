@@ -3,7 +3,7 @@
 ghost use Rattle.asm.specs.Layout.{EndsAfterLongest, PlacesInParts};
 ghost use Rattle.asm.specs.Placed.{OppositeHoldsWhereNot, StandsInParts};
 
-/// A list of items stands in parts exactly where it stands.
+/// A list of items is placed in parts exactly where it is placed.
 pub fn stands_in_parts()
     ensures { StandsInParts }
 {}
@@ -18,7 +18,7 @@ pub fn ends_after_longest()
     ensures { EndsAfterLongest }
 {}
 
-/// Where the items of a list in two parts stand.
+/// The addresses of the items of a list in two parts.
 pub fn places_in_parts()
     ensures { PlacesInParts }
 {}

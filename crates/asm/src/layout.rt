@@ -1,4 +1,4 @@
-//! Where the items stand, and which branches are long.
+//! The addresses of the items, and the choice of long branches.
 
 ghost use Rattle.std.specs.Prelude.{◌≡◌, ◌≤◌, ◌<◌, ◌+◌, ◌*◌, ◌-◌, ◌/◌, ◌%◌, ◌^◌, ℕ, true, false, Bool, length, not, replicate, slice_index, slice_index_or, sum_by, slice_set, vec_len, IfOk};
 ghost use Rattle.std.specs.Bool.{OnTrue, OnFalse};
@@ -39,7 +39,7 @@ fn least(item: Item) -> u32
     }
 }
 
-/// The bytes of an item, which may be a long branch; from two tables, since kinds of items cannot be foretold.
+/// The bytes of an item, which may be a long branch; from two tables, since the processor cannot predict the kinds of items.
 pub fn size(long: bool, item: Item) -> u32
     ensures value { result ≡ spec.size long item }
     ensures small { result ≤ spec.size true item }
@@ -47,7 +47,7 @@ pub fn size(long: bool, item: Item) -> u32
     if long { most(item) } else { least(item) }
 }
 
-/// Puts at each number the address of that item, and at last the end.
+/// Stores at each number the address of that item, and at last the end.
 pub fn measure(items: &[Item], long: &[bool], base: u32, places: &mut [u32])
     requires room { length places.old ≡ length items.now + 1 }
     requires longs { length long.now ≡ length items.now }
@@ -70,10 +70,10 @@ fn is_near(from: u32, to: u32) -> bool
     u64::from(from) <= u64::from(to) + 4096 && u64::from(to) <= u64::from(from) + 4094
 }
 
-/// How many items with at most 8 bytes each a branch surely reaches over.
+/// How many items with at most 8 bytes each are certainly within a branch's reach.
 const CLOSE: usize = 500;
 
-/// Whether the item is no branch, or one whose label is so few items away that it is near whatever is long.
+/// Whether the item is no branch, or one whose label is so few items away that it is near whichever branches are long.
 fn is_close(homes: &[usize], number: usize, item: Item) -> bool
     requires refers { Refers (length homes.now) item }
     ensures { OnTrue result (IsClose homes.now number item) }
@@ -86,8 +86,8 @@ fn is_close(homes: &[usize], number: usize, item: Item) -> bool
     }
 }
 
-/// Puts at each number from `low` up to `high` the address of that item where all branches are short, from that of `low` on; gives that
-/// of `high`. It does nothing else, so that it jumps nowhere but round.
+/// Stores at each number from `low` up to `high` the address of that item where all branches are short, from that of `low` on; returns that
+/// of `high`. It does nothing else, so that the loop has no other branch.
 fn measure_block(
     items: &[Item],
     base: u32,
@@ -127,11 +127,11 @@ fn are_close(items: &[Item], homes: &[usize], low: usize, high: usize) -> bool
     true
 }
 
-/// How many items are looked at twice, one time after the other, while they are near in memory.
+/// How many items two loops process one after the other, while the items are in the cache.
 const BLOCK: usize = 512;
 
-/// Puts the addresses as `measure` does where all branches are short; says whether all are close to their labels, which most code has.
-/// Where they are not, the addresses are not all there.
+/// Stores the addresses as `measure` does where all branches are short; returns whether all are close to their labels, as in most code.
+/// Where they are not, some addresses are missing.
 fn measure_close(items: &[Item], homes: &[usize], base: u32, places: &mut [u32]) -> bool
     requires table { IsTable homes.now items.now }
     requires room { length places.old ≡ length items.now + 1 }
@@ -153,7 +153,7 @@ fn measure_close(items: &[Item], homes: &[usize], base: u32, places: &mut [u32])
     true
 }
 
-/// Makes long each short branch that is too far from its label; says whether there was one.
+/// Makes long each short branch that is too far from its label; returns whether there was one.
 fn widen(items: &[Item], homes: &[usize], base: u32, places: &[u32], long: &mut [bool]) -> bool
     requires table { IsTable homes.now items.now }
     requires room { length places.now ≡ length items.now + 1 }
@@ -178,7 +178,7 @@ fn widen(items: &[Item], homes: &[usize], base: u32, places: &[u32], long: &mut 
     changed
 }
 
-/// Puts at each number from `low` up to `high` the address of that item, counted from `low`.
+/// Stores at each number from `low` up to `high` the address of that item, counted from `low`.
 fn count(items: &[Item], long: &[bool], base: u32, low: usize, high: usize, places: &mut [u32])
     requires part { (low ≤ high) × (high ≤ length items.now) }
     requires room { length places.old ≡ length items.now + 1 }
@@ -224,10 +224,10 @@ fn widen_part(
     changed
 }
 
-/// The bytes of a part: as far as a branch reaches.
+/// The size of a part in bytes: the reach of a branch.
 const PART: u32 = 4096;
 
-/// The number of the first item that stands `bytes` or more after the item `low`, or the end.
+/// The number of the first item that is `bytes` or more after the item `low`, or the end.
 fn item_after(items: &[Item], long: &[bool], low: usize, bytes: u32) -> usize
     requires longs { length long.now ≡ length items.now }
     requires inside { low ≤ length items.now }
@@ -243,7 +243,7 @@ fn item_after(items: &[Item], long: &[bool], low: usize, bytes: u32) -> usize
     items.len()
 }
 
-/// The number of the last item that stands `bytes` or more before the item `high`, or the begin.
+/// The number of the last item that is `bytes` or more before the item `high`, or the begin.
 fn item_before(items: &[Item], long: &[bool], high: usize, bytes: u32) -> usize
     requires longs { length long.now ≡ length items.now }
     requires inside { high ≤ length items.now }
@@ -261,7 +261,7 @@ fn item_before(items: &[Item], long: &[bool], high: usize, bytes: u32) -> usize
 }
 
 /// Walks over the parts, three at a time, and back where a branch became long, so that a chain of
-/// branches that push one another costs little.
+/// branches that lengthen one another costs little.
 fn widen_parts(items: &[Item], homes: &[usize], base: u32, places: &mut [u32], long: &mut [bool])
     requires table { IsTable homes.now items.now }
     requires room { length places.old ≡ length items.now + 1 }
@@ -291,10 +291,10 @@ pub struct Layout {
     pub places: Vec<u32>,
 }
 
-/// How often all items are looked at before the parts are.
+/// The number of rounds over all items before the rounds over parts.
 const ROUNDS: usize = 4;
 
-/// Some rounds over all items, which are enough where few branches are long; says whether none is too far.
+/// Some rounds over all items, which are enough where few branches are long; returns whether none is too far.
 fn settle(items: &[Item], homes: &[usize], base: u32, places: &mut [u32], long: &mut [bool]) -> bool
     requires table { IsTable homes.now items.now }
     requires room { length places.old ≡ length items.now + 1 }
@@ -314,7 +314,7 @@ fn settle(items: &[Item], homes: &[usize], base: u32, places: &mut [u32], long: 
     false
 }
 
-/// Makes long what must be long, and measures.
+/// Makes long each branch that needs it, and measures.
 fn relax(items: &[Item], homes: &[usize], base: u32, places: &mut [u32], long: &mut [bool])
     requires table { IsTable homes.now items.now }
     requires room { length places.old ≡ length items.now + 1 }

@@ -49,7 +49,7 @@ fn word_in(code: &[u8], number: usize) -> u32
         + u32::from(code[at + 3]) * 0x100_0000
 }
 
-/// The instruction that a word is.
+/// The instruction that a word encodes.
 fn instr_in(word: u32) -> Instr
     requires { IsSome (decode_of word) }
     ensures { decode_of word ≡ Some result }
@@ -90,7 +90,7 @@ fn listing_of(alloc: Global, items: &[Item], homes: &[usize], base: u32) -> Resu
     Ok(bytes)
 }
 
-/// What became of a listing that was handed to the writer.
+/// The result of handing a listing to the writer.
 fn outcome(is_written: bool) -> Result<(), Refusal>
     ensures ok { IsOk result ↔ IsTrue is_written }
     ensures err { IfErr result (λ refusal. refusal ≡ Refusal.Write) }
@@ -106,8 +106,8 @@ fn outcome(is_written: bool) -> Result<(), Refusal>
 /// `00011000 00100093  addi x1,x0,1`: the address and the word as 8 hexadecimal digits with A to F
 /// capital and one space between, two spaces, and the instruction's text.
 ///
-/// Refuses as `assemble` does, having written nothing, and with 803 where the writer refused, which
-/// then took a beginning of the listing.
+/// Fails as `assemble` does, having written nothing, and with 803 where the writer failed, which
+/// then holds a prefix of the listing.
 pub fn list<W: Write>(alloc: Global, items: &Items, base: u32, w: &mut W) -> Result<(), Fault>
     requires aligned { base % 4 ≡ 0 }
     requires low { IsLow base items.now }

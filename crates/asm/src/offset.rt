@@ -1,4 +1,4 @@
-//! Numbers of 32 bits in the parts that instructions hold.
+//! Numbers of 32 bits in the fields of instructions.
 
 ghost use Rattle.std.specs.Prelude.{◌≡◌, ◌≤◌, ◌<◌, ◌+◌, ◌*◌, ◌-◌, ◌/◌, ◌%◌, ◌^◌};
 ghost use Rattle.asm.specs.inside.Code.{upper, lower, offset_from};

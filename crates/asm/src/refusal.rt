@@ -1,4 +1,4 @@
-//! Why there is no answer.
+//! The reasons for a failure.
 
 ghost use Rattle.std.specs.Prelude.{◌≡◌, [], Ok, IsErrAnd, MatchResult};
 ghost use Rattle.srcset.specs.Fault.{IsFault};
@@ -8,7 +8,7 @@ ghost use Rattle.asm.specs.declared.refusal.Refusal.TheVariants.{Memory};
 use srcset::{Code, Fault};
 use std::alloc::{AllocError, AllocFailed, Global};
 
-/// A jump does not reach, there is no memory, or the writer refused.
+/// A jump does not reach, there is no memory, or the writer failed.
 #[derive(Clone, Copy, PartialEq, Eq, Debug, Drop)]
 pub enum Refusal {
     Far,
@@ -32,7 +32,7 @@ impl<T: Drop> From<AllocFailed<T>> for Refusal {
     }
 }
 
-/// What an inner step answered, its refusal as the fault.
+/// The result of an inner step, its error converted to the fault.
 pub fn told<T>(alloc: Global, step: Result<T, Refusal>) -> Result<T, Fault>
     ensures { MatchResult step (λ value. result ≡ Ok value)
         (λ refusal. IsErrAnd result (λ fault. IsFault fault (code_of refusal) [] 0)) }
@@ -54,7 +54,7 @@ impl Refusal {
         }
     }
 
-    /// The fault, which stands in no file.
+    /// The fault, which names no file.
     fn to_fault(self, alloc: Global) -> Fault
         ensures { IsFault result (code_of self) [] 0 }
     {

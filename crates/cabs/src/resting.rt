@@ -68,7 +68,7 @@ fn holds_loop(a: &Statement) -> bool {
         Statement::Block(_, _, _, all) => hold_loop(all),
         Statement::If(_, _, a) => holds_loop(a),
         Statement::IfElse(_, _, a, b) => holds_loop(a) || holds_loop(b),
-        Statement::Switch(_, _, _, _, _, _) => true,
+        Statement::Switch(_, _, _, _, _, all) => hold_loop(all),
         Statement::Case(_, _) => false,
         Statement::Default(_) => false,
         Statement::While(_, _, _) => true,

@@ -1,4 +1,4 @@
--- The typed program of a unit, at the place where what concerns it as a whole stands.
+-- The typed program of a unit, where constraints on the whole unit are reported at a given place.
 use Rattle.std.proofs.Common.{◌≡◌, ℕ, List}
 use Rattle.srcset.specs.NameTable.{Texts}
 use Rattle.srcset.specs.declared.fault.Fault.{Fault}

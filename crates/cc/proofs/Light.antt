@@ -1,4 +1,4 @@
--- The functions of a typed program weigh no more than the profile lets them.
+-- The functions of a typed program weigh at most what the profile allows.
 use Rattle.std.proofs.Common.{◌≡◌, ◌≤◌, ◌<◌, ℕ, zero, suc, List, [], ◌∷◌, Bool, true, Some, map, get_or, refl, sym, subst, arith}
 use Rattle.std.specs.Prelude.{◌&&◌, ◌^◌, nat_le, nat_lt, slice_get, length}
 use Rattle.typing_spec.specs.Program.{Function, Program}

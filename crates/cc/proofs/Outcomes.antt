@@ -29,7 +29,7 @@ load_told file name why fault (inr e) told = inl (why, e, told)
 pub load_fails : (file name : List ℕ) (why : LoadFault) (stop : Stop) (fault : Fault) → FailsToLoad file why → stop ≡ load_stop why → IsToldAs name stop fault → FailsLoad file name fault
 load_fails file name why stop fault o is told = load_told file name why fault o (subst (λ s. IsToldAs name s fault) is told)
 
--- the fault that tells what a port refused
+-- the fault that reports a refusal of the port
 pub port_fails : (output : List ℕ) (refusal : PortFault) (stop : Stop) (fault : Fault) → stop ≡ port_stop refusal → IsToldAs output stop fault
     → TellsPort refusal output fault
 port_fails output port_fault.Memory stop fault is told = subst (λ s. IsToldAs output s fault) is told

@@ -20,14 +20,14 @@ use Rattle.cc.specs.Compiled.{HasList, HasTokens, HasTree}
 use Rattle.cc.specs.Refused.{FailsPreprocessing, FailsTokens, BreaksConstraint, IsRefused}
 use Rattle.cc.specs.inside.Stops.{IsTold, IsMemory, Stops}
 
--- what is said of an error that `?` hands on
+-- the property of an error that `?` propagates
 pub handed_on : {A B : Type 0} (r : Result A B) (f : B) (P : B → Type 0) → IsErrAnd r (λ e. e ≡ f) → P f → IfErr r P
 handed_on r f P is h = let p = err_from_is_err_and r is in rw (p.1, p.2) h
 
 pub handed_match : {A B : Type 0} (r : Result A B) (f : B) (P : A → Type 0) (Q : B → Type 0) → IsErrAnd r (λ e. e ≡ f) → Q f → MatchResult r P Q
 handed_match r f P Q is h = let p = err_from_is_err_and r is in rw (p.1, p.2) h
 
--- what is said of an answer or of an error, said otherwise
+-- a property of a value or of an error, weakened
 pub ok_means : {A B : Type 0} (r : Result A B) (P Q : A → Type 0) → ((x : A) → P x → Q x) → IfOk r P → IfOk r Q
 ok_means (Ok x) P Q means h = means x h
 ok_means (Err f) P Q means h = h

@@ -47,7 +47,7 @@ pub says_place : (a b c : Option (List ℕ)) (file : List ℕ) (line : ℕ) → 
 says_place a b c file line some all t =
     subst (TakesBeginning a c) (place_is file line some) (joined a b c (file ++ codes ":") (decimal line ++ codes ": ") all t)
 
--- a message, and what a fault adds and the newline, behind a place
+-- a place, then a message, then the text that a fault adds and the newline
 joins : (p d s m t n : List ℕ) → (p ++ (d ++ s ++ m)) ++ (t ++ n) ≡ p ++ d ++ s ++ m ++ t ++ n
 joins p d s m t n =
     ap (λ l. l ++ (t ++ n)) (sym (append_assoc p (d ++ s) m) ∙ ap (λ l. l ++ m) (sym (append_assoc p d s))) ∙ sym (append_assoc (p ++ d ++ s ++ m) t n)
@@ -78,7 +78,7 @@ says_all fault a b c d first second t =
 abbrev took : ArrayString → List ℕ → ArrayString → Type 0
 took s bytes t = t.bytes ≡ s.bytes ++ bytes
 
--- what a text of fixed room holds once all of another was put
+-- the contents of a text of fixed capacity once all of another was appended
 pub holds : {A B : Type 0} (r : Result A B) (old new : ArrayString) (o : Option (List ℕ)) (text : List ℕ) → o ≡ Some text
     → OnOk r (WritesText (λ s bytes t. t.bytes ≡ s.bytes ++ bytes) old o new) → OnOk r (new.bytes ≡ old.bytes ++ text)
 holds (Ok x) old new o text e h =

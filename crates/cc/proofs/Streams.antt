@@ -122,7 +122,7 @@ same_table (x ∷ a) (y ∷ b) keeps same =
 pub numbers_at : (name : List ℕ) (first late : Texts) → ((n : ℕ) × (slice_get first n ≡ Some name)) → KeepsNumbers first late → NumbersOnce late → Numbers late name
 numbers_at name first late named keeps once = record { once = once; file = named.0; named = keeps named.0 name named.1 }
 
--- what is told is told of more
+-- a property of the reported fault implies a weaker one
 pub told_as : (stop : Stop) (P Q : Fault → Type 0) → ((f : Fault) → P f → Q f) → IsStopTold P stop → IsStopTold Q stop
 told_as Stop.Memory P Q means h = absurd h
 told_as (Stop.At code line) P Q means h = absurd h

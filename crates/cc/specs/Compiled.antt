@@ -1,4 +1,4 @@
--- What the compiler promises of a file that it answers: the sources are a program, and the file runs as that program does.
+-- The promise of the compiler for a file that it returns: the sources are a program, and the file runs as that program does.
 use Rattle.std.specs.Prelude.{◌≡◌, ℕ, List, [], ◌∷◌, String, Some, None, length, map, slice_get}
 use Rattle.std.specs.String.{string_bytes}
 use Rattle.std.specs.Global.{Global}
@@ -17,7 +17,7 @@ use Rattle.typing_spec.specs.Units.{unit_typed}
 use Rattle.cc_backend.specs.Runs.{RunsAs}
 use Rattle.cc.specs.declared.compiling.Built.{Built}
 
--- ---- what a set of files holds from its main file on, phase by phase (ISO/IEC 9899:2011 5.1.1.2)
+-- ---- the tokens, tree and program of a set of files from its main file on, phase by phase (ISO/IEC 9899:2011 5.1.1.2)
 
 -- a table in which no text has two numbers, and the main file's name has one
 pub record Numbers (texts : Texts) (name : List ℕ) : Type 0 where
@@ -47,8 +47,8 @@ pub record HasTree (set : Files) (name : List ℕ) (texts : Texts) (unit : List 
   pub tree : IsTreeWithin tokens unit
   pub only : IsOnly tokens unit
 
--- the typed program of a unit, for a stack of so many bytes, or the constraints that it breaks. What concerns the unit as a whole stands at line 1 of the
--- main file, whose name has this number
+-- the typed program of a unit, for a stack of `stack` bytes, or the constraints that it breaks. A constraint on the unit as a whole is reported at line 1 of
+-- the main file, whose name has this number
 unfoldable pub typed_at : (stack : ℕ) → Texts → ℕ → List ExternalTree → Verdict Program
 typed_at stack texts file unit = unit_typed stack texts (record { file = file; line = 1 }) unit
 
@@ -63,7 +63,7 @@ pub record HasProgram (stack : ℕ) (set : Files) (name : List ℕ) (texts : Tex
   pub has_tree : HasTree set name texts unit
   pub is_program : IsProgramOf stack name texts unit program
 
--- ---- what is answered
+-- ---- the result
 
 -- name, bytes and weight of an entry
 abbrev pub shown_entry : String Global × ℕ × ℕ → List ℕ × ℕ × ℕ
@@ -81,15 +81,15 @@ entries texts [] frames = []
 entries texts (f ∷ fs) [] = []
 entries texts (f ∷ fs) (n ∷ ns) = entry_of texts f n ∷ entries texts fs ns
 
--- a file that runs as a typed program does on a stack of so many bytes, and an entry for each of its functions
+-- a file that runs as a typed program does on a stack of `stack` bytes, and an entry for each of its functions
 pub record BuildsProgram (stack : ℕ) (texts : Texts) (program : Program) (built : Built) : Type 0 where
   pub frames : List ℕ
   pub each : length frames ≡ length program.functions
   pub runs : RunsAs stack program frames built.elf.items
   pub entries_are : frames_of built ≡ entries texts program.functions frames
 
--- the set has a main file of this name, which has a tree that breaks no constraint for a stack of so many bytes, and the answer is the file of its
--- program, with this stack
+-- the set has a main file of this name, which has a tree that breaks no constraint for a stack of `stack` bytes, and the result is the file of its program,
+-- with this stack
 pub record Compiles (stack : ℕ) (set : Files) (name : List ℕ) (built : Built) : Type 0 where
   pub texts : Texts
   pub unit : List ExternalTree

@@ -1,4 +1,4 @@
--- How the file that the compiler answers is made: it is the image of code of the program, within the bounds of bytes.
+-- How the file that the compiler returns is made: it is the image of code of the program, within the bounds of bytes.
 use Rattle.std.specs.Prelude.{List, ℕ}
 use Rattle.srcset.specs.Files.{Files}
 use Rattle.srcset.specs.NameTable.{Texts}

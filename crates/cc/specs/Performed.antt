@@ -1,4 +1,4 @@
--- What a command leaves of its port, what it says, and its exit status.
+-- The effect of a command on its port, its message, and its exit status.
 use Rattle.std.specs.Prelude.{◌≡◌, ◌⊎◌, ℕ, List, [], Some, Ok, Err, IsOk}
 use Rattle.std.specs.Io.KnownBytes.{Appends}
 use Rattle.srcset.specs.Files.{Files}
@@ -54,7 +54,7 @@ pub record BuildsSome (stack : ℕ) (set : Files) (name output : List ℕ) (refu
 abbrev pub FailsBuild : (stack : ℕ) → Files → List ℕ → List ℕ → (PortFault → Type 0) → PortView → PortView → Fault → Type 0
 FailsBuild stack set name output refuses old new fault = ((new ≡ old) × IsRefused stack set name fault) ⊎ BuildsSome stack set name output refuses old new fault
 
--- 0, and the whole file was put and nothing said; or 1 and a fault, which is said
+-- 0, and the whole file was put and nothing printed; or 1 and a fault, which is printed
 abbrev pub Builds : (stack : ℕ) → Files → List ℕ → List ℕ → (PortFault → Type 0) → PortView → PortView → Said → ℕ → Type 0
 Builds stack set name output refuses old new said status =
     ((status ≡ 0) × BuildsInto stack set name old new × (said.after ≡ said.before))
@@ -62,7 +62,7 @@ Builds stack set name output refuses old new said status =
 
 -- ---- printing
 
--- what a writer took before a call and after it, where that is told, is unchanged
+-- the bytes that a writer took before a call and after it, where they are known, are the same
 abbrev pub IsUntouched : Said → Type 0
 IsUntouched out = out.after ≡ out.before
 
@@ -80,13 +80,12 @@ pub record PrintsSome (set : Files) (name : List ℕ) (out : Said) (fault : Faul
   pub has_list : HasList set name texts list
   pub refused : IsPrintRefused list out.before out.after fault
 
--- the set has no tokens, or there was no memory for them, which this fault tells, and nothing was written; or they were
--- not written whole
+-- the set has no tokens, or memory ran out, as this fault reports, and nothing was written; or they were not written whole
 abbrev pub FailsPrint : Files → List ℕ → Said → Fault → Type 0
 FailsPrint set name out fault =
     (IsUntouched out × (FailsPreprocessing set name fault ⊎ IsMemoryFault fault)) ⊎ PrintsSome set name out fault
 
--- 0, and the whole text was written and nothing said; or 1 and a fault, which is said
+-- 0, and the whole text was written and nothing printed; or 1 and a fault, which is printed
 abbrev pub Prints : Files → List ℕ → Said → Said → ℕ → Type 0
 Prints set name out said status =
     ((status ≡ 0) × PrintsAll set name out × IsUntouched said)
@@ -118,7 +117,7 @@ pub record ListsSome (stack : ℕ) (set : Files) (name : List ℕ) (out : Said) 
 abbrev pub FailsList : (stack : ℕ) → Files → List ℕ → Said → Fault → Type 0
 FailsList stack set name out fault = (IsUntouched out × IsRefused stack set name fault) ⊎ ListsSome stack set name out fault
 
--- 0, and the whole listing was written and nothing said; or 1 and a fault, which is said
+-- 0, and the whole listing was written and nothing printed; or 1 and a fault, which is printed
 abbrev pub ListsCode : (stack : ℕ) → Files → List ℕ → Said → Said → ℕ → Type 0
 ListsCode stack set name out said status =
     ((status ≡ 0) × ListsAll stack set name out × IsUntouched said)
@@ -133,8 +132,8 @@ exit_status outcome.Budget = 124
 exit_status (outcome.Trapped pc cause) = 125
 exit_status (outcome.Port fault) = 126
 
--- the run from an image came to what the definition's run of max instructions over the port comes to, or to the
--- port's fault before, and that is the exit status and what is said; the port's fault is what the port refused with
+-- the run from an image had the outcome of the definition's run of max instructions over the port, or the port's fault before it, and that gives the exit
+-- status and the message; the port's fault is the one that the port refused with
 pub record RanAs (image : Image) (max : ℕ) (refuses : PortFault → Type 0) (old new : PortView) (said : Said) (status : ℕ) : Type 0 where
   pub run : Outcome
   pub machine : Machine
@@ -149,7 +148,7 @@ abbrev pub FailsLoad : List ℕ → List ℕ → Fault → Type 0
 FailsLoad file name fault =
     ((why : LoadFault) × (file_image file ≡ Err why) × IsFaultOrMemory fault (code_of why) name 0) ⊎ (IsOk (file_image file) × IsMemoryFault fault)
 
--- the file has an image, from which the run went; or 1 and a fault, which is said, and the port was not touched
+-- the file has an image, from which the run went; or 1 and a fault, which is printed, and the port was not touched
 abbrev pub Runs : List ℕ → List ℕ → ℕ → (PortFault → Type 0) → PortView → PortView → Said → ℕ → Type 0
 Runs file name max refuses old new said status =
     ((image : Image) × (file_image file ≡ Ok image) × RanAs image max refuses old new said status)
@@ -165,8 +164,8 @@ interpreted_status interpreted.TicksUsed = 124
 interpreted_status (interpreted.Port fault) = 126
 interpreted_status interpreted.Memory = 1
 
--- what the program does on the port's input with so many ticks is what its definition says, or it was given up, and that is the
--- exit status and what is said; the port's fault is what the port refused with
+-- the behaviour of the program on the port's input with at most max ticks is that of its definition, or the run was abandoned, and that gives the exit status
+-- and the message; the port's fault is the one that the port refused with
 pub record InterpretedAs (texts : Texts) (program : Program) (max : ℕ) (refuses : PortFault → Type 0) (old new : PortView) (said : Said) (status : ℕ) : Type 0 where
   pub run : Interpreted
   pub greatest : ℕ
@@ -184,13 +183,13 @@ pub record InterpretsSet (stack : ℕ) (set : Files) (name : List ℕ) (max : �
   pub has_program : HasProgram stack set name texts unit program
   pub interpreted_as : InterpretedAs texts program max refuses old new said status
 
--- the set has a program, which was interpreted; or it has none, which the fault that is said tells
+-- the set has a program, which was interpreted; or it has none, as the printed fault reports
 abbrev pub Interprets : (stack : ℕ) → Files → List ℕ → ℕ → (PortFault → Type 0) → PortView → PortView → Said → ℕ → Type 0
 Interprets stack set name max refuses old new said status =
     InterpretsSet stack set name max refuses old new said status
     ⊎ ((status ≡ 1) × (new ≡ old) × ((fault : Fault) × IsRefused stack set name fault × Says said (fault_text fault)))
 
--- By the main file's name, for a stack of so many bytes. Only what is printed or listed goes to `out`, and that does not touch the port.
+-- By the main file's name, for a stack of `stack` bytes. Only printed tokens and listings go to `out`, and they do not touch the port.
 abbrev pub Performs : (stack : ℕ) → Cmd → Files → List ℕ → List ℕ → (PortFault → Type 0) → PortView → PortView → Said → Said → ℕ → Type 0
 Performs stack (command.Build output) set name file refuses old new out said status = IsUntouched out × Builds stack set name output.now refuses old new said status
 Performs stack command.Pp set name file refuses old new out said status = (new ≡ old) × Prints set name out said status

@@ -1,4 +1,4 @@
--- What the compiler promises of a fault that it answers: it stands in the sources, in the first phase that fails.
+-- The promise of the compiler for a fault that it returns: it is in the sources, in the first phase that fails.
 use Rattle.std.specs.Prelude.{◌≡◌, ℕ, List, Some, ◌⊎◌, slice_get}
 use Rattle.srcset.specs.Files.{Files}
 use Rattle.srcset.specs.declared.fault.Fault.{Fault}

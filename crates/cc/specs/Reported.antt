@@ -1,4 +1,4 @@
--- What the program says on standard error.
+-- The messages of the program on standard error.
 use Rattle.std.specs.Prelude.{◌≡◌, ◌⊎◌, ℕ, ◌-◌, ◌^◌, List, ◌++◌, ◌∷◌, Option, codes, decimal, true, false, []}
 use Rattle.std.specs.Fmt.{digits, padded_integral, format_spec}
 use Rattle.srcset.specs.declared.fault.Fault.{Fault}
@@ -45,7 +45,7 @@ address a = padded_integral (format_spec 32 0 4 8 (2 ^ 64 - 1)) false [] (digits
 abbrev pub trap_text : ℕ → Cause → List ℕ
 trap_text pc cause = codes "cc: trap " ++ cause_name cause ++ codes " at 0x" ++ address pc ++ codes "\n"
 
--- what stands behind the file's name
+-- the text after the file's name
 abbrev pub behind_file : (line : ℕ) → Undef → List ℕ
 behind_file line act = codes ":" ++ decimal line ++ codes ": undefined U" ++ decimal (arithmetic.number_of act) ++ codes "\n"
 
@@ -57,9 +57,9 @@ undefined_text (b ∷ bs) line act = (b ∷ bs) ++ behind_file line act
 abbrev pub port_text : PortFault → List ℕ
 port_text fault = codes "cc: port fault " ++ decimal (number_of (code_of fault)) ++ codes "\n"
 
--- ---- what is written of them
+-- ---- the message written
 
--- what a writer took before a call and after it, where that is told
+-- the bytes that a writer took before a call and after it, where they are known
 pub record Said : Type 0 where
   pub before : Option (List ℕ)
   pub after : Option (List ℕ)

@@ -1,4 +1,4 @@
--- What a call that reads a source file leaves of its port, and why it fails.
+-- The effect of a call that reads a source file on its port, and why it fails.
 use Rattle.std.specs.Prelude.{◌≡◌, ◌⊎◌, ℕ, suc, ◌≤◌, List, [], Option, Some, None, length}
 use Rattle.std.specs.Io.KnownBytes.{Keeps, Consumes}
 use Rattle.srcset.specs.Files.{max_file_bytes}
@@ -15,7 +15,7 @@ pub record GetsBytes (old new : PortView) (bytes : List ℕ) : Type 0 where
   pub output_stays : Keeps old.output new.output
   pub not_counted : new.failures ≡ old.failures
 
--- an input that is told was these bytes, and is at its end
+-- an input whose bytes are known was these bytes, and is at its end
 abbrev pub GivesAll : Option (List ℕ) → Option (List ℕ) → List ℕ → Type 0
 GivesAll None new bytes = Unit {0}
 GivesAll (Some xs) None bytes = ⊥
@@ -35,7 +35,7 @@ pub record ReadsTooMany (name : List ℕ) (old new : PortView) (fault : Fault) :
   pub many : length bytes ≡ suc max_file_bytes
   pub told : IsFaultOrMemory fault FileSizeLimit name 0
 
--- so many bytes were got, and the port refused the next, which this fault tells
+-- these bytes were got, and the port refused the next, as this fault reports
 pub record ReadsSome (name : List ℕ) (refuses : PortFault → Type 0) (old new : PortView) (fault : Fault) : Type 0 where
   pub bytes : List ℕ
   pub few : length bytes ≤ max_file_bytes

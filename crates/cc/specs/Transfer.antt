@@ -1,4 +1,4 @@
--- What a call that puts many bytes leaves of its port, and the fault that tells what a port refused.
+-- The effect of a call that puts many bytes on its port, and the fault that reports a refusal of the port.
 use Rattle.std.specs.Prelude.{◌≡◌, ℕ, ◌<◌, List, take, length}
 use Rattle.std.specs.Io.KnownBytes.{Keeps, Appends}
 use Rattle.srcset.specs.declared.fault.Fault.{Fault}
@@ -21,14 +21,14 @@ pub record PutsSome (old new : PortView) (bytes : List ℕ) (count : ℕ) : Type
   pub output_grows : Appends old.output new.output (take count bytes)
   pub counted : Rises old.failures new.failures
 
--- the fault of a file of this name, by what the port refused
+-- the fault of a file of this name for each fault of the port
 abbrev pub TellsPort : PortFault → List ℕ → Fault → Type 0
 TellsPort port_fault.Memory name fault = IsMemoryFault fault
 TellsPort port_fault.Read name fault = IsFaultOrMemory fault CannotRead name 0
 TellsPort port_fault.Write name fault = IsFaultOrMemory fault CannotWrite name 0
 
--- a beginning of the file of this name was put, and the port refused the next byte, which this fault tells. `refuses` is what the
--- port says of what it refused
+-- a beginning of the file of this name was put, and the port refused the next byte, as this fault reports. `refuses` holds of the fault that the port refused
+-- with
 pub record WritesSome (name bytes : List ℕ) (refuses : PortFault → Type 0) (old new : PortView) (fault : Fault) : Type 0 where
   pub count : ℕ
   pub puts : PutsSome old new bytes count

@@ -18,7 +18,7 @@ use srcset::{Fault, FileSet, Names};
 use std::alloc::{AllocError, Global};
 use typed_ast::{Function, Program};
 
-/// An executable file, and what each function may take of the stack.
+/// An executable file, and the bytes of the stack that each function may take.
 #[derive(Drop)]
 pub struct Built {
     /// The ELF32 file.

@@ -28,7 +28,7 @@ use typed_ast::Program;
 use typing::check;
 
 /// The typed program of a set of files, from the one of this name on, for a stack of this size: the phases in their order (ISO/IEC 9899:2011 5.1.1.2), a
-/// call each. What a phase leaves is given up in the next.
+/// call each. Each phase consumes and frees the output of the previous one.
 pub fn checked_unit(
     alloc: Global,
     set: &FileSet,

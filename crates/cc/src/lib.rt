@@ -13,10 +13,12 @@ mod transfer;
 mod writing;
 
 pub use cabs::{Observer, Unobserved};
-pub use cc_backend::{CodeMap, CodeRow, DataObject, FunctionCode, Reference};
+pub use cc_backend::{
+    CodeMap, CodeRow, DataObject, FunctionCode, FunctionHomes, ObjectHome, Reference, ScopeCode,
+};
 pub use compiling::{Built, compile, compile_checked, compile_with};
 pub use elf_out::StackSize;
-pub use mapping::{checked_program, map_of};
+pub use mapping::{Mapped, checked_program, map_of};
 pub use performing::{Cmd, interpret_observed, perform};
 pub use reading::read_source;
 pub use writing::write_out;

@@ -1,4 +1,4 @@
-//! From source files to the typed program, and to where its parts lie in the executable file.
+//! From source files to the typed program, and to the addresses of its parts in the executable file.
 
 ghost use Rattle.std.specs.Prelude.{◌≡◌, List, [], IfOk, IfErr};
 ghost use Rattle.tree.specs.Tree.{ExternalTree};
@@ -16,7 +16,14 @@ use srcset::{Fault, FileSet, Names};
 use std::alloc::Global;
 use typed_ast::Program;
 
-/// Where the functions, the statements and the objects of the program in the file `main` of the set lie in the file that `compile_with`
+/// A typed program, and the addresses of its parts in the executable file.
+#[derive(Drop)]
+pub struct Mapped {
+    pub program: Program,
+    pub map: CodeMap,
+}
+
+/// The typed program of the file `main` of the set, and the addresses of its functions, statements and objects in the file that `compile_with`
 /// makes of it. The names are numbered in `names`, which is to have none. It refuses as `compile_with` does.
 pub fn map_of(
     alloc: Global,
@@ -24,12 +31,12 @@ pub fn map_of(
     main: &str,
     names: &mut Names,
     stack: StackSize,
-) -> Result<CodeMap, Fault>
+) -> Result<Mapped, Fault>
     requires new { names.old ≡ [] }
     ensures refused { IfErr result (λ fault. IsRefused stack set.now main.now fault) }
 {
-    match mapped(alloc, set, main, names, stack) {
-        Ok(map) => Ok(map),
+    match map_checked(alloc, set, main, names, stack) {
+        Ok(mapped) => Ok(mapped),
         Err(stop) => Err(stop.to_fault(alloc, main)),
     }
 }
@@ -54,19 +61,19 @@ pub fn checked_program(
     }
 }
 
-fn mapped(
+fn map_checked(
     alloc: Global,
     set: &FileSet,
     main: &str,
     names: &mut Names,
     stack: StackSize,
-) -> Result<CodeMap, Stop>
+) -> Result<Mapped, Stop>
     requires new { names.old ≡ [] }
     ensures stops { IfErr result (Stops stack set.now main.now) }
 {
     let program = checked_unit(alloc, set, main, names, stack)?;
     match code_map(alloc, &program, stack) {
-        Ok(map) => Ok(map),
+        Ok(map) => Ok(Mapped { program, map }),
         Err(_) => Err(Stop::Memory),
     }
 }

@@ -25,7 +25,7 @@ use std::alloc::Global;
 use std::io::Write;
 use typed_ast::Program;
 
-/// What is asked of the program.
+/// A command to the compiler.
 #[derive(Clone, Copy, Debug, PartialEq, Eq)]
 pub enum Cmd<'c> {
     /// Compile the main file; the executable file goes to the port, which writes the file of this name.
@@ -34,14 +34,14 @@ pub enum Cmd<'c> {
     Pp,
     /// Write the listing of the main file's code: the address, the word and the instruction of each word of its text.
     List,
-    /// Run the executable file over the port, for at most so many instructions.
+    /// Run the executable file over the port, for at most this number of instructions.
     Run(u64),
-    /// Interpret the program of the main file over the port, for at most so many ticks.
+    /// Interpret the program of the main file over the port, for at most this number of ticks.
     Interp(u64),
 }
 
-/// Carries a command out, and answers the exit status. The stack of a program that is built has this size, and no function of a program that is
-/// built, listed or interpreted weighs more.
+/// Executes a command, and returns the exit status. The stack of a program that is built has this size, and no function of a program that is built, listed or
+/// interpreted weighs more.
 ///
 /// `Build` compiles the file `main` of the set, and puts the executable file on the port: 0, or 1 with the
 /// line of the fault on `err`. `Pp` writes the tokens of the file `main`, with those of the files that it includes, to `out`:
@@ -49,9 +49,9 @@ pub enum Cmd<'c> {
 /// `out`: 0, or 1 with the line of the fault on `err`. `Run` runs the executable file of the name `main` and the bytes `file` over
 /// the port: the program's status, or, each with one line on `err`, 1 where the file is refused or memory runs
 /// out, 124 where it did not end within the instructions allowed, 125 where it trapped, and 126 where the port
-/// refused. `Interp` does what the program of the file `main` of the set means, over the port: the program's status, or, each
+/// refused. `Interp` interprets the program of the file `main` of the set, over the port: the program's status, or, each
 /// with one line on `err`, 1 where the set is refused or memory runs out, 123 at undefined behaviour, 124 where it did not end within
-/// the ticks allowed, and 126 where the port refused. No line takes memory to say. What `err` refuses is left out.
+/// the ticks allowed, and 126 where the port refused. No line takes memory to print. Failures of `err` are ignored.
 pub fn perform<P: Port, W: Write, E: Write>(
     alloc: Global,
     command: Cmd<'_>,
@@ -94,7 +94,7 @@ fn build<P: Port, E: Write>(
     }
 }
 
-/// Puts the executable file on the port.
+/// Writes the executable file to the port.
 fn build_into<P: Port>(
     alloc: Global,
     set: &FileSet,
@@ -282,8 +282,8 @@ fn interp<P: Port, E: Write>(
     }
 }
 
-/// Does what a program with these names means, over the port and for at most so many ticks, as `Interp` of `perform` does of the program of
-/// a set, and tells the observer what it does. Answers the exit status.
+/// Interprets a program with these names, over the port and for at most `max` ticks, as `Interp` of `perform` does the program of a set, and notifies the
+/// observer of what it does. Returns the exit status.
 pub fn interpret_observed<P: Port, E: Write, O: Observer>(
     alloc: Global,
     program: &Program,

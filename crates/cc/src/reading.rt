@@ -33,7 +33,7 @@ fn read_bytes<P: Port>(alloc: Global, port: &mut P) -> Result<Vec<u8>, Stop>
 
 /// The bytes that a port has left, which are those of the source file of this name.
 ///
-/// Fails with 701 at byte 1,048,577, which is the last that is got; where the port refuses, with the code of what it refused with
+/// Fails with 701 at byte 1,048,577, which is the last that is got; where the port refuses, with the code of its fault
 /// (801, 802, 803); and with 801 where memory runs out. 701, 802 and 803 name the file.
 pub fn read_source<P: Port>(alloc: Global, name: &str, port: &mut P) -> Result<Vec<u8>, Fault>
     ensures { MatchResult result

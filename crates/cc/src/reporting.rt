@@ -1,4 +1,4 @@
-//! What the program says on standard error.
+//! The messages of the program on standard error.
 
 ghost use Rattle.std.specs.Prelude.{◌≡◌, ◌++◌, [], codes, decimal, true, IfOk, OnOk};
 ghost use Rattle.std.specs.Io.KnownBytes.{Appends};
@@ -58,7 +58,7 @@ fn write_both<E: Write>(err: &mut E, first: &[u8], second: &[u8]) -> bool
     write_text(err, second)
 }
 
-/// Where a fault stands: `FILE:LINE: `, or `cc: ` where there is no file.
+/// The place of a fault: `FILE:LINE: `, or `cc: ` where there is no file.
 fn write_place<E: Write>(err: &mut E, file: &str, line: u32) -> bool
     ensures all { result ≡ true → Appends (E.contents err.old) (E.contents err.new) (place_text file.now line) }
     ensures some { TakesBeginning (E.contents err.old) (E.contents err.new) (place_text file.now line) }
@@ -73,7 +73,7 @@ fn write_place<E: Write>(err: &mut E, file: &str, line: u32) -> bool
     write_both(err, number.format(line).as_bytes(), b": ")
 }
 
-/// What is wrong: `CODE TEXT`, without the text that the fault adds.
+/// The message of the fault: `CODE TEXT`, without the text that the fault adds.
 fn write_message<E: Write>(err: &mut E, code: u16) -> bool
     ensures all { result ≡ true → Appends (E.contents err.old) (E.contents err.new) (decimal code ++ codes " " ++ message_of code) }
     ensures some { TakesBeginning (E.contents err.old) (E.contents err.new) (decimal code ++ codes " " ++ message_of code) }

@@ -7,20 +7,19 @@ use io_ports::PortFault;
 use srcset::{Code, Fault};
 use std::alloc::Global;
 
-/// Why a command stops, before it is told.
+/// Why a command stops, before it is reported.
 #[derive(Drop)]
 pub enum Stop {
     /// Memory ran out.
     Memory,
-    /// The file that the command names has this fault: what is wrong, and its line.
+    /// The file that the command names has this fault: its code, and its line.
     At(Code, u32),
-    /// A phase has told why.
+    /// A phase has already reported why.
     Told(Fault),
 }
 
 impl Stop {
-    /// The fault that tells it, of the file of this name. It is 801 for `Memory`, and where the copy of the
-    /// name finds no memory.
+    /// The fault that reports it, of the file of this name. It is 801 for `Memory`, and where memory runs out for the copy of the name.
     pub fn to_fault(self, alloc: Global, name: &str) -> Fault
         ensures { IsToldAs name.now self result }
     {
@@ -32,7 +31,7 @@ impl Stop {
     }
 }
 
-/// Why a file was not read or not put whole, by what the port refused.
+/// Why a file was not read or not put whole, by the fault of the port.
 pub fn port_stop(fault: PortFault) -> Stop
     ensures { result ≡ port_stop fault }
 {

@@ -20,7 +20,7 @@ use pp::Pp;
 use srcset::{FileSet, Names, Refusal};
 use std::alloc::Global;
 
-/// Reads a token; what the lexer refuses it refuses again at its end. Where the table has no further text it is the same; else no text
+/// Reads a token; a refusal of the lexer is repeated at its end. Where the table has no further text it is the same; else no text
 /// has two numbers.
 fn read_one(lexer: &mut Lexer, token: &PpToken<'_>, names: &mut Names)
     ensures reads { (front : List Token) → HasRead names.old front lexer.old → HasRead names.new (front ++ token.now ∷ []) lexer.new }
@@ -34,8 +34,8 @@ fn read_one(lexer: &mut Lexer, token: &PpToken<'_>, names: &mut Names)
     }
 }
 
-/// Reads the tokens of a stream to its end. What the lexer refuses it refuses again at its end; until then the stream goes on, since a
-/// fault of preprocessing is told before one of a token.
+/// Reads the tokens of a stream to its end. A refusal of the lexer is repeated at its end; until then the stream goes on, since a fault of preprocessing is
+/// reported before one of a token.
 fn read_all(alloc: Global, mut stream: Pp<'_>, names: &mut Names) -> Result<Lexer, Refusal>
     requires { IsStream names.old stream }
     ensures reads { IfOk result (λ lexer. ReadsAll names.old names.new stream.entry lexer) }

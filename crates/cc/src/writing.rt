@@ -9,9 +9,9 @@ use io_ports::Port;
 use srcset::Fault;
 use std::alloc::Global;
 
-/// Puts all bytes of an executable file on the port of the file of this name.
+/// Writes all bytes of an executable file to the port of the file of this name.
 ///
-/// Fails where the port refuses a byte, with the code of what it refused with (801, 802, 803), of the file of this name; a beginning
+/// Fails where the port refuses a byte, with the code of its fault (801, 802, 803), of the file of this name; a beginning
 /// of the bytes was put then.
 pub fn write_out<P: Port>(alloc: Global, name: &str, elf: &[u8], port: &mut P) -> Result<(), Fault>
     ensures { MatchResult result

@@ -30,7 +30,7 @@ provided_fine P (fine u) (fine a) h = h
 provided_fine P (fine u) (broken vs) h = tt
 provided_fine P (broken vs) part h = tt
 
--- the functions that are built have so many nodes
+-- the functions built so far have at most n nodes
 abbrev HasNodes : ℕ → Built → Type 0
 HasNodes n b = nodes_of b.functions ≤ n
 
@@ -54,7 +54,7 @@ external_fine : (b : Built) (e : ExternalTree) → IfFine (HasNodes (nodes_of b.
 external_fine b (definition f) = function_fine b f
 external_fine b (declaration d) = then_fine (HasNodes (nodes_of b.functions + declaration_nodes d)) (declaration_typed b.scope d) (with_declaration b) (λ x. omega arith)
 
--- a rule that goes on where something holds of what was fine
+-- a rule that continues where Q holds of the fine value
 then_with : {A B : Type 0} (Q : A → Type 0) (P : B → Type 0) (v : Verdict A) (go : A → Verdict B) → IfFine Q v → ((a : A) → Q a → IfFine P (go a)) → IfFine P (then_check v go)
 then_with Q P (fine a) go q h = h a q
 then_with Q P (broken vs) go q h = tt

@@ -50,13 +50,13 @@ calls_of : (q : tac.Program) (input : List ℕ) (m : ℕ) (t : tac_run.State) �
 calls_of q input m t e = subst HasCalls e (calls_are_active q m input)
 
 module _ (p : typed.Program) (q : tac.Program) (input : List ℕ) where
-  -- what a step has done is a beginning of what later ones have
+  -- the trace of a step is a prefix of that of each later one
   leads : (k m : ℕ) (t : tac_run.State) → k ≤ m → before q input k ≡ tac_run.running t → ComesOf (tac_run.running t) (before q input m)
   leads k m t le e =
       let sum : k + (m - k) ≡ m = omega (arith, le) in
       subst (λ j. ComesOf (tac_run.running t) (before q input j)) sum (subst (λ x. ComesOf x (before q input (k + (m - k)))) e (run_grows q k (m - k) (tac_run.start q input)))
 
-  -- where m steps have come to what n ticks have
+  -- where the history after m steps is a part of the history after n ticks
   its_calls : (n m : ℕ) → ((t : tac_run.State) → ComesOf (tac_run.running t) (before q input m) → Grows t.history (last_of (cstep n p input)).history)
       → (calls : List ℕ) → (of_tac q input).Calls m calls → (of_program p input).Calls n calls
   its_calls n m grows calls c = (c.1.history, grows c.1 (leads c.0 m c.1 c.2 c.3), sym (calls_of q input c.0 c.1 c.3) ∙ c.4)

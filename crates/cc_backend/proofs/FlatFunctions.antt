@@ -28,7 +28,7 @@ use Rattle.cc_backend.specs.Made.{IsReady, IsFlatCodeOf}
 use Rattle.cc_backend.specs.inside.FlatFunctions.{IsFlatFunctionOf, AreFlatFunctionsOf}
 use Rattle.cc_backend.proofs.Generates.{code_of}
 
--- ---- one function: what it may name is there, though no other has its code yet
+-- ---- one function: each function that it may name is there, though no other has its code yet
 
 abbrev unwritten : typed.Function → tac.Function
 unwritten f = record { code = []; parameters = map kind_of f.type.parameters; objects = []; temporaries = 0; kept = 0 }

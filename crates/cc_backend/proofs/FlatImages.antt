@@ -1,4 +1,4 @@
--- The memory of an image has a flat program's items and statics where the machine's laws want them.
+-- The memory of an image has a flat program's items and statics at the places that the machine's laws require.
 use Rattle.std.proofs.Common.{◌≡◌, ℕ, zero, suc, ◌+◌, ◌-◌, ◌%◌, ◌^◌, ◌<◌, ◌≤◌, List, [], ◌∷◌, length, Some, Bool, true, false, ◌||◌, refl, ap, ◌∙◌, arith, eqb}
 use Rattle.std.specs.Prelude.{◌==◌, if◌then◌else◌, slice_index, slice_get, nat_le, nat_lt, replicate}
 use Rattle.std.proofs.lemmas.Bool.Decides.{nat_tests}
@@ -200,7 +200,7 @@ image_calls_keep p parts input q bytes n m f s t over es later et same rooms inn
     calls_keep (permits p parts q) (low p parts q) (apart p parts q) p q.assembled.env (floor p parts q) (data_at p parts q) text_start (past_text p parts q) (λ k. 0) (space p parts q).byte (replicate 32 0) input (laid p parts q) (zero_registers p parts q) bytes n m f s t over es later et same
     (λ k le. room p parts q (run p k (start p input)) (rooms k le)) (λ k le. room p parts q (run p k (entered s f)) (inner k le)) within
 
--- what is kept while the stack serves one way is kept while it serves another that gives the first
+-- what is kept while the stack serves in one sense is kept while it serves in another sense that implies the first
 pub serves_more : (p : Program) (env : ℕ → ℕ) (data_at : ℕ) (at : ℕ → sim.Progress) (entry back : ℕ) (c : State) (S T : ℕ → Type 0) → ((m : ℕ) → T m → S m) → KeepsConvention p env data_at at entry back c S
     → KeepsConvention p env data_at at entry back c T
 serves_more p env data_at at entry back c S T gives keeps = record {

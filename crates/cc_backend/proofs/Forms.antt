@@ -1,4 +1,4 @@
--- Flat code of three-address code, beside its runs; and what its frames take.
+-- Flat code of three-address code, apart from its runs; and the size of its frames.
 use Rattle.std.proofs.Common.{◌≡◌, ℕ, zero, suc, ◌<◌, ◌≤◌, List, [], ◌∷◌, length, map, Option, Some, None, refl, subst, arith}
 use Rattle.std.specs.Prelude.{slice_get}
 use Rattle.typing_spec.specs.Program as typed
@@ -54,7 +54,7 @@ module _ (weight : ℕ → ℕ) (f : flat.Program) (sound : flat_sound.IsSoundPr
   frames_within [] k = omega arith
   frames_within (w ∷ ws) k = omega (arith, frames_within ws k.1, each w.function k.0)
 
-  -- where the weights of the active calls are within a limit, their frames fit a stack of so many bytes
+  -- where the weights of the active calls are within a limit, their frames fit a stack of `limit` bytes
   pub frames_fit : (limit : ℕ) (input : List ℕ) (j : ℕ) (x : flat_run.Progress) → behind f input j ≡ x
       → ((s : flat_run.State) → behind f input j ≡ flat_run.running s → sum_of weight (flat_run.active s) ≤ limit) → FitStack limit f x
   frames_fit limit input j (flat_run.running s) e fits =

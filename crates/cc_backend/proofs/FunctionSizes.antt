@@ -21,7 +21,7 @@ size_within long (Constant rd v) = omega arith
 size_within long (LabelAddress rd l) = omega arith
 size_within long (DataAddress rd o) = omega arith
 
--- without the first item the others stand where they stood
+-- without the first item the others have the places that they had
 without_first : (L : ℕ → Bool) (base : ℕ) (x : Item) (xs : List Item) (k : ℕ) → place L base (x ∷ xs) (suc k) ≡ place (λ j. L (suc j)) (base + size (L 0) x) xs k
 without_first L base x xs zero = refl
 without_first L base x xs (suc k) = ap (λ n. n + size (L (suc k)) (item_at xs k)) (without_first L base x xs k)
@@ -34,7 +34,7 @@ ends_within L base (x ∷ xs) =
     let one : longest (x ∷ []) ≡ 0 + size true x = refl in
     omega (arith, without_first L base x xs (length xs), ends_within (λ j. L (suc j)) (base + size (L 0) x) xs, size_within (L 0) x)
 
--- a part of a list ends no further behind its beginning
+-- a part of a list ends at most its longest size after its beginning
 pub part_within : (L : ℕ → Bool) (base : ℕ) (before own behind : List Item)
     → place L base (before ++ (own ++ behind)) (length before + length own) ≤ place L base (before ++ (own ++ behind)) (length before) + longest own
 part_within L base before own behind =

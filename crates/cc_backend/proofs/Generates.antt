@@ -46,7 +46,7 @@ use Rattle.cc_backend.specs.Made.{IsReady, IsFlatCodeOf, FramesFit, FunctionsFit
 use Rattle.cc_backend.proofs.FunctionSizes.{part_within, function_among}
 use Rattle.cc_backend.proofs.Bounds.{has_room as room_of}
 
--- sums of what is less at each place
+-- sums of lists that are less at each place
 pub sums_within : {A B : Type 0} (g : A → ℕ) (h : B → ℕ) (xs : List A) (ys : List B) → length xs ≡ length ys
     → ((k : ℕ) (x : A) (y : B) → slice_get xs k ≡ Some x → slice_get ys k ≡ Some y → g x ≤ h y) → sum_by g xs ≤ sum_by h ys
 sums_within g h [] ys same each = omega arith

@@ -38,7 +38,7 @@ sum_by_map g h k each [] = refl
 sum_by_map g h k each (x ∷ xs) =
     sum_by-cons g (h x) (map h xs) ∙ ap (λ n. n + sum_by g (map h xs)) (each x) ∙ ap (λ n. k x + n) (sum_by_map g h k each xs) ∙ sym (sum_by-cons k x xs)
 
--- what holds of each two items that stand at one place holds with one more
+-- a property of each two items at the same place holds with one more
 pub each_snoc : {F G : Type 0} (P : ℕ → F → G → Type 0) (fs : List F) (gs : List G) (f0 : F) (g0 : G) → slice_get fs (length gs) ≡ Some f0 → P (length gs) f0 g0
     → ((n : ℕ) (f : F) (g : G) → slice_get fs n ≡ Some f → slice_get gs n ≡ Some g → P n f g)
     → (n : ℕ) (f : F) (g : G) → slice_get fs n ≡ Some f → slice_get (gs ++ g0 ∷ []) n ≡ Some g → P n f g

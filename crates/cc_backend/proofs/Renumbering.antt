@@ -1,4 +1,4 @@
--- Flat code with its words under other numbers does what it did.
+-- Flat code with its words renumbered behaves as before.
 use Rattle.std.proofs.Common.{◌≡◌, ℕ, zero, suc, ◌+◌, max, List, [], ◌∷◌, length, map, Some, refl, sym, ap, ◌∙◌, subst, arith}
 use Rattle.std.specs.Prelude.{slice_get, sum_by}
 use Rattle.tac_code.specs.Code as tac
@@ -36,7 +36,7 @@ keep_same : (to : ℕ → ℕ) (d : Target) → keep_bytes (renumbered_target to
 keep_same to (target.Temporary k) = refl
 keep_same to (target.Cell c) = refl
 
--- what comes of two equal numbers, and of three
+-- a function of two equal numbers, and of three
 two_same : (f : ℕ → ℕ → ℕ) (a b x y : ℕ) → a ≡ b → x ≡ y → f a x ≡ f b y
 two_same f a b x y e g = ap (λ n. f n x) e ∙ ap (f b) g
 

@@ -20,8 +20,8 @@ use Rattle.cc_backend.specs.Made.{IsFlatCodeOf}
 abbrev pub FitsFor : (stack : ℕ) → Program → (c : State) → ℕ → Type 0
 FitsFor stack p c m = (j : ℕ) → j ≤ m → FitStack stack p (run p j c)
 
--- Each call that a flat program's run comes to, with the stack fitting up to there, keeps the calling convention on the machine that runs its image, as long as all
--- frames fit the stack ..
+-- Each call that a flat program's run reaches, with the stack fitting up to there, keeps the calling convention on the machine that runs its image, as long as
+-- all frames fit the stack ..
 abbrev pub ImageCallsKeepConvention : Type 0
 ImageCallsKeepConvention =
     (p : Program) (parts : Parts) (input : List ℕ) → (q : IsImageOf p parts) → AreBytes input
@@ -37,8 +37,8 @@ ImageMainKeepsConvention =
     → KeepsConvention p q.assembled.env (data_start (length parts.text)) (λ k. rvrun k (start_world (program_image parts) input))
     (q.assembled.env p.main) (text_start + 16) (start p input) (FitsFor parts.stack p (start p input))
 
--- The frames of the calls that are active in a run of a program's flat code are never more than the greatest sum of weights that the abstract machine
--- tells: not in its first n steps, where that has used n ticks, and not at all, where that has ended.
+-- The frames of the calls that are active in a run of a program's flat code are never more than the greatest sum of weights that the abstract machine reports:
+-- not in its first n steps, where that has used n ticks, and not at all, where that has ended.
 abbrev pub FramesAreWeighed : Type 0
 FramesAreWeighed =
     (p : typed.Program) (f : Program) (input : List ℕ) → IsFlatCodeOf p f → AreBytes input

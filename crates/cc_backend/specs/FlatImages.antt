@@ -1,4 +1,4 @@
--- What it is for an image to be that of a flat program, and how it then runs.
+-- The relation of an image to a flat program, and how it then runs.
 use Rattle.std.specs.Prelude.{◌≡◌, ◌≤◌, ◌<◌, ℕ, ◌+◌, ◌*◌, List, ◌∷◌, length, Some}
 use Rattle.memory_map.specs.MemoryMap.{text_start, IsStackSize}
 use Rattle.elf_out.specs.Layout.{Parts}
@@ -27,14 +27,14 @@ pub record IsImageOf (p : Program) (parts : Parts) : Type 0 where
   pub size : length parts.text + length parts.statics ≤ 0x7000000
   pub stack : IsStackSize parts.stack
 
--- the frames of the calls that are active fit a stack of so many bytes
+-- the frames of the active calls fit a stack of `stack` bytes
 abbrev pub FitStack : (stack : ℕ) → Program → Progress → Type 0
 FitStack stack p (running s) = bytes_of p (s.frame ∷ s.waiting) ≤ stack
 FitStack stack p (ended status input trace) = Unit {0}
 FitStack stack p stuck = Unit {0}
 
--- So many steps of the program, where all frames on the way fit the stack and the input is bytes, are so many instructions of the machine from its
--- image: at most the sum of the rows of `simulation`'s table, and at least one for each so many steps.
+-- n steps of the program, where all frames on the way fit the stack and the input is bytes, are k instructions of the machine from its image: at most the sum
+-- of the rows of `simulation`'s table, and at least one for each `slack` steps.
 abbrev pub ImageGoesOn : Type 0
 ImageGoesOn =
     (p : Program) (parts : Parts) (input : List ℕ) → (q : IsImageOf p parts) → AreBytes input
@@ -48,8 +48,8 @@ ImageEnds =
     → (n status : ℕ) (left : List ℕ) (trace : List Event) → run p n (start p input) ≡ ended status left trace → ((k : ℕ) → k ≤ n → FitStack parts.stack p (run p k (start p input)))
     → (k : ℕ) × (w : World) × (k ≤ most_start p + most_spent p n (start p input) + 2) × (rvrun k (start_world (program_image parts) input) ≡ Ended status w) × (w.trace ≡ trace) × (w.input ≡ left)
 
--- At each call that the program comes to, and behind the return that ends it (m steps within the call, and then that Return): the machine stands where the
--- program does, with the arguments of the call, and then behind the call, with the same stack pointer and s0 to s11, and the result.
+-- At each call that the program reaches, and after the return that ends it (m steps within the call, and then that Return): the machine is where the program
+-- is, with the arguments of the call, and then after the call, with the same stack pointer and s0 to s11, and the result.
 abbrev pub ImageCallsKeep : Type 0
 ImageCallsKeep =
     (p : Program) (parts : Parts) (input : List ℕ) → (q : IsImageOf p parts) → AreBytes input

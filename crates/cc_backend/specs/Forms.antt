@@ -1,4 +1,4 @@
--- What flat code has of the three-address code that it was made of, beside its runs.
+-- The relation of flat code to the three-address code that it was made of, apart from its runs.
 use Rattle.std.specs.Prelude.{◌≡◌, ℕ, length, slice_get, Some}
 use Rattle.tac_code.specs.Code as tac
 use Rattle.frames_code.specs.Code as flat

@@ -32,7 +32,7 @@ use Rattle.cc_backend.specs.Runs.{RunsAs}
 abbrev pub nodes_of : List Function → ℕ
 nodes_of fs = sum_by (λ f. f.nodes) fs
 
--- what the constraints give, and the limit of a program's nodes
+-- the facts that the constraints give, and the limit of a program's nodes
 pub record IsReady (p : Program) : Type 0 where
   pub checked : IsChecked p
   pub asked : is_asked p ≡ true
@@ -44,7 +44,7 @@ UnitsAreSmall =
     (stack : ℕ) (texts : List (List ℕ)) (whole : Pos) (unit : List ExternalTree) (p : Program) → unit_typed stack texts whole unit ≡ fine p
     → nodes_of p.functions ≤ unit_nodes unit
 
--- Flat code of the program: what its three-address code is flattened to, made simpler, the words of its frames under numbers by their use.
+-- Flat code of the program: its three-address code is flattened and simplified, and the words of its frames are renumbered by their use.
 pub record IsFlatCodeOf (p : Program) (f : flat.Program) : Type 0 where
   pub code : tac.Program
   pub lowered : IsLowered p code
@@ -59,11 +59,11 @@ FramesFit p frames =
     (length frames ≡ length p.functions)
     × ((k : ℕ) (f : Function) (bytes : ℕ) → slice_get p.functions k ≡ Some f → slice_get frames k ≡ Some bytes → (bytes ≤ f.weight) × (bytes ≤ span f))
 
--- at most 128 bytes for each node, and 1024 for each function and for what comes before them
+-- at most 128 bytes for each node, and 1024 for each function and for the code before them
 abbrev pub most_text : Program → ℕ
 most_text p = 1024 + sum_by (λ f. 128 * f.nodes + 1024) p.functions
 
--- In the text of the file, whose items stand where these long branches put them, the code of each function is at most 128 bytes for each node of its
+-- In the text of the file, with its items at the places that these long branches give, the code of each function is at most 128 bytes for each node of its
 -- definition, and 1024.
 abbrev pub FunctionsFit : Program → flat.Program → (ℕ → Bool) → Type 0
 FunctionsFit p code long =
@@ -71,9 +71,9 @@ FunctionsFit p code long =
     → (before own behind : List Item) × (number at : ℕ) × (program_items code ≡ before ++ (own ++ behind)) × (own ≡ function_items number at f)
     × (place long text_start (program_items code) (length before + length own) ≤ place long text_start (program_items code) (length before) + (128 * g.nodes + 1024))
 
--- How the executable file of a program is made, with the bytes of the frame of each function. It is the image of flat code of the program, with the
--- fewest long branches, has its frames, and has a stack of so many bytes; so all that is known of such an image is known of the file. Its data are 16 bytes, string literals and
--- statics.
+-- How the executable file of a program is made, with the bytes of the frame of each function. It is the image of flat code of the program, with the fewest long
+-- branches, has its frames, and has a stack of `stack` bytes; so all that is known of such an image is known of the file. Its data are 16 bytes, string
+-- literals and statics.
 pub record IsFileOf (stack : ℕ) (p : Program) (file frames : List ℕ) : Type 0 where
   pub code : flat.Program
   pub code_is : IsFlatCodeOf p code
@@ -88,8 +88,8 @@ pub record IsFileOf (stack : ℕ) (p : Program) (file frames : List ℕ) : Type 
   pub text_fits : length parts.text ≤ most_text p
   pub data_fits : length parts.statics ≤ 16 + data_bytes p.literals p.statics
 
--- The items of a file of the program with a stack of so many bytes, which runs as the program does: they end where the assembler takes them, each jump reaches its label, and the
--- text of the file is what they assemble to.
+-- The items of a file of the program with a stack of `stack` bytes, which runs as the program does: they end where the assembler takes them, each jump reaches
+-- its label, and the text of the file is their assembly.
 pub record AreItemsOf (stack : ℕ) (p : Program) (items : List Item) : Type 0 where
   pub file : List ℕ
   pub frames : List ℕ

@@ -24,11 +24,11 @@ abbrev pub HasFrames : (frames : List ℕ) → List Entry → World → Type 0
 HasFrames frames history w =
     (register w.machine 2 % 16 ≡ 0) × (register w.machine 2 + sum_of (λ g. bytes_or_none (slice_get frames g)) (active history) ≡ stack_end)
 
--- the machine of the table, from the image on this input, stands at such an instruction after at most so many
+-- the machine of the table, from the image on this input, is at such an instruction after at most `most` instructions
 abbrev pub Reaches : Image → List ℕ → (most : ℕ) → (ℕ → World → Type 0) → Type 0
 Reaches image input most There = (k : ℕ) × (w : World) × (k ≤ most) × There k w
 
--- it has done what the abstract machine has done, and has its input left
+-- its trace is that of the abstract machine, and so is its remaining input
 abbrev pub HasDone : State → World → Type 0
 HasDone s w = (w.trace ≡ trace_of s.history) × (w.input ≡ s.input)
 
@@ -41,7 +41,7 @@ GoesOnWith image input frames s k w = (rvrun k (start_world image input) ≡ sim
 -- The file has an image. For every input of bytes and every n: where the abstract machine ends within n ticks, and the weights of the calls active at
 -- one time never summed to more than this stack, the machine ends with the same status, having done the same; where n ticks are used, it goes
 -- on, having done the same, its stack pointer below the stack's end by just the frames of the calls that are active. For n ticks it takes at most
--- 60 n + 66 instructions, and at least one for each so many ticks, so that an unending run has all that the abstract machine does.
+-- 60 n + 66 instructions, and at least one for each `slack` ticks, so that an unending run does all that the abstract machine does.
 pub record RunsAs (stack : ℕ) (p : Program) (frames file : List ℕ) : Type 0 where
   pub image : Image
   pub loads : file_image file ≡ Ok image

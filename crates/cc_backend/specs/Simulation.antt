@@ -1,22 +1,22 @@
--- Forward simulation, with what it costs: that one system does what another does, in one form for each step of the way from a program to its file.
+-- Forward simulation, with its cost: one system does all that another does, in one form for each step of the way from a program to its file.
 use Rattle.std.specs.Prelude.{◌≤◌, ℕ, ◌+◌, ◌*◌, List}
 use Rattle.csem_events.specs.Events.{Event}
 use Rattle.csem.specs.History.{sum_of}
 
--- what a run that goes on has done, the newest first, what it has left of its input, and the calls that are active, the innermost first
+-- of a run that goes on: its trace, the newest event first, its remaining input, and the active calls, the innermost first
 pub record Doing : Type 0 where
   pub trace : List Event
   pub input : List ℕ
   pub calls : List ℕ
 
--- what a run that has ended did, and with what status
+-- of a run that has ended: its status, its trace and its remaining input
 pub record Done : Type 0 where
   pub status : ℕ
   pub trace : List Event
   pub input : List ℕ
 
--- A system on one input: whether it goes on so, or has ended so, after a number of steps; whether these calls were active at a moment on the way there;
--- and what the steps cost, in instructions of the machine.
+-- A system on one input: whether it goes on so, or has ended so, after a number of steps; whether these calls were active at a moment on the way there; and the
+-- cost of the steps, in instructions of the machine.
 pub record System : Type 1 where
   pub Goes : ℕ → Doing → Type 0
   pub Ends : ℕ → Done → Type 0
@@ -27,8 +27,8 @@ pub record System : Type 1 where
 abbrev pub AreWithin : (weight : ℕ → ℕ) (limit : ℕ) → System → ℕ → Type 0
 AreWithin weight limit system n = (calls : List ℕ) → system.Calls n calls → sum_of weight calls ≤ limit
 
--- what the second system may take more than the first, where they go on and where they end; how many steps of the first one of the second is at
--- most, as it makes at least so many
+-- how much more the second system may cost than the first, where they go on and where they end; the greatest number of steps of the first for one of the
+-- second; and the least number of steps that the second makes
 pub record Terms : Type 0 where
   pub more : ℕ
   pub more_at_end : ℕ
@@ -53,7 +53,7 @@ step_for_step = record { more = 0; more_at_end = 0; slack = 1; least = 0 }
 abbrev pub both : Terms → Terms → Terms
 both s t = record { more = s.more + t.more; more_at_end = s.more_at_end + t.more_at_end; slack = s.slack * t.slack; least = t.least }
 
--- where a second system does what the first does, and a third what the second does, the third does what the first does
+-- where a second system does all that the first does, and a third all that the second does, the third does all that the first does
 abbrev pub Compose : Type 1
 Compose =
     (s t : Terms) (weight : ℕ → ℕ) (limit : ℕ) (first second third : System) → Simulates s weight limit first second → Simulates t weight limit second third

@@ -1,4 +1,4 @@
--- How many bytes the code of a function takes that was lowered and flattened, by what `select` emits for it.
+-- How many bytes the code of a lowered and flattened function takes, by the code that `select` emits for it.
 use Rattle.std.specs.Prelude.{◌≡◌, ◌≤◌, ℕ, ◌+◌, ◌*◌, slice_get, Some}
 use Rattle.typing_spec.specs.Program as typed
 use Rattle.tac_code.specs.Code as tac
@@ -20,6 +20,6 @@ CodeFits =
     → (k : ℕ) (g : typed.Function) (h : flat.Function) → slice_get p.functions k ≡ Some g → slice_get f.functions k ≡ Some h
     → rows_of h ≤ 128 * g.nodes + 1024
 
--- no function has so much code that a jump does not reach: what `jump_reach` takes
+-- no function has more code than a jump reaches: the premise of `jump_reach`
 abbrev pub ProgramIsShort : Type 0
 ProgramIsShort = (p : typed.Program) (q : tac.Program) (f : flat.Program) → IsChecked p → IsLowered p q → IsFormOf q f → IsShortProgram f

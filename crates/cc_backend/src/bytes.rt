@@ -1,4 +1,4 @@
-//! What the types of bytes and of a stack's size say of them.
+//! The facts that the types of bytes and of a stack's size give of them.
 
 ghost use Rattle.memory_map.specs.MemoryMap.{IsStackSize};
 ghost use Rattle.tac_code.specs.Sound.{AreBytes};

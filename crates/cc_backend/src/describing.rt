@@ -1,9 +1,10 @@
-//! Where the functions, the statements and the objects of a program lie in its file, for listings and debuggers.
+//! The addresses of the functions, the statements and the objects of a program in its file, for listings and debuggers.
 
 ghost use Rattle.typed_ast.specs.View.{program_of};
 ghost use Rattle.cc_backend.specs.Made.{IsReady};
 
 use crate::flat_code::flat_program;
+use crate::homes::{FunctionHomes, program_homes};
 use crate::image::code_image;
 use asm::{Item, item_addresses};
 use elf_out::StackSize;
@@ -11,14 +12,25 @@ use frames::Starts;
 use memory_map::{MAX_IMAGE, TEXT_START, data_start};
 use srcset::Pos;
 use std::alloc::{AllocError, Global};
-use tac::{CodeStart, code_starts};
+use tac::{CodeScope, CodeStart, code_scopes, code_starts};
 use typed_ast::{Function, Program, Static};
 
-/// The address at which the code of what stands at a place begins.
+/// The address at which the code of the item at a place begins.
 #[derive(Clone, Copy, Debug)]
 pub struct CodeRow {
     pub place: Pos,
     pub address: u32,
+}
+
+/// The code of a scope (ISO/IEC 9899:2011 6.2.1p4): a block, or a `for` with its declarations.
+#[derive(Clone, Copy, Debug)]
+pub struct ScopeCode {
+    /// The number of its first object, and how many it has; those of a scope within it are among them.
+    pub first: usize,
+    pub count: usize,
+    /// The address of its first instruction, and that after its last.
+    pub start: u32,
+    pub end: u32,
 }
 
 /// The code of a function.
@@ -26,11 +38,15 @@ pub struct CodeRow {
 pub struct FunctionCode {
     /// The number of its name.
     pub name: usize,
-    /// The address of its first instruction, and that behind its last.
+    /// The address of its first instruction, and that after its last.
     pub start: u32,
     pub end: u32,
     /// Its statements, in the order of their code.
     pub rows: Vec<CodeRow>,
+    /// Its scopes, each before those within it.
+    pub scopes: Vec<ScopeCode>,
+    /// Where its objects live, by their numbers.
+    pub homes: FunctionHomes,
 }
 
 /// Bytes in the data.
@@ -52,12 +68,12 @@ pub enum Reference {
     Data(u32, u32),
 }
 
-/// Where the parts of a program lie.
+/// The addresses of the parts of a program.
 #[derive(Drop)]
 pub struct CodeMap {
     /// In the order of their definitions.
     pub functions: Vec<FunctionCode>,
-    /// String literals, and then the objects with static storage, in the order in which they lie.
+    /// String literals, and then the objects with static storage, in the order of their addresses.
     pub objects: Vec<DataObject>,
     /// In the order of their addresses.
     pub references: Vec<Reference>,
@@ -97,7 +113,7 @@ fn first_labels(
     Ok(firsts)
 }
 
-/// Looks through the items for what marks a label, calls, or loads an address in the data.
+/// Looks through the items for those that mark a label, call, or load an address in the data.
 fn found_in(
     alloc: Global,
     items: &[Item],
@@ -160,23 +176,45 @@ fn rows(
     Ok(rows)
 }
 
-/// The code of a function with this number, whose first instruction has the label `first`, and whose flat code begins with a move
-/// for each parameter.
+/// The scopes of a function, whose first instruction has the label `first`.
+fn scopes(
+    alloc: Global,
+    found: &[CodeScope],
+    labels: &[u32],
+    first: usize,
+) -> Result<Vec<ScopeCode>, AllocError> {
+    let mut scopes = Vec::with_capacity(alloc, found.len())?;
+    for scope in found {
+        scopes.push(ScopeCode {
+            first: scope.first,
+            count: scope.count,
+            start: address_at(labels, first.saturating_add(scope.start)),
+            end: address_at(labels, first.saturating_add(scope.end)),
+        })?;
+    }
+    Ok(scopes)
+}
+
+/// The code of a function whose first instruction has the label `first`, and whose flat code begins with a move for each parameter. It
+/// begins at an address.
 fn function_code(
     alloc: Global,
     program: &Program,
     function: &Function,
-    number: usize,
-    first: usize,
+    homes: FunctionHomes,
     labels: &[u32],
+    (start, first): (u32, usize),
 ) -> Result<FunctionCode, AllocError> {
     let starts = code_starts(alloc, program, function)?;
+    let found = code_scopes(alloc, program, function)?;
     let body = first.saturating_add(function.function_type.parameters.len());
     Ok(FunctionCode {
         name: function.name,
-        start: address_at(labels, number),
+        start,
         end: 0,
         rows: rows(alloc, starts.as_slice(), labels, body)?,
+        scopes: scopes(alloc, found.as_slice(), labels, body)?,
+        homes,
     })
 }
 
@@ -184,13 +222,17 @@ fn function_code(
 fn function_codes(
     alloc: Global,
     program: &Program,
+    homes: Vec<FunctionHomes>,
     firsts: &[usize],
     labels: &[u32],
 ) -> Result<Vec<FunctionCode>, AllocError> {
     let mut functions = Vec::with_capacity(alloc, program.functions.len())?;
-    for (number, function) in program.functions.iter().enumerate() {
-        let first = firsts.get(number).copied().unwrap_or(0);
-        functions.push(function_code(alloc, program, function, number, first, labels)?)?;
+    for (number, (function, homes)) in program.functions.iter().zip(homes).enumerate() {
+        let places = (
+            address_at(labels, number),
+            firsts.get(number).copied().unwrap_or(0),
+        );
+        functions.push(function_code(alloc, program, function, homes, labels, places)?)?;
     }
     Ok(functions)
 }
@@ -258,7 +300,7 @@ fn starts_of(alloc: Global, program: &Program) -> Result<Starts, AllocError>
     Starts::new(alloc, &program.literals, &program.statics)
 }
 
-/// Where the parts of the file lie that `generate` makes of a program that breaks no constraint.
+/// The addresses of the parts of the file that `generate` makes of a program that breaks no constraint.
 ///
 /// Fails only where there is no memory.
 pub fn code_map(alloc: Global, program: &Program, stack: StackSize) -> Result<CodeMap, AllocError>
@@ -266,6 +308,8 @@ pub fn code_map(alloc: Global, program: &Program, stack: StackSize) -> Result<Co
 {
     let code = flat_program(alloc, program)?;
     let firsts = first_labels(alloc, &code.functions)?;
+    let starts = starts_of(alloc, program)?;
+    let homes = program_homes(alloc, program, &starts, code.functions.as_slice())?;
     let count = label_count(&code.functions);
     let made = code_image(alloc, code, stack)?;
     let addresses = item_addresses(alloc, &made.items, TEXT_START)?;
@@ -274,9 +318,8 @@ pub fn code_map(alloc: Global, program: &Program, stack: StackSize) -> Result<Co
     let data = data_start(end.saturating_sub(TEXT_START).min(MAX_IMAGE as u32));
     settle(&mut found.references, data);
     let labels = found.labels.as_slice();
-    let mut functions = function_codes(alloc, program, firsts.as_slice(), labels)?;
+    let mut functions = function_codes(alloc, program, homes, firsts.as_slice(), labels)?;
     put_ends(&mut functions, end);
-    let starts = starts_of(alloc, program)?;
     let mut objects = literal_objects(alloc, program, &starts, data)?;
     put_statics(&mut objects, program, &starts, data)?;
     Ok(CodeMap {

@@ -1,4 +1,4 @@
-//! From a typed program to flat code, a function at a time: its three-address code is given up before the next one is begun.
+//! From a typed program to flat code, a function at a time: its three-address code is freed before the next one is begun.
 
 ghost use Rattle.std.specs.Prelude.{ℕ, ◌≡◌, length, map, slice_get, Some, IfOk};
 ghost use Rattle.srcset.specs.Fault.{IsMemoryFault};

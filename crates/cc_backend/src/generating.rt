@@ -23,7 +23,7 @@ pub struct Generated {
     pub frames: Vec<u32>,
 }
 
-/// The executable file of a program that breaks no constraint, with a stack of this size; an error also where what it takes is more than the machine's memory.
+/// The executable file of a program that breaks no constraint, with a stack of this size; an error also where its size exceeds the machine's memory.
 pub fn generate(alloc: Global, program: &Program, stack: StackSize) -> Result<Generated, AllocError>
     requires ready { IsReady (program_of program.now) }
     ensures runs { IfOk result (λ g. RunsAs stack (program_of program.now) g.frames.items g.elf.items) }

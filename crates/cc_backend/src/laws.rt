@@ -16,13 +16,12 @@ pub fn image_ends()
     ensures { ImageEnds }
 {}
 
-/// At each call that a flat program comes to the machine stands with it; behind its return it has the same stack pointer and s0 to s11, and the
-/// result in a0.
+/// At each call that a flat program reaches the machine matches it; after its return it has the same stack pointer and s0 to s11, and the result in a0.
 pub fn image_calls_keep()
     ensures { ImageCallsKeep }
 {}
 
-/// Each call that a flat program comes to keeps the calling convention on the machine that runs its image.
+/// Each call that a flat program reaches keeps the calling convention on the machine that runs its image.
 pub fn image_calls_keep_convention()
     ensures { ImageCallsKeepConvention }
 {}
@@ -32,37 +31,37 @@ pub fn image_main_keeps_convention()
     ensures { ImageMainKeepsConvention }
 {}
 
-/// The frames of the calls that are active never sum to more than the weights that the abstract machine tells.
+/// The frames of the active calls never sum to more than the weights that the abstract machine reports.
 pub fn frames_are_weighed()
     ensures { FramesAreWeighed }
 {}
 
-/// Three-address code does what the program does that it was lowered from.
+/// Three-address code simulates the program that it was lowered from.
 pub fn tac_simulates_program()
     ensures { TacSimulatesProgram }
 {}
 
-/// Flat code does what the three-address code does that it was flattened from.
+/// Flat code simulates the three-address code that it was flattened from.
 pub fn flat_simulates_tac()
     ensures { FlatSimulatesTac }
 {}
 
-/// Flat code that was made simpler does what it did.
+/// Simplified flat code simulates the original.
 pub fn simpler_simulates_flat()
     ensures { SimplerSimulatesFlat }
 {}
 
-/// Flat code with its words under other numbers does what it did.
+/// Flat code with its words renumbered simulates the original.
 pub fn renumbered_simulates_flat()
     ensures { RenumberedSimulatesFlat }
 {}
 
-/// The machine of the table, from the image of flat code, does what the flat code does.
+/// The machine of the table, from the image of flat code, simulates the flat code.
 pub fn image_simulates_flat()
     ensures { ImageSimulatesFlat }
 {}
 
-/// So flat code that is made of a program does what the program does, tick for tick.
+/// So flat code made of a program simulates the program, tick for tick.
 pub fn flat_simulates_program()
     ensures { FlatSimulatesProgram }
 {}
@@ -72,7 +71,7 @@ pub fn file_simulates_program()
     ensures { FileSimulatesProgram }
 {}
 
-/// The rows of a function of flat code, by what `select` emits, sum to no more than its bytes by flattening's table.
+/// The rows of a function of flat code, by the code that `select` emits, sum to no more than its bytes by the table of flattening.
 pub fn rows_fit()
     ensures { RowsFit }
 {}

@@ -5,13 +5,15 @@ mod bytes;
 mod describing;
 mod flat_code;
 mod generating;
+mod homes;
 mod image;
 mod laws;
 mod sizes;
 
-pub use describing::{CodeMap, CodeRow, DataObject, FunctionCode, Reference, code_map};
+pub use describing::{CodeMap, CodeRow, DataObject, FunctionCode, Reference, ScopeCode, code_map};
 pub use flat_code::flat_program;
 pub use generating::{Generated, generate, items};
+pub use homes::{FunctionHomes, ObjectHome};
 pub use laws::{
     code_fits, file_simulates_program, flat_simulates_program, flat_simulates_tac,
     frames_are_weighed, image_calls_keep, image_calls_keep_convention, image_ends, image_goes_on,

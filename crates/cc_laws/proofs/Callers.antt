@@ -105,23 +105,22 @@ module _ (p : Program) (sound : IsSoundProgram p) where
     sets (target.Temporary k) v s2 r = r
     sets (target.Cell c) v s2 r = r
 
-  module _ (s : State) (callers : AreBehindCalls p s.waiting) where
-    abbrev limit : ℕ
-    limit = bytes_of p (s.frame ∷ s.waiting) + most_bytes
-
+  -- of a step within a limit, where a call keeps it too
+  module _ (s : State) (callers : AreBehindCalls p s.waiting) (limit : ℕ) (least : bytes_of p (s.frame ∷ s.waiting) ≤ limit)
+      (calls : (f : ℕ) → next_of p s ≡ Some (instruction.Call f) → bytes_of p ((flat.entered s f).frame ∷ (flat.entered s f).waiting) ≤ limit) where
     abbrev h : List Event
     h = s.trace
 
     q : FitsWithin p limit h s
-    q = (callers, omega arith, ([], refl))
+    q = (callers, least, ([], refl))
 
     returns : (ws : List Frame) → AreBehindCalls p ws → bytes_of p ws ≤ limit → Within p limit h (returned s ws)
     returns [] r le = used limit h (word_at s (operand.Temporary 0)) (λ v. ended (v % 2 ^ 8) s.input s.trace) (λ v. ([], refl))
     returns (w ∷ ws) r le = (r.1, le, ([], refl))
 
     gets : (input : List ℕ) → Within p limit h (got s input)
-    gets [] = (callers, omega arith, (GotEnd ∷ [], refl))
-    gets (c ∷ rest) = (callers, omega arith, (Got c ∷ [], refl))
+    gets [] = (callers, least, (GotEnd ∷ [], refl))
+    gets (c ∷ rest) = (callers, least, (Got c ∷ [], refl))
 
     acts : (x : Instruction) → next_of p s ≡ Some x → Within p limit h (act p s x)
     acts instruction.Nothing e = q
@@ -149,21 +148,27 @@ module _ (p : Program) (sound : IsSoundProgram p) where
     acts (instruction.Branch t x y to) e =
         used limit h (word_at s x) (λ a. word_at s y >>= λ c. running (if compare_of t a c then goes_to s to else next s)) (λ a.
         used limit h (word_at s y) (λ c. running (if compare_of t a c then goes_to s to else next s)) (λ c. either limit h (compare_of t a c) (goes_to s to) (next s) q q))
-    acts (instruction.Call f) e =
-        let small = (function_fits p sound f).small in
-        (((s.frame.at, f, refl, e), callers), omega (arith, small), ([], refl))
-    acts instruction.PutByte e = used limit h (word_at s (operand.Temporary 0)) (put s) (λ v. (callers, omega arith, (Put (v % 2 ^ 8) ∷ [], refl)))
+    acts (instruction.Call f) e = (((s.frame.at, f, refl, e), callers), calls f e, ([], refl))
+    acts instruction.PutByte e = used limit h (word_at s (operand.Temporary 0)) (put s) (λ v. (callers, least, (Put (v % 2 ^ 8) ∷ [], refl)))
     acts instruction.GetByte e = gets s.input
     acts instruction.Exit e = used limit h (word_at s (operand.Temporary 0)) (λ v. ended (v % 2 ^ 8) s.input s.trace) (λ v. ([], refl))
-    acts instruction.Return e = returns s.waiting callers (omega arith)
+    acts instruction.Return e = returns s.waiting callers (omega (arith, least))
 
     any : (o : Option Instruction) → next_of p s ≡ o → Within p limit h (o >>= act p s)
     any None e = tt
     any (Some x) e = acts x e
 
+    step_limited : Within p limit h (step p s)
+    step_limited = subst (Within p limit h) (sym (step_is p s)) (any (next_of p s) refl)
+
+  module _ (s : State) (callers : AreBehindCalls p s.waiting) where
     -- a step adds at most one frame
-    pub step_within : Within p limit h (step p s)
-    step_within = subst (Within p limit h) (sym (step_is p s)) (any (next_of p s) refl)
+    pub step_within : Within p (bytes_of p (s.frame ∷ s.waiting) + most_bytes) s.trace (step p s)
+    step_within = step_limited s callers (bytes_of p (s.frame ∷ s.waiting) + most_bytes) (omega arith) (λ f e. let small = (function_fits p sound f).small in omega (arith, small))
+
+    -- and none where it is no call
+    pub step_level : ((f : ℕ) → next_of p s ≡ Some (instruction.Call f) → ⊥) → Within p (bytes_of p (s.frame ∷ s.waiting)) s.trace (step p s)
+    step_level never = step_limited s callers (bytes_of p (s.frame ∷ s.waiting)) (omega arith) (λ f e. absurd (never f e))
 
   -- what comes after h was done: the calls that wait stand behind calls, and h is an end of what was done
   abbrev pub Called : List Event → Progress → Type 0

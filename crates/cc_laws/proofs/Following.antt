@@ -41,20 +41,20 @@ use Rattle.cc_laws.proofs.Whole.{kept_inside}
 use Rattle.cc_laws.proofs.Loosening.{loose, loose_world, Allows, runs_loosely}
 use Rattle.cc_laws.proofs.Touching.{or_more, goes_before}
 
-lower_left : (a b : ℕ) → lower a b ≤ a
+pub lower_left : (a b : ℕ) → lower a b ≤ a
 lower_left a b = grind (arith, nat_tests)
 
-lower_right : (a b : ℕ) → lower a b ≤ b
+pub lower_right : (a b : ℕ) → lower a b ≤ b
 lower_right a b = grind (arith, nat_tests)
 
-lower_both : (a b c : ℕ) → c ≤ a → c ≤ b → c ≤ lower a b
+pub lower_both : (a b c : ℕ) → c ≤ a → c ≤ b → c ≤ lower a b
 lower_both a b c x y = grind (arith, nat_tests)
 
 module _ (p : Program) (parts : Parts) (q : IsImageOf p parts) where
-  abbrev first_bytes : ℕ → ℕ
+  abbrev pub first_bytes : ℕ → ℕ
   first_bytes = (program_space parts).byte
 
-  abbrev G0 : Ground
+  abbrev pub G0 : Ground
   G0 = ground_at p (whole.F p parts q) q.assembled.env (whole.floor p parts q) (whole.data_at p parts q) text_start (λ k. 0) first_bytes
 
   pub text_apart : (a : ℕ) → (program_space parts).can_execute a ≡ true → (program_space parts).can_write a ≡ false
@@ -67,19 +67,19 @@ module _ (p : Program) (parts : Parts) (q : IsImageOf p parts) where
   -- ---- less of the stack, from memory b on
 
   module _ (low : ℕ) (b : ℕ → ℕ) (hi : stack_start parts.stack ≤ low) (lt : low ≤ stack_end) (text : (a : ℕ) → (program_space parts).can_execute a ≡ true → b a ≡ first_bytes a) where
-    abbrev inner : Space
+    abbrev pub inner : Space
     inner = space_from parts low (program_space parts)
 
-    abbrev tight : Permits
+    abbrev pub tight : Permits
     tight = record { can_read = inner.can_read; can_write = inner.can_write; can_execute = inner.can_execute }
 
-    abbrev F1 : Fixed
+    abbrev pub F1 : Fixed
     F1 = fixed tight b
 
-    abbrev G1 : Ground
+    abbrev pub G1 : Ground
     G1 = ground_at p F1 q.assembled.env low (whole.data_at p parts q) text_start (λ k. 0) first_bytes
 
-    apart : (a : ℕ) → tight.can_execute a ≡ true → tight.can_write a ≡ false
+    pub apart : (a : ℕ) → tight.can_execute a ≡ true → tight.can_write a ≡ false
     unfolding program_space
     apart a e =
         let r = within_low text_start (length parts.text) a e in
@@ -102,7 +102,7 @@ module _ (p : Program) (parts : Parts) (q : IsImageOf p parts) where
         sym (ap (λ z. if eqb (x % 4) 0 && all_four f x then decode_of z else None) w))
         (λ e. rw e refl)
 
-    laid : Laid p F1 q.assembled.env low (whole.data_at p parts q) text_start (whole.past_text p parts q) (λ k. 0) first_bytes
+    pub laid : Laid p F1 q.assembled.env low (whole.data_at p parts q) text_start (whole.past_text p parts q) (λ k. 0) first_bytes
     laid =
         let l = whole.laid p parts q in
         record {
@@ -122,7 +122,7 @@ module _ (p : Program) (parts : Parts) (q : IsImageOf p parts) where
           statics = l.statics;
         }
 
-    ready : Ready G1
+    pub ready : Ready G1
     ready = is_ready p F1 q.assembled.env low (whole.data_at p parts q) text_start (whole.past_text p parts q) (λ k. 0) first_bytes laid
 
     frame_same : (f : Function) (cells : Values) (area : Bytes) (c : ℕ → ℕ) (at : ℕ) (s : ℕ → ℕ) → FrameHolds G0 f cells area c at s → FrameHolds G1 f cells area c at s
@@ -137,7 +137,7 @@ module _ (p : Program) (parts : Parts) (q : IsImageOf p parts) where
           waits_same ws c (file_below f c base s) (base + frame_bytes f) (word_at c (base + return_home f)) st.2,
         )
 
-    matched_same : (s : State) (r : ℕ → ℕ) (at : ℕ) (c : ℕ → ℕ) → (m : Matched G0 s r at c) → low ≤ m.sp → Matched G1 s r at c
+    pub matched_same : (s : State) (r : ℕ → ℕ) (at : ℕ) (c : ℕ → ℕ) → (m : Matched G0 s r at c) → low ≤ m.sp → Matched G1 s r at c
     matched_same s r at c m le =
         let f = function_at p s.frame.function in
         record {
@@ -158,7 +158,7 @@ module _ (p : Program) (parts : Parts) (q : IsImageOf p parts) where
         let r = within_low low (stack_end - low) a e in
         within_is (stack_start parts.stack) parts.stack a (omega (arith, r.0, hi)) (omega (arith, r.1, lt, q.stack.2))
 
-    allows : Allows inner (program_space parts)
+    pub allows : Allows inner (program_space parts)
     unfolding program_space
     allows = record {
       reads = λ a e. or_more (is_data parts a) (is_within low (stack_end - low) a) (is_stack parts a) (within_stack a) e;
@@ -189,12 +189,12 @@ module _ (p : Program) (parts : Parts) (q : IsImageOf p parts) where
 
   -- ---- where the run stands
 
-  room_whole : (x : Progress) → FitStack parts.stack p x → HasRoom G0 x
+  pub room_whole : (x : Progress) → FitStack parts.stack p x → HasRoom G0 x
   room_whole (running s) fit = omega (arith, fit, q.stack.2)
   room_whole (ended status input trace) fit = tt
   room_whole stuck fit = tt
 
-  abbrev begin : List ℕ → World
+  abbrev pub begin : List ℕ → World
   begin input = start_world (program_image parts) input
 
   module _ (input : List ℕ) (bytes : AreBytes input) (fit : (k : ℕ) → FitStack parts.stack p (run p k (start p input))) where

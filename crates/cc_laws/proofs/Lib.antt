@@ -19,3 +19,8 @@ pub mod Overflowing
 pub mod ByFrames
 pub mod Inputs
 pub mod Reserved
+pub mod Quiet
+pub mod Stretches
+pub mod Levels
+pub mod Below
+pub mod NothingBelow

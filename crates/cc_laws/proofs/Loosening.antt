@@ -15,6 +15,7 @@ use Rattle.rv32.specs.Words.{decode_of}
 use Rattle.rv32.specs.Space.{Space, all_four, both, half_at, word_at, byte_put, half_put, word_put}
 use Rattle.rv32.specs.Step.{Machine, Stepped, register, step_of, execute_of, decoded, fetched, trapped, gives, jumps, links, extended, loaded, load_of, stored, store_of}
 use Rattle.sim.specs.Runs.{World, Progress, Running, Ended, Trapped, answered, gets, puts, call_of, result_of, tick_of, goes_on, rvrun}
+use Rattle.cc_laws.specs.Laws.{MayLoad, MayStore, IsInside}
 use Rattle.cc_laws.proofs.Permissions.{Permits, world_of, tick_permits}
 
 -- the same machine, where as much may be done with memory as in another space
@@ -222,3 +223,42 @@ runs_loosely t (suc k) w v al e =
     let further = permits_further w.machine.space (world_of (tick_of w)).machine.space t (tick_permits w) al in
     let on = on_tick t k (tick_of w) v further (λ x more f. runs_loosely t k x v more f) e in
     ap (λ p. goes_on p (rvrun k)) (tick_loose t w al on.1) ∙ on.0
+
+-- ---- a run that ends, too
+
+after_tick : (t : Space) (k : ℕ) (q : Progress) → Allows (world_of q).machine.space t
+    → ((x : World) → Allows x.machine.space t → NeverTrapped (rvrun k x) → rvrun k (loose_world t x) ≡ loose_progress t (rvrun k x))
+    → NeverTrapped (goes_on q (rvrun k)) → (goes_on (loose_progress t q) (rvrun k) ≡ loose_progress t (goes_on q (rvrun k))) × NeverTrapped q
+after_tick t k (Running x) al each n = (each x al n, λ c u f. cc)
+after_tick t k (Ended status x) al each n = (refl, λ c u f. cc)
+after_tick t k (Trapped c x) al each n = absurd (n c x refl)
+
+pub runs_as_loosely : (t : Space) (k : ℕ) (w : World) → Allows w.machine.space t → NeverTrapped (rvrun k w) → rvrun k (loose_world t w) ≡ loose_progress t (rvrun k w)
+runs_as_loosely t zero w al n = refl
+runs_as_loosely t (suc k) w al n =
+    let further = permits_further w.machine.space (world_of (tick_of w)).machine.space t (tick_permits w) al in
+    let on = after_tick t k (tick_of w) further (λ x more m. runs_as_loosely t k x more m) n in
+    ap (λ p. goes_on p (rvrun k)) (tick_loose t w al on.1) ∙ on.0
+
+-- ---- what a step may do, where more is permitted
+
+load_more : (s t : Space) (kind : LoadKind) (a : ℕ) → Allows s t → MayLoad s kind a → MayLoad t kind a
+load_more s t load_kind.Byte a al h = al.reads a h
+load_more s t load_kind.ByteUnsigned a al h = al.reads a h
+load_more s t load_kind.Half a al h = both_more s.can_read t.can_read al.reads a h
+load_more s t load_kind.HalfUnsigned a al h = both_more s.can_read t.can_read al.reads a h
+load_more s t load_kind.Word a al h = four_more s.can_read t.can_read al.reads a h
+
+store_more : (s t : Space) (kind : StoreKind) (a : ℕ) → Allows s t → MayStore s kind a → MayStore t kind a
+store_more s t store_kind.Byte a al h = al.writes a h
+store_more s t store_kind.Half a al h = both_more s.can_write t.can_write al.writes a h
+store_more s t store_kind.Word a al h = four_more s.can_write t.can_write al.writes a h
+
+pub inside_more : (s t : Space) (m : Machine) → Allows s t → IsInside s m → IsInside t m
+inside_more s t m al h = record {
+  fetches = four_more s.can_execute t.can_execute al.executes m.pc h.fetches;
+  loads = λ kind rd base v e. load_more s t kind ((register m base + v) % 2 ^ 32) al (h.loads kind rd base v e);
+  stores = λ kind source base v e. store_more s t kind ((register m base + v) % 2 ^ 32) al (h.stores kind source base v e);
+  gets = λ e which. al.writes (register m 11) (h.gets e which);
+  puts = λ e which. al.reads (register m 11) (h.puts e which);
+}

@@ -90,14 +90,14 @@ module _ (stack : ℕ) (p : Program) (file frames : List ℕ) (made : IsFileOf s
 
   -- ---- flat code, at n ticks
 
-  record FlatGoes (n : ℕ) : Type 0 where
+  pub record FlatGoes (n : ℕ) : Type 0 where
     pub m : ℕ
     pub state : flat.State
     pub is : at m ≡ flat.running state
     pub far : n ≤ m
     pub same : reverse state.trace ≡ (answer n p input).trace
 
-  record FlatEnds (n : ℕ) : Type 0 where
+  pub record FlatEnds (n : ℕ) : Type 0 where
     pub m : ℕ
     pub status : ℕ
     pub left : List ℕ
@@ -109,7 +109,7 @@ module _ (stack : ℕ) (p : Program) (file frames : List ℕ) (made : IsFileOf s
   within : (n : ℕ) → AreWithin (λ g. 0) 0 (of_program p input) n
   within n calls c = zero_sum calls
 
-  flat_at : (n : ℕ) (e : Ending) → ending_of (cstep n p input) ≡ e → IsDefined e → FlatGoes n ⊎ FlatEnds n
+  pub flat_at : (n : ℕ) (e : Ending) → ending_of (cstep n p input) ≡ e → IsDefined e → FlatGoes n ⊎ FlatEnds n
   flat_at n (Ended status) e ok =
       let stop = last_of (cstep n p input) in
       let over : cstep n p input ≡ Stops (Ended status) stop = run_stops n p input ∙ ap (λ z. Stops z stop) e in

@@ -46,7 +46,7 @@ use Rattle.select.specs.declared.places.Source.TheVariants as source
 use Rattle.select.specs.declared.places.Home.{Home}
 use Rattle.select.specs.declared.places.Home.TheVariants as home
 use Rattle.select.specs.Selected as selected
-use Rattle.select.specs.Selected.{source_of, home_of, fetch, into, keep, made_in, register_of, far, load_word, store_word, address_of, move, ending, operate, form_or, combine, narrow, reach, reference, scale, element, put_byte, get_byte, change_sp, saves, restores, calls, keep_return, take_return, entry, leave, return_home, byte_home, items_of, set_to, shortened, kept}
+use Rattle.select.specs.Selected.{source_of, home_of, fetch, into, keep, made_in, register_of, load_constant, far, load_word, store_word, address_of, move, ending, operate, form_or, combine, narrow, reach, reference, log2_of, shift_or_multiply, scale, element, put_byte, get_byte, change_sp, saves, restores, calls, keep_return, take_return, entry, leave, return_home, byte_home, items_of, set_to, shortened, kept}
 use Rattle.select.specs.Program.{code_items, function_items, functions_items, program_items}
 use Rattle.cc_backend.specs.FlatImages.{IsImageOf}
 use Rattle.cc_backend.proofs.FlatImages as whole
@@ -141,11 +141,14 @@ load_word_free rd o f = both (far rd o) _ (far_free rd o f) (f, tt)
 store_word_free : (s o : ℕ) → FreesAll (store_word s o)
 store_word_free s o = both (far 7 o) _ (far_free 7 o seven) (tt, tt)
 
+long_free : (rd v : ℕ) → IsFree rd → FreesItem (load_constant rd v)
+long_free rd v f = one_of (v % 0x1000 == 0) _ _ f f
+
 address_free : (rd o : ℕ) → IsFree rd → FreesAll (address_of rd o)
-address_free rd o f = either (nat_lt o 0x800) _ _ (f, tt) (f, (f, tt))
+address_free rd o f = either (nat_lt o 0x800) _ _ (f, tt) (long_free rd o f, (f, tt))
 
 set_free : (rd v : ℕ) → IsFree rd → FreesItem (set_to rd v)
-set_free rd v f = one_of (nat_lt ((v + 0x800) % 2 ^ 32) 0x1000) _ _ f f
+set_free rd v f = one_of (nat_lt ((v + 0x800) % 2 ^ 32) 0x1000) _ _ f (long_free rd v f)
 
 fetch_free : (x : ℕ) (s : Source) → IsFree x → FreesAll (fetch x s)
 fetch_free x (source.Register r) f = tt
@@ -240,15 +243,19 @@ reference_free f d (location.Statics o) g = (g, keep_free d)
 reference_free f d (location.Frame o) g = both (address_of (made_in d) (area_home f + o)) _ (address_free (made_in d) (area_home f + o) g) (keep_free d)
 reference_free f d (location.At x) g = move_free d (source_of f x) g
 
+product_free : (o : Option ℕ) (x size : ℕ) → FreesAll (shift_or_multiply o x size)
+product_free (Some k) x size = (six, tt)
+product_free None x size = (set_free 7 size seven, (six, tt))
+
 scale_free : (x size : ℕ) → FreesAll (scale x size)
-scale_free x size = either (size == 1) _ _ tt (either (size == 2) _ _ (six, tt) (either (size == 4) _ _ (six, tt) (seven, (six, tt))))
+scale_free x size = either (size == 1) [] _ tt (product_free (log2_of size) x size)
 
 element_free : (d : Home) (x y : Source) (size : ℕ) → IsFree (made_in d) → FreesAll (element d x y size)
 element_free d x y size g =
     both (fetch 5 x) _ (fetch_free 5 x five) (both (fetch 6 y) _ (fetch_free 6 y six) (both (scale (register_of 6 y) size) _ (scale_free (register_of 6 y) size) (g, keep_free d)))
 
 change_free : (by : ℕ) → FreesAll (change_sp by)
-change_free by = either (nat_lt ((by + 0x800) % 2 ^ 32) 0x1000) _ _ (low 2 (omega arith), tt) (seven, (low 2 (omega arith), tt))
+change_free by = either (nat_lt ((by + 0x800) % 2 ^ 32) 0x1000) _ _ (low 2 (omega arith), tt) (long_free 7 by seven, (low 2 (omega arith), tt))
 
 saves_free : (f : Function) (k : ℕ) → FreesAll (saves f k)
 saves_free f zero = tt

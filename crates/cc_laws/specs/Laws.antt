@@ -205,6 +205,18 @@ FilesStayAbove =
     (stack : ℕ) (p : Program) (file frames : List ℕ) (made : IsFileOf stack p file frames)
     → HasImage file (λ image. (input : List ℕ) → IsInput input → StaysDefined stack p input → StepsStayAbove made image input)
 
+-- At each instruction: nothing is loaded or stored in the stack below the stack pointer that the machine has there. So at no instruction is anything of the memory below in use, for example
+-- by a function that is about to take a frame. The stack pointer is 0 until the first two instructions have set it: nothing is below it then.
+abbrev pub TouchesNothingBelow : Parts → Image → (input : List ℕ) → Type 0
+TouchesNothingBelow parts image input =
+    (k : ℕ) (w : World) → run_of image input k ≡ Running w → IsInside (space_from parts (register w.machine 2) image.space) w.machine
+
+-- so it is on every input on which the program stays defined
+abbrev pub FilesTouchNothingBelow : Type 0
+FilesTouchNothingBelow =
+    (stack : ℕ) (p : Program) (file frames : List ℕ) (made : IsFileOf stack p file frames)
+    → HasImage file (λ image. (input : List ℕ) → IsInput input → StaysDefined stack p input → TouchesNothingBelow made.parts image input)
+
 -- ---- which calls are active
 
 -- what the abstract machine has done at some moment within its first n ticks

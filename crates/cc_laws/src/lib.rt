@@ -1,7 +1,7 @@
 //! What is promised of a built file, in the words of what is seen of it. There is nothing to run: each law is the contract of a function without code.
 #![tactic(auto)]
 
-ghost use Rattle.cc_laws.specs.Laws.{DoesAll, DoesNoMore, NeverTraps, StaysInside, FilesAreLaidOut, FilesKeepConvention, FilesTouchTheirFrames, FilesStayAbove, FilesCallAsMeant, EndsOnlySo, UnitsHaveMain, EndsInTime};
+ghost use Rattle.cc_laws.specs.Laws.{DoesAll, DoesNoMore, NeverTraps, StaysInside, FilesAreLaidOut, FilesKeepConvention, FilesTouchTheirFrames, FilesStayAbove, FilesTouchNothingBelow, FilesCallAsMeant, EndsOnlySo, UnitsHaveMain, EndsInTime};
 ghost use Rattle.cc_laws.specs.Overflow.{FilesGoUpToOverflow};
 ghost use Rattle.cc_laws.specs.Frames.{FilesRunWithinFrames};
 ghost use Rattle.cc_laws.specs.Inputs.{DoesAllSoFar, ReadsAsItGoes};
@@ -49,6 +49,11 @@ pub fn files_touch_their_frames()
 /// In a file that is made of a program no instruction within a step of its flat code loads or stores in the stack below the stack pointer.
 pub fn files_stay_above()
     ensures { FilesStayAbove }
+{}
+
+/// In a file that is made of a program no instruction loads or stores in the stack below the stack pointer that the machine has at this instruction.
+pub fn files_touch_nothing_below()
+    ensures { FilesTouchNothingBelow }
 {}
 
 /// In a file that is made of a program the calls that are active at a step of its flat code are those that are active at a moment of the abstract machine's run.

@@ -1,4 +1,4 @@
-//! What is done for a request.
+//! Executes a request.
 
 use cc::Cmd;
 use cli_args::{Command, Program, Request, Role, Trace};
@@ -12,7 +12,7 @@ use cmd_lsp::serve;
 use cmd_trace::{InterpForm, RunForm, interp_traced, run_traced};
 use cmd_verify::verify_program;
 
-/// Does what is asked; answers the exit status.
+/// Executes the request; returns the exit status.
 pub fn answer(rt: &HostRuntime, request: &Request<'_>) -> u8 {
     let program = &request.program;
     match request.command {
@@ -119,7 +119,7 @@ fn list(rt: &HostRuntime, program: &Program<'_>, out: &str, form: ListForm) -> u
     }
 }
 
-/// A run: the plain one, or one that is told.
+/// A run: the plain one, or one that is traced.
 fn run_told(rt: &HostRuntime, program: &Program<'_>, form: RunForm<'_>) -> u8 {
     if form.at.is_some() || form.trace != Trace::None || program.has(Role::File) {
         run_traced(rt, program, form)

@@ -23,7 +23,7 @@ fn main(rt: HostRuntime) -> ExitCode {
     }
 }
 
-/// The exit status of the words.
+/// Runs the command line and returns its exit status.
 fn obey(rt: &HostRuntime, words: Args<Global>) -> u8 {
     let Ok(words) = collected(rt.alloc(), words) else {
         return say_memory(rt);
@@ -39,7 +39,7 @@ fn collected(alloc: Global, words: Args<Global>) -> Result<Vec<String>, AllocErr
     words.collect(alloc)
 }
 
-/// The exit status of words as the command line's form has them.
+/// Runs a command line in its plain form and returns its exit status.
 fn obey_plain(rt: &HostRuntime, words: &[&str]) -> u8 {
     match ask(rt.alloc(), words, VERSION) {
         Ok(Asked::Read(Reading::Request(request))) => answer(rt, &request),
@@ -49,7 +49,7 @@ fn obey_plain(rt: &HostRuntime, words: &[&str]) -> u8 {
     }
 }
 
-/// Prints the help that was asked for, or what is wrong with the words, or that there was no memory to read them.
+/// Prints the requested help, or the error in the command line, or that there was no memory to parse it.
 fn show(rt: &HostRuntime, error: &clap::Error) -> u8 {
     if error.kind() == UsageKind::OutOfMemory {
         return say(rt, &Fault::memory(rt.alloc()));

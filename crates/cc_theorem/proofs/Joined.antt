@@ -8,7 +8,7 @@ use Rattle.typing_spec.specs.Verdict.{fine}
 use Rattle.cc_backend.specs.Runs.{RunsAs, IsInput}
 use Rattle.cc_backend.specs.Made.{IsFileOf}
 use Rattle.cc.specs.Compiled.{typed_at}
-use Rattle.cc_laws.specs.Laws.{StaysDefined, HasImage, HasMain, CallsAreKept, MainIsKept}
+use Rattle.cc_laws.specs.Laws.{StaysDefined, HasImage, HasMain, CallsAreKept, MainIsKept, TouchesNothingBelow}
 use Rattle.cc_laws.proofs.Instants.{Serves, by_weights, by_frames}
 use Rattle.cc_laws.proofs.Whole as whole
 use Rattle.cc_laws.proofs.Mains.{units_have_main}
@@ -18,6 +18,7 @@ use Rattle.cc_laws.proofs.Overflowing.{files_go_up_to_overflow}
 use Rattle.cc_laws.proofs.ByFrames.{files_run_within_frames, files_keep_convention_within_frames}
 use Rattle.cc_laws.proofs.Inputs.{does_all_so_far}
 use Rattle.cc_laws.proofs.Reserved.{files_leave_reserved}
+use Rattle.cc_laws.proofs.NothingBelow.{files_touch_nothing_below, files_touch_nothing_below_within_frames}
 use Rattle.cc_theorem.specs.Theorem.{DoesTheSame, TheTheorem}
 
 -- a file has one image
@@ -32,8 +33,8 @@ unfolding typed_at
 main_at stack texts file unit p e = units_have_main stack texts (record { file = file; line = 1 }) unit p e
 
 same : (stack : ℕ) (p : Program) (file frames : List ℕ) (made : IsFileOf stack p file frames) (image : Image) (input : List ℕ) → Serves p image input
-    → CallsAreKept made image input × MainIsKept made image input → DoesTheSame made image input
-same stack p file frames made image input m convention = record {
+    → CallsAreKept made image input × MainIsKept made image input → TouchesNothingBelow made.parts image input → DoesTheSame made image input
+same stack p file frames made image input m convention below = record {
   does_all = whole.all_done p image input m;
   does_no_more = whole.no_more_done p image input m;
   ends_only_so = whole.ends_as_meant p image input m;
@@ -41,6 +42,7 @@ same stack p file frames made image input m convention = record {
   stays_inside = whole.always_inside p image input m;
   calls_are_kept = convention.0;
   main_is_kept = convention.1;
+  touches_nothing_below = below;
 }
 
 -- the image from which the file runs serves
@@ -64,10 +66,13 @@ theorem stack set name built made =
         out.2.0,
         out.2.1,
         λ input bytes. record {
-          within_stack = λ fine. same stack p file frames made.file image input (of_one file _ (serves stack p frames file runs) image loads input bytes fine) (of_one file _ (files_keep_convention stack p file frames made.file) image loads input bytes fine);
+          within_stack = λ fine.
+              same stack p file frames made.file image input (of_one file _ (serves stack p frames file runs) image loads input bytes fine) (of_one file _ (files_keep_convention stack p file frames made.file) image loads input bytes fine)
+              (of_one file _ (files_touch_nothing_below stack p file frames made.file) image loads input bytes fine);
           within_frames = λ fine.
               same stack p file frames made.file image input (by_frames stack p frames image input (of_one file _ (files_run_within_frames stack p file frames made.file) image loads input bytes) fine)
-              (of_one file _ (files_keep_convention_within_frames stack p file frames made.file) image loads input bytes fine);
+              (of_one file _ (files_keep_convention_within_frames stack p file frames made.file) image loads input bytes fine)
+              (of_one file _ (files_touch_nothing_below_within_frames stack p file frames made.file) image loads input bytes fine);
           beyond_stack = λ fine. of_one file _ (files_go_up_to_overflow stack p file frames made.file) image loads input bytes fine;
           by_frames = of_one file _ (files_run_within_frames stack p file frames made.file) image loads input bytes;
           so_far = of_one file _ (does_all_so_far stack p frames file runs) image loads input bytes;

@@ -13,12 +13,12 @@ use Rattle.cc_backend.specs.Runs.{IsInput}
 use Rattle.cc_backend.specs.Made.{IsFileOf}
 use Rattle.cc.specs.declared.compiling.Built.{Built}
 use Rattle.cc.specs.Made.{IsMade}
-use Rattle.cc_laws.specs.Laws.{IsDefined, StaysDefined, HasImage, run_of, done_in, IsBeginning, IsInside, IsLaidOut, CallsAreKept, MainIsKept}
+use Rattle.cc_laws.specs.Laws.{IsDefined, StaysDefined, HasImage, run_of, done_in, IsBeginning, IsInside, TouchesNothingBelow, IsLaidOut, CallsAreKept, MainIsKept}
 use Rattle.cc_laws.specs.Overflow.{IsAlwaysDefined, GoesUpToOverflow}
 use Rattle.cc_laws.specs.Frames.{StaysWithinFrames, RunsWithinFrames}
 
 -- Where nothing is undefined, and the stack serves: the file does all that the abstract machine does and nothing else, ends where that ends, never traps and
--- stays in its memory; each call, and main, keeps the calling convention.
+-- stays in its memory; each call, and main, keeps the calling convention; and at no instruction is anything in the stack below the stack pointer loaded or stored.
 pub record DoesTheSame {stack : ℕ} {p : Program} {file frames : List ℕ} (made : IsFileOf stack p file frames) (image : Image) (input : List ℕ) : Type 0 where
   pub does_all : (n : ℕ) → (k : ℕ) × (done_in (run_of image input k) ≡ (answer n p input).trace)
   pub does_no_more : (k : ℕ) → (n : ℕ) × IsBeginning (done_in (run_of image input k)) (answer n p input).trace
@@ -27,6 +27,7 @@ pub record DoesTheSame {stack : ℕ} {p : Program} {file frames : List ℕ} (mad
   pub stays_inside : (k : ℕ) (w : World) → run_of image input k ≡ Running w → IsInside image.space w.machine
   pub calls_are_kept : CallsAreKept made image input
   pub main_is_kept : MainIsKept made image input
+  pub touches_nothing_below : TouchesNothingBelow made.parts image input
 
 -- on one input of bytes
 pub record OnInput {stack : ℕ} {p : Program} {file frames : List ℕ} (made : IsFileOf stack p file frames) (image : Image) (input : List ℕ) : Type 0 where

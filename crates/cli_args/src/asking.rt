@@ -5,16 +5,16 @@ use crate::reading::{Reading, read};
 use clap::Error;
 use std::alloc::{AllocError, Global};
 
-/// What the words come to.
+/// The result of parsing the words.
 #[derive(Drop)]
 pub enum Asked<'a> {
-    /// A command, or what is wrong with the words.
+    /// A command, or the error in the words.
     Read(Reading<'a>),
-    /// Help, the version, or what is wrong with the words, as a text of its own.
+    /// Help, the version, or the error in the words, as a text of its own.
     Shown(Error),
 }
 
-/// What plain words ask of a program of this version.
+/// Parses plain words into a request to a program of this version.
 pub fn ask<'a>(
     alloc: Global,
     words: &'a [&'a str],

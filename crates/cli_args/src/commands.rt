@@ -11,7 +11,7 @@ pub fn command<'a>(alloc: Global, version: &'a str) -> Result<Command<'a>, Alloc
     with_forms(alloc, whole(alloc, version))
 }
 
-/// What stands above the commands.
+/// The command line as a whole, above the commands.
 fn whole<'a>(alloc: Global, version: &'a str) -> Command<'a> {
     Command::new(alloc, "zkc")
         .about("Compiles C11 programs for RV32IM, and runs them")

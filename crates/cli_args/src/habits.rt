@@ -1,23 +1,23 @@
-//! Words that other compilers take: what stands in their place here.
+//! Words that other compilers take, and their replacements here.
 
 use std::alloc::{AllocError, Global};
 
-/// What is done with a word.
+/// The action on a word.
 #[derive(Clone, Copy)]
 enum Act {
     /// It changes nothing here, and is left out.
     Leave,
-    /// It stays, and so does the word behind it, whatever that is.
+    /// It stays, and so does the word after it, whatever that is.
     KeepValue,
-    /// This word stands in its place.
+    /// It is replaced by this word.
     Write(&'static str),
-    /// This word stands in its place, and what is behind the beginning, or else the word behind it, is its value.
+    /// It is replaced by this word, whose value is the rest of the word after its matched beginning, or else the next word.
     WriteValue(&'static str),
     /// It can't be done, for this reason.
     Refuse(&'static str),
 }
 
-/// A word, or the beginning of one, and what is done with it.
+/// A word, or the beginning of one, and the action on it.
 struct Habit {
     text: &'static str,
     is_whole: bool,
@@ -365,12 +365,12 @@ const HABITS: &[Habit] = &[
     },
 ];
 
-/// The commands that read sources, in which these words may stand.
+/// The commands that read sources, in which these words may appear.
 const COMPILING: &[&str] = &[
     "build", "pp", "list", "interp", "explain", "show", "frames", "symbols", "check", "verify",
 ];
 
-/// The words that may stand in place of a command.
+/// The words that may appear in place of a command.
 const TOP: &[&str] = &["-h", "--help", "-V", "--version"];
 
 /// Why the words are not taken.
@@ -382,8 +382,8 @@ pub enum Refused {
     Memory,
 }
 
-/// The words of a command line behind the program's name, as the command line's form has them: behind the name `zkc`, without what changes nothing here, and with
-/// the command `build` where there is none.
+/// The words of a command line after the program's name, as the command line's form has them: after the name `zkc`, without words that change nothing here, and
+/// with the command `build` where there is none.
 pub fn plain_words<'a>(alloc: Global, words: &'a [String]) -> Result<Vec<&'a str>, Refused> {
     let mut plain = Vec::new(alloc);
     let put = put_all(words, &mut plain);
@@ -432,7 +432,7 @@ fn put<'a>(word: &'a str, plain: &mut Vec<&'a str>) -> Result<(), Refused> {
     }
 }
 
-/// Puts the words as they are.
+/// Appends the words as they are.
 fn put_each<'a>(words: &'a [String], plain: &mut Vec<&'a str>) -> Result<(), Refused> {
     for word in words {
         put(word.as_str(), plain)?;
@@ -440,18 +440,18 @@ fn put_each<'a>(words: &'a [String], plain: &mut Vec<&'a str>) -> Result<(), Ref
     Ok(())
 }
 
-/// What a word is by those before it.
+/// The kind of a word, by those before it.
 #[derive(Clone, Copy, PartialEq, Eq)]
 enum Turn {
     /// Any word.
     Word,
     /// The value of the word before.
     Value,
-    /// Behind `--`, where all stay.
+    /// After `--`, where all stay.
     Rest,
 }
 
-/// Puts the words of a command that reads sources.
+/// Appends the words of a command that reads sources.
 fn put_words<'a>(words: &'a [String], plain: &mut Vec<&'a str>) -> Result<(), Refused> {
     let mut turn = Turn::Word;
     for word in words {
@@ -470,7 +470,7 @@ fn put_words<'a>(words: &'a [String], plain: &mut Vec<&'a str>) -> Result<(), Re
     Ok(())
 }
 
-/// Puts what stands in place of a word; answers what the next word is.
+/// Appends the replacement of a word; returns the kind of the next word.
 fn put_word<'a>(word: &'a str, plain: &mut Vec<&'a str>) -> Result<Turn, Refused> {
     let Some((act, behind)) = act_of(word) else {
         put(word, plain)?;
@@ -498,7 +498,7 @@ fn put_word<'a>(word: &'a str, plain: &mut Vec<&'a str>) -> Result<Turn, Refused
     }
 }
 
-/// What is done with a word, and what stands in it behind the beginning that decides; `None` where it stays.
+/// The action on a word, and the rest of the word after the beginning that decides; `None` where it stays.
 fn act_of(word: &str) -> Option<(Act, &str)> {
     for habit in HABITS {
         if let Some(behind) = word.strip_prefix(habit.text) {

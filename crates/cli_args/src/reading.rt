@@ -1,4 +1,4 @@
-//! What a parse found, as a request. All words are read here, once.
+//! The result of a parse, as a request. All words are read here, once.
 
 use crate::request::{
     Colours, Command, ImageForm, Program, Request, Role, Rule, ShownForm, Stage, Telling, Trace,
@@ -34,14 +34,14 @@ const NEEDS_TRACE: &str = "--json is for --trace or --trace-file here";
 
 const NEEDS_MAP: &str = "--stack, -I, -D and -U are for --map here";
 
-/// What the words ask for, or what is wrong with them.
+/// The request of the words, or the error in them.
 #[derive(Drop)]
 pub enum Reading<'a> {
     Request(Request<'a>),
     Wrong(&'static str),
 }
 
-/// What the words that a parse took ask for.
+/// Makes the request of the words that a parse took.
 pub fn read<'a>(alloc: Global, matches: &ArgMatches<'a>) -> Result<Reading<'a>, AllocError> {
     let Some((name, inner)) = matches.subcommand() else {
         return Ok(Reading::Wrong(NO_COMMAND));
@@ -125,7 +125,7 @@ fn stack_of(inner: &ArgMatches<'_>) -> Option<u32> {
     }
 }
 
-/// A number of bytes as it is written: in decimal, with K behind it for 1024 of them or M for 1048576; a multiple of 4096 from 4096 to 16777216.
+/// A number of bytes as it is written: in decimal, followed by K for 1024 of them or M for 1048576; a multiple of 4096 from 4096 to 16777216.
 fn stack_bytes(word: &str) -> Option<u32> {
     let (digits, unit) = match word.strip_suffix("K") {
         Some(digits) => (digits, 0x400),
@@ -158,7 +158,7 @@ fn has_macros(inner: &ArgMatches<'_>) -> bool {
     true
 }
 
-/// Whether a text is a name, with parameters or without, and a value behind `=` or none, on one line.
+/// Whether a text is a name, with parameters or without, followed by `=` and a value or not, on one line.
 fn is_definition(text: &str) -> bool {
     let name = macro_name(text);
     let behind = text.get(name.len()..).unwrap_or_default();
@@ -199,7 +199,7 @@ fn build<'a>(inner: &ArgMatches<'a>) -> Result<Command<'a>, &'static str> {
     }
 }
 
-/// The rule that the words ask for.
+/// The rule that the words request.
 fn rule<'a>(inner: &ArgMatches<'a>) -> Option<Rule<'a>> {
     if inner.get_flag("depend") || inner.get_str("depend-file").is_some() {
         Some(Rule {

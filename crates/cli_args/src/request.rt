@@ -1,6 +1,6 @@
-//! What the words of a command line ask for.
+//! The request of a command line.
 
-/// What a word names that belongs to the program.
+/// The part of the program that a word names.
 #[derive(Clone, Copy, Debug, PartialEq, Eq)]
 pub enum Role {
     /// A further file of the set.
@@ -54,7 +54,7 @@ pub enum Trace<'a> {
     File(&'a str),
 }
 
-/// The form in which a fault is told.
+/// The form in which a fault is reported.
 #[derive(Clone, Copy, Debug, PartialEq, Eq)]
 pub enum Telling {
     Text,
@@ -101,18 +101,18 @@ pub enum ImageForm {
     Verilog,
 }
 
-/// The rule of a Makefile that says what a file is built from.
+/// The Makefile rule with the dependencies of a file.
 #[derive(Clone, Copy)]
 pub struct Rule<'a> {
     /// The path of the file that has the rule; where there is none, that of the output with `d` as extension.
     pub file: Option<&'a str>,
-    /// What the rule is about; where that is not said, the output.
+    /// The target of the rule; where none is given, the output.
     pub target: Option<&'a str>,
     /// Whether each included file is a target of its own too, without a recipe, so that one that is removed stops no build.
     pub has_phony: bool,
 }
 
-/// The command of the words, with what belongs to it alone.
+/// The command of the words, with the options that belong to it alone.
 #[derive(Clone, Copy)]
 pub enum Command<'a> {
     /// Compile to the file at a path, and write the rule. On a terminal the source line of a fault is shown, if that is not to be `is_plain`.
@@ -123,7 +123,7 @@ pub enum Command<'a> {
     },
     /// Print the names of the set's files with their paths.
     ListFiles,
-    /// Print the tokens after preprocessing to the file at a path, with the lines on which they stand or without.
+    /// Print the tokens after preprocessing to the file at a path, with their lines or without.
     Pp {
         out: &'a str,
         has_lines: bool,
@@ -136,19 +136,19 @@ pub enum Command<'a> {
         has_abi_names: bool,
         has_lines: bool,
     },
-    /// Run an executable file for at most so many instructions.
+    /// Run an executable file for at most this number of instructions.
     Run {
         max: u64,
         at: Option<u64>,
         trace: Trace<'a>,
     },
-    /// Interpret for at most so many ticks, with a trace as JSON or as text.
+    /// Interpret for at most this number of ticks, with a trace as JSON or as text.
     Interp {
         max: u64,
         trace: Trace<'a>,
         is_json: bool,
     },
-    /// Explain so many faults at most.
+    /// Explain at most this number of faults.
     Explain {
         stage: Stage,
         max: u64,
@@ -170,13 +170,13 @@ pub enum Command<'a> {
     },
     /// Tell whether anything undefined is done, on any input; where nothing is, and the stack suffices, compile to the file at a path.
     Verify(VerifyWords<'a>),
-    /// Print what each function takes, with addresses and sizes or without.
+    /// Print the stack use of each function, with addresses and sizes or without.
     Frames {
         has_sizes: bool,
     },
     /// Write the symbols to the file at a path.
     Symbols(&'a str),
-    /// Print what an executable file loads.
+    /// Print the contents that an executable file loads.
     Image(ImageForm),
     /// Print how large the parts of an executable file are.
     Size,
@@ -184,7 +184,7 @@ pub enum Command<'a> {
     Lsp,
 }
 
-/// What `verify` is asked for.
+/// The action requested of `verify`.
 #[derive(Clone, Copy)]
 pub struct VerifyWords<'a> {
     /// How many steps the analysis takes at most.
@@ -194,7 +194,7 @@ pub struct VerifyWords<'a> {
     pub out: Option<&'a str>,
 }
 
-/// What the words of a command line ask for.
+/// The request of a command line.
 #[derive(Drop)]
 pub struct Request<'a> {
     pub program: Program<'a>,

@@ -386,7 +386,7 @@ pub const PLAIN: Row = Row {
     apart: &[],
 };
 
-/// Whether each instruction is told.
+/// Whether each instruction is traced.
 pub const TRACE_RUN: Row = Row {
     id: "trace",
     short: None,
@@ -398,7 +398,7 @@ pub const TRACE_RUN: Row = Row {
     apart: &["trace-file"],
 };
 
-/// Whether each statement is told.
+/// Whether each statement is traced.
 pub const TRACE_INTERP: Row = Row {
     id: "trace",
     short: None,
@@ -458,7 +458,7 @@ pub const MAP: Row = Row {
     apart: &[],
 };
 
-/// Whether faults are told as JSON.
+/// Whether faults are reported as JSON.
 pub const JSON: Row = Row {
     id: "json",
     short: None,
@@ -470,7 +470,7 @@ pub const JSON: Row = Row {
     apart: &["sarif"],
 };
 
-/// Whether faults are told as SARIF.
+/// Whether faults are reported as SARIF.
 pub const SARIF: Row = Row {
     id: "sarif",
     short: None,
@@ -482,7 +482,7 @@ pub const SARIF: Row = Row {
     apart: &[],
 };
 
-/// Which warnings are told.
+/// Which warnings are reported.
 pub const WARN: Row = Row {
     id: "warn",
     short: None,

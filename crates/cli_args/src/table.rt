@@ -30,7 +30,7 @@ pub struct Row {
     pub id: &'static str,
     pub short: Option<char>,
     pub long: Option<&'static str>,
-    /// What help shows in place of the value.
+    /// The text that help shows in place of the value.
     pub value: Option<&'static str>,
     pub kind: Kind,
     /// The value where the words have none.

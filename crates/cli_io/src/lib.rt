@@ -1,4 +1,4 @@
-//! What each command needs of files and streams: the line that it says, the file that it writes, and which files it must not write over.
+//! Files and streams of the commands: the line that a command prints, the file that it writes, and the files that it must not overwrite.
 #![tactic(auto)]
 
 mod line;

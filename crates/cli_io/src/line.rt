@@ -1,13 +1,13 @@
-//! The line that a command says.
+//! The line that a command prints.
 
 use std::alloc::{AllocError, Global};
 use std::io;
 use std::io::{ErrorKind, Write};
 
-/// Room for most lines, so that saying one takes no memory: a name, a line, a code and its text.
+/// Room for most lines, so that printing one allocates nothing: a name, a line, a code and its text.
 const ROOM: usize = 1024;
 
-/// What a command says on standard error, which is kept until its output is written.
+/// The line that a command prints on standard error, which is kept until its output is written.
 #[derive(Drop)]
 pub struct Line {
     bytes: Vec<u8>,
@@ -25,7 +25,7 @@ impl Line {
         })
     }
 
-    /// Whether nothing was said.
+    /// Whether nothing was printed.
     pub fn is_empty(&self) -> bool {
         self.bytes.is_empty()
     }
@@ -35,7 +35,7 @@ impl Line {
         self.bytes.starts_with(bytes)
     }
 
-    /// Whether there was no memory for all that was said.
+    /// Whether there was no memory for all of the text.
     pub fn is_cut(&self) -> bool {
         self.is_cut
     }
@@ -56,7 +56,7 @@ impl Line {
         }
     }
 
-    /// The line with its newline. In place of a byte of a file's name that is no printable character stands `?`.
+    /// The line with its newline. A `?` replaces each byte of a file's name that is no printable character.
     pub fn printable(&mut self) -> &[u8] {
         let count = self.bytes.len();
         for (index, byte) in self.bytes.iter_mut().enumerate() {

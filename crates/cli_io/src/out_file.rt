@@ -5,13 +5,13 @@ use std::io;
 use std::io::Write;
 use std::os::unix::fs::OpenOptionsExt;
 
-/// Who may do what with a file that is made: all may read, write and execute it, less what the user's mask takes away.
+/// The permissions of a newly created file: all may read, write and execute it, less those that the user's mask removes.
 const EXECUTABLE: u32 = 0o777;
 
 /// The same, but that none may execute it.
 const PLAIN: u32 = 0o666;
 
-/// The path that stands for standard output.
+/// The path that denotes standard output.
 const STANDARD: &str = "-";
 
 /// The file at a path, which is made, or emptied, once something is written to it; standard output where the path is `-`.

@@ -1,4 +1,4 @@
-//! What a command says, and the exit status that goes with it.
+//! The messages of a command, and the exit status that goes with each.
 
 use crate::line::Line;
 use crate::out_file::OutFile;
@@ -8,16 +8,16 @@ use std::alloc::Global;
 use std::io;
 use std::io::{BufWriter, ErrorKind, Write};
 
-/// What is said where a command would write over a file that it reads.
+/// The message where a command would overwrite a file that it reads.
 pub const TAKEN: &str = "OUT is one of the files that are read";
 
-/// Says what is wrong with the words; answers the exit status.
+/// Prints the error in the command's words; returns the exit status.
 pub fn say_usage(rt: &HostRuntime, text: &str) -> u8 {
     let _said = eprintln!(rt; "error: {text}");
     2
 }
 
-/// Says what a command said, and answers its status; or that there was no memory for it.
+/// Prints a command's line, and returns its status; or prints that there was no memory for it.
 pub fn tell(rt: &HostRuntime, line: &mut Line, status: u8) -> u8 {
     if line.is_cut() {
         return say_memory(rt);
@@ -26,13 +26,13 @@ pub fn tell(rt: &HostRuntime, line: &mut Line, status: u8) -> u8 {
     status
 }
 
-/// Says that the output was refused at last; answers the exit status.
+/// Prints that the final output was refused; returns the exit status.
 pub fn say_port(rt: &HostRuntime, fault: PortFault) -> u8 {
     let _said = eprintln!(rt; "cc: port fault {}", fault.code().number());
     126
 }
 
-/// Says a fault in one line; answers the exit status.
+/// Prints a fault in one line; returns the exit status.
 pub fn say(rt: &HostRuntime, fault: &Fault) -> u8 {
     let is_said = match fault.to_line(rt.alloc()) {
         Ok(text) => say_line(rt, text.as_slice()),
@@ -44,7 +44,7 @@ pub fn say(rt: &HostRuntime, fault: &Fault) -> u8 {
     1
 }
 
-/// Says a line; answers whether there was memory for it.
+/// Prints a line; returns whether there was memory for it.
 fn say_line(rt: &HostRuntime, text: &[u8]) -> bool {
     let Ok(mut line) = Line::new(rt.alloc()) else {
         return false;
@@ -56,7 +56,7 @@ fn say_line(rt: &HostRuntime, text: &[u8]) -> bool {
     is_whole
 }
 
-/// Writes a text to the file at a path, or to standard output where that is `-`; answers the exit status.
+/// Writes a text to the file at a path, or to standard output where that is `-`; returns the exit status.
 pub fn put_file(rt: &HostRuntime, path: &str, bytes: &[u8]) -> u8 {
     let Ok(mut writer) = BufWriter::new(rt.alloc(), OutFile::plain(rt, path)) else {
         return say_memory(rt);
@@ -65,20 +65,20 @@ pub fn put_file(rt: &HostRuntime, path: &str, bytes: &[u8]) -> u8 {
     if is_whole { 0 } else { say_unwritten(rt, path) }
 }
 
-/// Writes an executable file at a path, or to standard output where that is `-`; answers the exit status.
+/// Writes an executable file at a path, or to standard output where that is `-`; returns the exit status.
 pub fn put_executable(rt: &HostRuntime, path: &str, bytes: &[u8]) -> u8 {
     let mut file = OutFile::executable(rt, path);
     let is_whole = write_text(&mut file, bytes) && file.flush().is_ok();
     if is_whole { 0 } else { say_unwritten(rt, path) }
 }
 
-/// Says that a file, or standard output where the path is `-` or empty, cannot be written; answers the exit status.
+/// Prints that a file, or standard output where the path is `-` or empty, cannot be written; returns the exit status.
 pub fn say_unwritten(rt: &HostRuntime, path: &str) -> u8 {
     let shown = if path == "-" { "" } else { path };
     say(rt, &Fault::at(rt.alloc(), Code::CannotWrite, shown, 0))
 }
 
-/// Says that memory ran out; answers the exit status.
+/// Prints that memory ran out; returns the exit status.
 pub fn say_memory(rt: &HostRuntime) -> u8 {
     say(rt, &Fault::memory(rt.alloc()))
 }

@@ -1,4 +1,4 @@
-//! What several commands ask of their words.
+//! Options that several commands read from their words.
 
 use cc::StackSize;
 use cli_args::{Program, Role};

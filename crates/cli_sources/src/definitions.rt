@@ -10,7 +10,7 @@ pub fn has_macros(program: &Program<'_>) -> bool {
     program.has(Role::Define) || program.has(Role::Undefine)
 }
 
-/// Adds a file that defines the macros and then includes the main file; that is what is translated from now on. Its first line is empty, so that a fault
+/// Adds a file that defines the macros and then includes the main file; this is the file translated from now on. Its first line is empty, so that a fault
 /// there is one of the whole unit.
 pub fn put_macros(
     alloc: Global,

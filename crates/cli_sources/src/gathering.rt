@@ -12,8 +12,9 @@ use std::fs;
 /// The name of standard input.
 const STANDARD_NAME: &str = "stdin.c";
 
-/// Reads the files of a program: the main one and the further ones, each under the name that the words have, and then, where the words have a folder, each file that one of
-/// them names in an `#include`, under the name that stands there. It is looked for beside the including file, and then in each folder; one that is nowhere is left out.
+/// Reads the files of a program: the main one and the further ones, each under the name that the words have, and then, where the words have a folder, each
+/// file that one of them names in an `#include`, under the name given there. It is looked for next to the including file, and then in each folder; one that
+/// is nowhere is left out.
 ///
 /// Fails as `FileSet::add` and `read_source` do, with 802 where a file cannot be read, and with 101 where two different files would have one name.
 pub fn read_sources<'a>(rt: &HostRuntime, program: &Program<'a>) -> Result<Sources<'a>, Fault> {
@@ -60,7 +61,7 @@ fn read_further(
     Ok(())
 }
 
-/// Reads what each file includes, those that are found so among them.
+/// Reads the files that each file includes, including those of files found in this way.
 fn read_included(
     rt: &HostRuntime,
     program: &Program<'_>,
@@ -142,7 +143,7 @@ fn found(
     Ok(None)
 }
 
-/// Whether a file of this name lies beside the file at a path.
+/// Whether a file of this name is next to the file at a path.
 pub fn lies_beside(rt: &HostRuntime, includer: &str, name: &str) -> Result<bool, AllocError> {
     let path = joined(rt.alloc(), folder_of(includer), name)?;
     Ok(is_file(rt, path.as_str()))

@@ -7,8 +7,8 @@ use phases::{Kind, PpToken, try_scan};
 use srcset::Refusal;
 use std::alloc::{AllocError, Global};
 
-/// The names that stand in quotes in `#include` lines (ISO/IEC 9899:2011 6.10.2), also in groups that are skipped. Of a file without token lines there are none:
-/// its fault is told where it is included.
+/// The names in quotes in `#include` lines (ISO/IEC 9899:2011 6.10.2), also in groups that are skipped. A file without token lines has none:
+/// its fault is reported where it is included.
 pub fn included_names(alloc: Global, bytes: &[u8]) -> Result<Vec<String>, AllocError>
     requires { length bytes.now ≤ max_file_bytes }
 {
@@ -40,7 +40,7 @@ fn included_name<'t>(line: &'t [PpToken<'_>]) -> Option<&'t str> {
     }
 }
 
-/// What stands between quotes.
+/// The text between quotes.
 fn quoted(spelling: &[u8]) -> Option<&str> {
     let Ok(text) = str::from_utf8(spelling) else {
         return None;

@@ -10,7 +10,7 @@ use std::{fs, io};
 /// The path of standard input.
 const STANDARD: &str = "-";
 
-/// Adds the file at a path to the set under a name; the path `-` is standard input. A file that is too large is refused before its name is looked at.
+/// Adds the file at a path to the set under a name; the path `-` is standard input. A file that is too large is refused before its name is checked.
 pub fn read_file(rt: &HostRuntime, name: &str, path: &str, set: &mut FileSet) -> Result<(), Fault> {
     match read_bytes(rt, name, path) {
         Ok(bytes) => set.add(name, bytes),

@@ -1,10 +1,10 @@
-//! The rule of a Makefile that says what a file is built from.
+//! The rule of a Makefile that lists the files that a file is built from.
 
 use crate::sources::Sources;
 use cli_args::Rule;
 use std::alloc::{AllocError, Global};
 
-/// The path of the rule's file: the one of the words, or that of what is built with `d` as extension.
+/// The path of the rule's file: the one of the words, or that of the built file with `d` as extension.
 pub fn rule_path(alloc: Global, rule: Rule<'_>, built: &str) -> Result<String, AllocError> {
     if let Some(path) = rule.file {
         return String::from_str(alloc, path);
@@ -14,7 +14,7 @@ pub fn rule_path(alloc: Global, rule: Rule<'_>, built: &str) -> Result<String, A
     Ok(path)
 }
 
-/// A path without what stands behind the last dot of its last name.
+/// A path without the text after the last dot of its last name.
 fn without_extension(path: &str) -> &str {
     let name = match path.rfind('/') {
         Some(end) => end.saturating_add(1),

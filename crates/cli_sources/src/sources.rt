@@ -112,7 +112,7 @@ impl<'a> Sources<'a> {
         Ok(names)
     }
 
-    /// The fault as it is told: one that is about the whole unit names the main file of the words.
+    /// The fault as it is reported: one that is about the whole unit names the main file of the words.
     pub fn told(&self, alloc: Global, fault: Fault) -> Fault {
         if fault.file.as_str() == MACROS && fault.line <= 1 {
             match Code::with_number(fault.code) {
@@ -124,7 +124,7 @@ impl<'a> Sources<'a> {
         }
     }
 
-    /// What stands behind the file's name in a text that begins with a fault of the whole unit; `None` where it does not, or names the main file of the words.
+    /// The text after the file's name in a text that begins with a fault of the whole unit; `None` where it does not, or names the main file of the words.
     pub fn behind_unit<'t>(&self, text: &'t [u8]) -> Option<&'t [u8]> {
         if self.main == self.given {
             return None;

@@ -9,10 +9,10 @@ use std::alloc::Global;
 use std::io;
 use std::io::{BufReader, BufWriter};
 
-/// Below the greatest size up to which glibc's `malloc` learns to keep what is given back (32 MiB, mallopt(3), M_MMAP_THRESHOLD).
+/// Below the greatest size up to which glibc's `malloc` learns to keep freed blocks (32 MiB, mallopt(3), M_MMAP_THRESHOLD).
 const KEPT_BYTES: usize = 33_488_896;
 
-/// Compiles a program, and writes the executable file at a path, and its rule where there is one; answers the exit status.
+/// Compiles a program, and writes the executable file at a path, and its rule where there is one; returns the exit status.
 pub fn build(rt: &HostRuntime, program: &Program<'_>, out: &str, rule: Option<Rule<'_>>) -> u8 {
     if is_taken(rt, program, out) {
         return say_usage(rt, TAKEN);
@@ -35,14 +35,14 @@ pub fn build(rt: &HostRuntime, program: &Program<'_>, out: &str, rule: Option<Ru
     }
 }
 
-/// Takes one large block, of which no page is touched, and gives it back. From then on the allocator of the C library takes large lists from its heap, where the
-/// pages of one list serve the next, and not each from the system with fresh ones. Where it is refused, nothing is lost.
+/// Allocates one large block, of which no page is touched, and frees it. From then on the allocator of the C library takes large lists from its heap, where the
+/// pages of one list serve the next, and not each from the system with fresh ones. Where the allocation fails, nothing is lost.
 #[inline(never)]
 fn keep_large_blocks(alloc: Global) {
     let _block = Vec::<u8>::with_capacity(alloc, KEPT_BYTES);
 }
 
-/// Says of each further file that is a C file and that no file includes that it is not compiled: a program is one unit.
+/// Reports each further file that is a C file and that no file includes: it is not compiled, since a program is one unit.
 fn say_alone(rt: &HostRuntime, program: &Program<'_>, sources: &Sources<'_>) {
     for word in &program.words {
         if word.role == Role::File
@@ -57,7 +57,7 @@ fn say_alone(rt: &HostRuntime, program: &Program<'_>, sources: &Sources<'_>) {
     }
 }
 
-/// Whether a file of the set includes that of this name; where there is no memory to tell, it may.
+/// Whether a file of the set includes that of this name; true if memory runs out in the search.
 fn is_included(rt: &HostRuntime, sources: &Sources<'_>, name: &str) -> bool {
     for number in 0..sources.files.len() {
         let Ok(names) = sources.included(rt.alloc(), number) else {
@@ -79,7 +79,7 @@ fn has_name(names: &[String], wanted: &str) -> bool {
     false
 }
 
-/// Compiles the files, and writes the executable file. What was buffered is written before the status is answered.
+/// Compiles the files, and writes the executable file. Flushes the output before returning the status.
 fn build_set(rt: &HostRuntime, sources: &Sources<'_>, out: &str, stack: StackSize) -> u8 {
     let Ok(mut line) = Line::new(rt.alloc()) else {
         return say_memory(rt);
@@ -117,7 +117,7 @@ fn file_port<'a>(
     }
 }
 
-/// Writes the rule of what was built.
+/// Writes the make rule of the built file.
 fn write_rule(rt: &HostRuntime, rule: Rule<'_>, out: &str, sources: &Sources<'_>) -> u8 {
     let built = if out == "-" { sources.given } else { out };
     let Ok(path) = rule_path(rt.alloc(), rule, built) else {

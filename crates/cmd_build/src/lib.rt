@@ -1,4 +1,4 @@
-//! The commands that carry out what `cc::perform` does, over files and streams: to build, to print tokens or a listing, to run and to interpret.
+//! The commands that carry out the operations of `cc::perform` over files and streams: to build, to print tokens or a listing, to run and to interpret.
 #![tactic(auto)]
 
 mod building;

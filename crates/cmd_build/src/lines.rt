@@ -1,4 +1,4 @@
-//! The tokens after preprocessing, on the lines on which they stand.
+//! The tokens after preprocessing, on their lines.
 
 use cli_args::Program;
 use cli_io::{TAKEN, put_file, say, say_usage};
@@ -11,7 +11,7 @@ use std::alloc::{AllocError, Global};
 /// The most empty lines that are written in place of a marker.
 const MOST_EMPTY: u32 = 8;
 
-/// Prints the tokens of a program to the file at a path, each on its line, with a marker `# LINE "FILE"` where another file or a further line goes on; answers
+/// Prints the tokens of a program to the file at a path, each on its line, with a marker `# LINE "FILE"` where another file or a further line goes on; returns
 /// the exit status.
 pub fn print_lines(rt: &HostRuntime, program: &Program<'_>, out: &str) -> u8 {
     if is_taken(rt, program, out) {
@@ -43,7 +43,7 @@ fn lines_of(alloc: Global, sources: &Sources<'_>) -> Result<Vec<u8>, Fault> {
     }
 }
 
-/// Where the text has come to: a line of a file, of which a token stands there or not.
+/// The present position of the text: a line of a file, which has a token already or not.
 #[derive(Clone, Copy)]
 struct Reached {
     file: usize,
@@ -68,7 +68,7 @@ fn text_of(alloc: Global, tokens: &[PpToken<'_>], names: &Names) -> Result<Vec<u
     Ok(text)
 }
 
-/// Goes on to the place of a token; answers where that is.
+/// Advances to the place of a token; returns the new position.
 fn put_place(
     alloc: Global,
     token: &PpToken<'_>,

@@ -5,7 +5,7 @@ use cli_io::{put_out, say, say_memory};
 use cli_sources::{Sources, read_sources};
 use std::alloc::{AllocError, Global};
 
-/// Prints a line for each file of a program: its name, a tab, and the path at which it was found; answers the exit status.
+/// Prints a line for each file of a program: its name, a tab, and the path at which it was found; returns the exit status.
 pub fn list_files(rt: &HostRuntime, program: &Program<'_>) -> u8 {
     let sources = match read_sources(rt, program) {
         Ok(sources) => sources,

@@ -9,7 +9,7 @@ use std::alloc::Global;
 use std::io;
 use std::io::{BufReader, BufWriter, Write};
 
-/// Prints the tokens of a program (`Cmd::Pp`) or the listing of its code (`Cmd::List`) to the file at a path; answers the exit status.
+/// Prints the tokens of a program (`Cmd::Pp`) or the listing of its code (`Cmd::List`) to the file at a path; returns the exit status.
 pub fn print_text(rt: &HostRuntime, program: &Program<'_>, command: Cmd<'_>, out: &str) -> u8 {
     if is_taken(rt, program, out) {
         return say_usage(rt, TAKEN);
@@ -24,7 +24,7 @@ pub fn print_text(rt: &HostRuntime, program: &Program<'_>, command: Cmd<'_>, out
     print_set(rt, &sources, command, out, stack_size(program))
 }
 
-/// Prints the text. What was buffered is written before the status is answered.
+/// Prints the text. Flushes the output before returning the status.
 fn print_set(
     rt: &HostRuntime,
     sources: &Sources<'_>,

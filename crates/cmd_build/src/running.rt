@@ -9,7 +9,7 @@ use srcset::FileSet;
 use std::io::{BufReader, BufWriter, IsTerminal, Stdin, Stdout};
 use std::{fs, io};
 
-/// Runs the executable file of the words, for at most so many instructions; answers the exit status.
+/// Runs the executable file of the command line, for at most `max` instructions; returns the exit status.
 pub fn run(rt: &HostRuntime, program: &Program<'_>, max: u64) -> u8 {
     match fs::read(rt, program.main) {
         Ok(file) => {
@@ -31,7 +31,7 @@ pub fn run(rt: &HostRuntime, program: &Program<'_>, max: u64) -> u8 {
     }
 }
 
-/// Interprets a program, for at most so many ticks; answers the exit status.
+/// Interprets a program, for at most `max` ticks; returns the exit status.
 pub fn interp(rt: &HostRuntime, program: &Program<'_>, max: u64) -> u8 {
     let sources = match read_sources(rt, program) {
         Ok(sources) => sources,
@@ -51,15 +51,15 @@ pub fn interp(rt: &HostRuntime, program: &Program<'_>, max: u64) -> u8 {
     )
 }
 
-/// The name of the file that is translated or run, and that which the words gave it.
+/// The name of the file that is translated or run, and its name on the command line.
 #[derive(Clone, Copy)]
 struct Names<'a> {
     main: &'a str,
     given: &'a str,
 }
 
-/// A command over standard input and output. One line at the most is said: that the output was refused at last goes before
-/// how the run stopped.
+/// A command over standard input and output. Prints at most one line: a failed final flush takes precedence over
+/// the run's outcome.
 fn over_streams(
     rt: &HostRuntime,
     command: Cmd<'_>,

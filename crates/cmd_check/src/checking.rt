@@ -14,17 +14,18 @@ use std::io::Write;
 
 const NO_WARNING: &str = "--warn takes all, none, or names of warnings with commas between";
 
-/// Of what a command warns, and how.
+/// The warnings that a command reports, and how.
 #[derive(Clone, Copy)]
 pub struct Warned<'a> {
-    /// The warnings that are asked for, with commas between.
+    /// The requested warnings, with commas between.
     pub words: &'a str,
     /// Whether a warning is an error.
     pub are_errors: bool,
     pub telling: Telling,
 }
 
-/// Tells the warnings of a program, or the fault for which it is refused; answers the exit status: 1 where it is refused, or has a warning and warnings are errors.
+/// Reports the warnings of a program, or the fault for which it is refused; returns the exit status: 1 where it is refused, or has a warning and warnings are
+/// errors.
 pub fn check_program(rt: &HostRuntime, program: &Program<'_>, warned: Warned<'_>) -> u8 {
     if unknown_word(warned.words) {
         return say_usage(rt, NO_WARNING);
@@ -39,7 +40,7 @@ pub fn check_program(rt: &HostRuntime, program: &Program<'_>, warned: Warned<'_>
     }
 }
 
-/// Tells the warnings of a program that is not refused.
+/// Reports the warnings of a program that is not refused.
 fn check_sources(
     rt: &HostRuntime,
     program: &Program<'_>,
@@ -72,7 +73,7 @@ fn said(
     warn_of_sources(alloc, &sources.set, asked)
 }
 
-/// Writes what is told; answers the exit status.
+/// Prints a report; returns the exit status.
 fn put_said(rt: &HostRuntime, said: &Said, are_errors: bool) -> u8 {
     let status = if are_errors && said.count != 0 { 1 } else { 0 };
     let written = put_out(rt, said.out.as_bytes(), status);

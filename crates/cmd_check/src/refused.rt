@@ -9,7 +9,7 @@ use explain_render::Style;
 use srcset::{Code, Fault};
 use std::alloc::{AllocError, Global};
 
-/// Tells why a file was not read, which as a want of memory is the line of 801 in each form; answers the exit status.
+/// Reports why a file was not read, which when out of memory is the line of 801 in each form; returns the exit status.
 pub fn put_unread(rt: &HostRuntime, fault: Fault, telling: Telling) -> u8 {
     if telling == Telling::Text || fault.code == Code::OutOfMemory.number() {
         say(rt, &fault)
@@ -18,7 +18,7 @@ pub fn put_unread(rt: &HostRuntime, fault: Fault, telling: Telling) -> u8 {
     }
 }
 
-/// Tells why a program is refused, which as a want of memory is the line of 801 in each form; answers the exit status.
+/// Reports why a program is refused, which when out of memory is the line of 801 in each form; returns the exit status.
 pub fn put_refused(
     rt: &HostRuntime,
     program: &Program<'_>,
@@ -33,7 +33,7 @@ pub fn put_refused(
     }
 }
 
-/// Tells why a program is refused, as `explain` does in this form; answers the exit status.
+/// Reports why a program is refused, as `explain` does in this form; returns the exit status.
 fn tell_refused(
     rt: &HostRuntime,
     program: &Program<'_>,

@@ -1,4 +1,4 @@
-//! Included files that the command does not name, and that lie beside the file that includes them.
+//! Included files that the command does not name, and that are next to the file that includes them.
 
 use cli_sources::{Sources, lies_beside};
 use explain::Explained;
@@ -6,7 +6,7 @@ use explain_findings::{Finding, Note, Topic};
 use srcset::Code;
 use std::alloc::AllocError;
 
-/// Says of each included file that is not found, and that lies beside the file that includes it, that it does.
+/// Notes for each included file that is not found, but is next to the file that includes it, that it is there.
 pub(crate) fn look_beside(
     rt: &HostRuntime,
     sources: &Sources<'_>,
@@ -39,7 +39,7 @@ fn look(rt: &HostRuntime, sources: &Sources<'_>, finding: &mut Finding) -> Resul
     Ok(())
 }
 
-/// What stands between the quotes of a header name.
+/// The text between the quotes of a header name.
 fn quoted(token: &[u8]) -> Option<&str> {
     let Ok(text) = str::from_utf8(token) else {
         return None;

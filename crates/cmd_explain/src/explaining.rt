@@ -18,15 +18,15 @@ use std::{env, fs};
 #[derive(Clone, Copy)]
 pub struct Told {
     pub stage: Stage,
-    /// At most so many ticks of the interpreter.
+    /// The maximum number of ticks of the interpreter.
     pub max: u64,
-    /// At most so many faults.
+    /// The maximum number of faults.
     pub most: usize,
     pub telling: Telling,
     pub colours: Colours,
 }
 
-/// Explains what a command comes to: its faults, or the undefined behaviour of a program that is interpreted; answers the exit status.
+/// Explains the result of a command: its faults, or the undefined behaviour of a program that is interpreted; returns the exit status.
 pub fn explain_program(rt: &HostRuntime, program: &Program<'_>, told: Told) -> u8 {
     let form = form(rt, told);
     let sources = match read_sources(rt, program) {
@@ -42,7 +42,7 @@ pub fn explain_program(rt: &HostRuntime, program: &Program<'_>, told: Told) -> u
     put_named(rt, &sources, &said)
 }
 
-/// What is said of the faults of a program.
+/// The report on the faults of a program.
 fn said(
     rt: &HostRuntime,
     program: &Program<'_>,
@@ -79,7 +79,7 @@ fn said(
     }
 }
 
-/// Shows the source line of a fault, with a caret, where standard error is a terminal: what stands behind the one line of `build`. A program on
+/// Shows the source line of a fault, with a caret, where standard error is a terminal: this follows the one line of `build`. A program on
 /// standard input cannot be read again.
 pub fn show_line(rt: &HostRuntime, program: &Program<'_>) {
     if !rt.stderr().is_terminal() || reads_input(program) {
@@ -117,7 +117,7 @@ fn line_of(
     )
 }
 
-/// Tells in a form why a file was not read.
+/// Reports in a form why a file was not read.
 fn say_unread(rt: &HostRuntime, fault: Fault, form: Form) -> u8 {
     if matches!(form, Form::Text(_)) || fault.code == Code::OutOfMemory.number() {
         let status = say(rt, &fault);
@@ -130,7 +130,7 @@ fn say_unread(rt: &HostRuntime, fault: Fault, form: Form) -> u8 {
     }
 }
 
-/// Says why a file cannot be read, where it can be told.
+/// Prints why a file cannot be read, where the reason is known.
 fn say_why(rt: &HostRuntime, fault: &Fault) {
     if fault.code != Code::CannotRead.number() || fault.file.is_empty() {
         return;
@@ -146,8 +146,8 @@ fn say_why(rt: &HostRuntime, fault: &Fault) {
     let _said = eprintln!(rt; "  help: {why}");
 }
 
-/// Interprets the program over standard input, which is read to its end first; writes what it wrote, and explains its undefined
-/// act. The exit status is that of `interp`.
+/// Interprets the program over standard input, which is read to its end first; writes its output, and explains its undefined
+/// behaviour. The exit status is that of `interp`.
 fn explain_interp(
     rt: &HostRuntime,
     program: &Program<'_>,
@@ -165,7 +165,7 @@ fn explain_interp(
     }
 }
 
-/// What is said of a run over an input.
+/// The report on a run over an input.
 fn run_said(
     alloc: Global,
     program: &Program<'_>,
@@ -189,7 +189,7 @@ fn run_said(
     )
 }
 
-/// Writes what a command tells of a program, in which a fault of the whole unit names the main file of the words; answers the exit status.
+/// Writes a command's report on a program, in which a fault of the whole unit names the main file of the words; returns the exit status.
 fn put_named(rt: &HostRuntime, sources: &Sources<'_>, said: &Said) -> u8 {
     match sources.behind_unit(said.err.as_slice()) {
         Some(behind) => {
@@ -201,7 +201,7 @@ fn put_named(rt: &HostRuntime, sources: &Sources<'_>, said: &Said) -> u8 {
     }
 }
 
-/// Writes what a command tells; answers the exit status.
+/// Writes a command's report; returns the exit status.
 fn put_said(rt: &HostRuntime, said: &Said) -> u8 {
     let status = put_out(rt, said.out.as_slice(), said.status);
     if status == said.status {

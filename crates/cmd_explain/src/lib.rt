@@ -1,4 +1,4 @@
-//! `explain`: faults, or an undefined act, told for people and for tools.
+//! `explain`: faults, or undefined behaviour, reported for people and for tools.
 #![tactic(auto)]
 
 mod beside;

@@ -1,4 +1,4 @@
-//! A program that is built to be looked into.
+//! A program that is built for inspection.
 
 use cc::{Built, compile_with};
 use cli_args::Program;
@@ -6,14 +6,14 @@ use cli_io::say;
 use cli_sources::{Sources, stack_size};
 use symbol_table::{SymbolTable, symbol_table};
 
-/// An executable file, and what is told of it.
+/// An executable file, and its description.
 #[derive(Drop)]
 pub struct Described {
     pub built: Built,
     pub table: SymbolTable,
 }
 
-/// The executable file of a program, looked into; or the exit status, where the fault is said.
+/// The executable file of a program, with its description; or the exit status, where the fault is printed.
 pub fn describe(
     rt: &HostRuntime,
     program: &Program<'_>,

@@ -8,7 +8,7 @@ use srcset::{Code, Fault};
 use std::alloc::{AllocError, Global};
 use std::fs;
 
-/// Prints the bytes that the executable file at a path loads, in a form; answers the exit status.
+/// Prints the bytes that the executable file at a path loads, in a form; returns the exit status.
 pub fn show_image(rt: &HostRuntime, path: &str, form: ImageForm) -> u8 {
     match fs::read(rt, path) {
         Ok(file) => show_file(rt, path, file.as_slice(), form),

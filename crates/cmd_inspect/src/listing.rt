@@ -11,18 +11,18 @@ use std::alloc::Global;
 use std::io;
 use symbol_table::SymbolTable;
 
-/// What a listing shows beside the instructions.
+/// The parts that a listing shows in addition to the instructions.
 #[derive(Clone, Copy, Debug, PartialEq, Eq)]
 pub struct ListForm {
     /// The names of functions and of objects, and labels where branches lead to.
     pub has_labels: bool,
     /// The names that registers have in calls.
     pub has_abi_names: bool,
-    /// The lines of the sources, each before the code of what stands in it.
+    /// The lines of the sources, each before the code of its statements.
     pub has_lines: bool,
 }
 
-/// Prints the listing of a program's code in a form to the file at a path; answers the exit status.
+/// Prints the listing of a program's code in a form to the file at a path; returns the exit status.
 pub fn list_code(rt: &HostRuntime, program: &Program<'_>, out: &str, form: ListForm) -> u8 {
     if is_taken(rt, program, out) {
         return say_usage(rt, TAKEN);

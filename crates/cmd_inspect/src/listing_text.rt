@@ -6,7 +6,7 @@ use srcset::FileSet;
 use std::alloc::{AllocError, Global};
 use symbol_table::{DataLoad, SymbolTable};
 
-/// How many letters stand before an instruction: its address, its word, and the spaces behind them.
+/// How many letters precede an instruction: its address, its word, and the spaces after them.
 const HEAD: usize = 19;
 
 /// The names of registers (RISC-V ELF psABI, integer register convention), from x0 on.
@@ -28,7 +28,7 @@ struct Row<'l> {
     code: &'l str,
 }
 
-/// What a listing is made of.
+/// The inputs and the output of a listing.
 #[derive(Drop)]
 struct Listing<'l> {
     table: &'l SymbolTable,
@@ -36,7 +36,7 @@ struct Listing<'l> {
     /// The addresses that branches lead to, by rising addresses.
     targets: Vec<u32>,
     lines: SourceLines<'l>,
-    /// How many of the loads of addresses in the data stand before the row.
+    /// How many of the loads of addresses in the data precede the row.
     loads: usize,
     text: String,
 }
@@ -77,7 +77,7 @@ impl Listing<'_> {
         Ok(())
     }
 
-    /// Puts what stands before the instruction at an address: a label, and the lines of the sources.
+    /// Appends the lines before the instruction at an address: a label, and the lines of the sources.
     fn put_heads(&mut self, alloc: Global, address: u32) -> Result<(), AllocError> {
         if self.form.has_labels {
             put_label(
@@ -94,8 +94,8 @@ impl Listing<'_> {
         Ok(())
     }
 
-    /// Puts a line, with the label that it leads to; behind a call the function that it calls, and behind the load of an address what
-    /// stands there.
+    /// Appends a line, with the label of its target; after a call the function that it calls, and after the load of an address the object
+    /// there.
     fn put_row(
         &mut self,
         alloc: Global,
@@ -126,7 +126,7 @@ impl Listing<'_> {
         }
     }
 
-    /// The load of an address in the data whose second instruction stands here. Loads are asked for by rising addresses.
+    /// The load of an address in the data whose second instruction is at this address. Calls are in the order of rising addresses.
     fn loaded(&mut self, address: u32) -> Option<DataLoad> {
         let load = self.table.loads.get(self.loads).copied()?;
         if load.at.wrapping_add(4) != address {
@@ -137,7 +137,7 @@ impl Listing<'_> {
     }
 }
 
-/// Puts the name of the object in which an address of the data lies, and how far behind its begin it is.
+/// Appends the name of the object in which an address of the data lies, and its offset from the object's start.
 fn put_object(
     alloc: Global,
     table: &SymbolTable,
@@ -183,7 +183,7 @@ fn targets(alloc: Global, plain: &str) -> Result<Vec<u32>, AllocError> {
     Ok(found)
 }
 
-/// What stands before the place that a branch leads to, and the address of that place.
+/// The text before the target of a branch, and the address of the target.
 fn branch<'l>(row: Row<'l>) -> Option<(&'l str, u32)> {
     let (name, _) = row.code.split_once(' ')?;
     if !BRANCHES.contains(&name) {
@@ -198,7 +198,7 @@ fn branch<'l>(row: Row<'l>) -> Option<(&'l str, u32)> {
     ))
 }
 
-/// Puts the name of the function that begins at an address, or a label where a branch leads there.
+/// Appends the name of the function that begins at an address, or a label where a branch leads there.
 fn put_label(
     alloc: Global,
     address: u32,
@@ -246,7 +246,7 @@ fn called<'m>(row: Row<'_>, before: Option<Row<'_>>, map: &'m SymbolTable) -> Op
     function_at(map, before.address.wrapping_add(upper).wrapping_add(lower))
 }
 
-/// Puts an instruction, with the names that registers have in calls where the form has them.
+/// Appends an instruction, with the names that registers have in calls where the form has them.
 fn put_code(code: &str, form: ListForm, text: &mut String) -> Result<(), AllocError> {
     if !form.has_abi_names {
         return text.push_str(code);
@@ -263,7 +263,7 @@ fn put_code(code: &str, form: ListForm, text: &mut String) -> Result<(), AllocEr
     text.push_str(rest)
 }
 
-/// The first register of a text: what stands before it, its name, and what stands behind it.
+/// The first register of a text: the text before it, its name, and the text after it.
 fn register(text: &str) -> Option<(&str, &'static str, &str)> {
     let at = text.find(|c: char| c == 'x')?;
     let digits = text.get(at.checked_add(1)?..)?;

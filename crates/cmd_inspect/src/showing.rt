@@ -5,7 +5,7 @@ use cli_io::{TAKEN, put_file, say, say_usage};
 use cli_sources::{is_taken, read_sources, stack_size};
 use forms::{Form, Style, show};
 
-/// Prints a form of a program to the file at a path; answers the exit status.
+/// Prints a form of a program to the file at a path; returns the exit status.
 pub fn show_form(
     rt: &HostRuntime,
     program: &Program<'_>,

@@ -7,7 +7,7 @@ use srcset::Fault;
 use std::alloc::{AllocError, Global};
 use std::fs;
 
-/// Prints how many bytes of code, data, zeros and stack the executable file at a path has; answers the exit status.
+/// Prints how many bytes of code, data, zeros and stack the executable file at a path has; returns the exit status.
 pub fn show_size(rt: &HostRuntime, path: &str) -> u8 {
     match fs::read(rt, path) {
         Ok(file) => show_file(rt, path, file.as_slice()),

@@ -4,7 +4,7 @@ use srcset::FileSet;
 use std::alloc::{AllocError, Global};
 use symbol_table::{Function, Line, SymbolTable};
 
-/// The lines of the sources at the addresses of their code, which are asked for by rising addresses.
+/// The lines of the sources at the addresses of their code, which are requested in the order of rising addresses.
 #[derive(Drop)]
 pub(crate) struct SourceLines<'l> {
     table: &'l SymbolTable,
@@ -13,7 +13,7 @@ pub(crate) struct SourceLines<'l> {
     /// The function and how many of its lines were passed.
     function: usize,
     passed: usize,
-    /// The line that was put last.
+    /// The line that was printed last.
     last: Option<(usize, u32)>,
 }
 
@@ -36,7 +36,7 @@ impl<'l> SourceLines<'l> {
         })
     }
 
-    /// Puts the line whose code begins at an address, but none twice in a row. Of statements that begin at one address it is the
+    /// Appends the line whose code begins at an address, but none twice in a row. Of statements that begin at one address it is the
     /// last: those before it have no code of their own.
     pub(crate) fn put_at(
         &mut self,
@@ -63,7 +63,7 @@ impl<'l> SourceLines<'l> {
         }
     }
 
-    /// Goes on to the next function where it begins at this address.
+    /// Advances to the next function where it begins at this address.
     fn enter(&mut self, address: u32) {
         let next = self.function.saturating_add(1);
         if begins_at(self.table.functions.get(next), address) {

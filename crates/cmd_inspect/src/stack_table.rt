@@ -1,4 +1,4 @@
-//! `frames`: what each function takes.
+//! `frames`: the sizes of each function.
 
 use crate::building::{Described, describe};
 use cli_args::Program;
@@ -8,7 +8,7 @@ use image_export::{Sizes, sizes_of};
 use std::alloc::{AllocError, Global};
 use symbol_table::{frames_table, sizes_table};
 
-/// Builds a program, and prints what each function takes, with addresses and sizes or without; answers the exit status.
+/// Builds a program, and prints the sizes of each function, with addresses and code sizes or without; returns the exit status.
 pub fn show_frames(rt: &HostRuntime, program: &Program<'_>, has_sizes: bool) -> u8 {
     let sources = match read_sources(rt, program) {
         Ok(sources) => sources,
@@ -27,7 +27,7 @@ fn show_seen(rt: &HostRuntime, seen: &Described, has_sizes: bool) -> u8 {
     }
 }
 
-/// The table of the functions, and behind it, where sizes are shown, what the whole file takes.
+/// The table of the functions, and after it, where sizes are shown, the sizes of the whole file.
 fn table(alloc: Global, seen: &Described, has_sizes: bool) -> Result<String, AllocError> {
     if !has_sizes {
         return frames_table(alloc, &seen.table);
@@ -37,7 +37,7 @@ fn table(alloc: Global, seen: &Described, has_sizes: bool) -> Result<String, All
     Ok(text)
 }
 
-/// Puts what the whole file takes.
+/// Appends the sizes of the whole file.
 fn put_sizes(alloc: Global, all: Sizes, text: &mut String) -> Result<(), AllocError> {
     let (code, data, zeros, stack) = (all.text, all.data, all.zeros, all.stack);
     let line = format!(in alloc;

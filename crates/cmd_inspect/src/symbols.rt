@@ -6,7 +6,7 @@ use cli_io::{TAKEN, put_file, say, say_memory, say_usage};
 use cli_sources::{is_taken, read_sources};
 use symbol_table::{SymbolTable, symbol_file};
 
-/// Builds a program, and writes the file of its symbols; answers the exit status.
+/// Builds a program, and writes the file of its symbols; returns the exit status.
 pub fn write_symbols(rt: &HostRuntime, program: &Program<'_>, out: &str) -> u8 {
     if is_taken(rt, program, out) {
         return say_usage(rt, TAKEN);

@@ -1,4 +1,4 @@
-//! What the server asks: files of the disk, and findings of the compiler.
+//! The services that the server needs: files of the disk, and findings of the compiler.
 
 use cc::StackSize;
 use cli_sources::read_bytes;
@@ -120,7 +120,7 @@ impl<'a> Host for Console<'a> {
     }
 }
 
-/// The name of an entry of a folder, with `/` behind that of a folder.
+/// The name of an entry of a folder, with `/` after that of a folder.
 fn shown_entry(alloc: Global, entry: &DirEntry) -> Result<String, AllocError> {
     let mut name = String::from_str(alloc, entry.file_name())?;
     if let Ok(kind) = entry.file_type() {
@@ -152,7 +152,7 @@ fn stack_of(unit: Unit<'_>) -> StackSize {
     }
 }
 
-/// What `zkc explain --json` tells.
+/// The output of `zkc explain --json`.
 fn faults(alloc: Global, unit: Unit<'_>, most: usize) -> Result<String, AllocError> {
     let bounds = Bounds {
         stage: Stage::Whole,
@@ -172,7 +172,7 @@ fn faults(alloc: Global, unit: Unit<'_>, most: usize) -> Result<String, AllocErr
     String::from_str(alloc, text.as_str())
 }
 
-/// What `zkc check --json` tells.
+/// The output of `zkc check --json`.
 fn warnings(alloc: Global, unit: Unit<'_>) -> Result<String, AllocError> {
     let said = warn_of_sources(
         alloc,
@@ -191,7 +191,7 @@ fn warnings(alloc: Global, unit: Unit<'_>) -> Result<String, AllocError> {
     String::from_str(alloc, said.out.as_str())
 }
 
-/// What `zkc verify --json` tells.
+/// The output of `zkc verify --json`.
 fn unverified(alloc: Global, unit: Unit<'_>) -> Result<String, AllocError> {
     let asked = Verified {
         names: unit.names,

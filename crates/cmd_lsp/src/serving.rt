@@ -53,7 +53,7 @@ pub fn serve(rt: &HostRuntime) -> u8 {
     1
 }
 
-/// Takes bytes of the client; returns the exit status, where the session ends. Changes are looked at when no whole message is left.
+/// Takes bytes of the client; returns the exit status, where the session ends. Changes are examined when no whole message is left.
 fn feed(
     rt: &HostRuntime,
     server: &mut Server<Console<'_>>,

@@ -12,17 +12,17 @@ use std::io;
 use std::io::{BufReader, BufWriter, Stdin, Stdout, Write};
 use traced_interp::{SourceLines, Trace as Tracing, TraceForm};
 
-/// How a run of the interpreter is told.
+/// The form in which a run of the interpreter is traced.
 #[derive(Clone, Copy)]
 pub struct InterpForm<'a> {
-    /// At most so many ticks.
+    /// The maximum number of ticks.
     pub max: u64,
     pub trace: Trace<'a>,
-    /// Whether each event is told as a JSON object.
+    /// Whether each event is printed as a JSON object.
     pub is_json: bool,
 }
 
-/// A program that is to be interpreted, with what its trace shows.
+/// A program that is to be interpreted, with the data that its trace shows.
 #[derive(Drop)]
 struct Shown {
     typed: typed_ast::Program,
@@ -31,7 +31,7 @@ struct Shown {
     lines: SourceLines,
 }
 
-/// Interprets a program with a trace; answers the exit status.
+/// Interprets a program with a trace; returns the exit status.
 pub fn interp_traced(rt: &HostRuntime, program: &Program<'_>, form: InterpForm<'_>) -> u8 {
     if is_taken(rt, program, trace_path(form.trace)) {
         return say_usage(rt, TAKEN);
@@ -54,7 +54,7 @@ pub fn interp_traced(rt: &HostRuntime, program: &Program<'_>, form: InterpForm<'
     }
 }
 
-/// What the trace of a program shows.
+/// The data that the trace of a program shows.
 fn find_shown(
     alloc: Global,
     sources: &Sources<'_>,
@@ -73,7 +73,7 @@ fn find_shown(
     })
 }
 
-/// Interprets a program; its trace goes where the words say.
+/// Interprets a program; its trace goes to the destination given by the words.
 fn trace_to(rt: &HostRuntime, found: Shown, form: InterpForm<'_>) -> u8 {
     match form.trace {
         Trace::File(path) => match BufWriter::new(rt.alloc(), OutFile::plain(rt, path)) {

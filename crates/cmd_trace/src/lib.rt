@@ -1,4 +1,4 @@
-//! A run that is told: instruction by instruction, or statement by statement.
+//! A traced run: instruction by instruction, or statement by statement.
 #![tactic(auto)]
 
 mod interpreting;

@@ -1,4 +1,4 @@
-//! `run` with a trace, with the machine shown after so many instructions, or with the names of functions.
+//! `run` with a trace, with the machine shown after a number of instructions, or with the names of functions.
 
 use crate::interpreting::trace_path;
 use cc::{StackSize, compile_with};
@@ -14,19 +14,19 @@ use std::alloc::{AllocError, Global};
 use std::io::{BufReader, BufWriter, Stdin, Stdout, Write};
 use std::{fs, io};
 use symbol_table::{SymbolTable, symbol_table};
-use traced_run::{TraceEnd, machine_text, place_text, traced_run};
+use traced_run::{TextTrace, TraceEnd, machine_text, place_text, traced_run};
 
-/// How a run is told.
+/// The form in which a run is traced.
 #[derive(Clone, Copy)]
 pub struct RunForm<'a> {
-    /// At most so many instructions.
+    /// The maximum number of instructions.
     pub max: u64,
     /// After how many the machine is shown.
     pub at: Option<u64>,
     pub trace: Trace<'a>,
 }
 
-/// Runs the executable file of the words, and tells of it; answers the exit status.
+/// Runs the executable file of the words, and reports on it; returns the exit status.
 pub fn run_traced(rt: &HostRuntime, program: &Program<'_>, form: RunForm<'_>) -> u8 {
     if is_taken(rt, program, trace_path(form.trace)) {
         return say_usage(rt, TAKEN);
@@ -116,7 +116,7 @@ fn sources_of<'a>(alloc: Global, program: &Program<'a>) -> Option<Program<'a>> {
     })
 }
 
-/// Runs the program over standard input and output, as the words ask.
+/// Runs the program over standard input and output, as the words request.
 fn run_over_streams(
     rt: &HostRuntime,
     loaded: Loaded,
@@ -151,7 +151,7 @@ fn streams(rt: &HostRuntime) -> io::Result<IoPort<Stdin, BufWriter<Stdout>>> {
     }
 }
 
-/// How a run that is told ended.
+/// How a traced run ended.
 #[derive(Clone, Copy)]
 enum End {
     Told(TraceEnd),
@@ -159,7 +159,7 @@ enum End {
     Memory,
 }
 
-/// Shows the machine; answers whether there was memory for that.
+/// Shows the machine; returns whether there was memory for that.
 fn show_machine(rt: &HostRuntime, state: &State, map: Option<&SymbolTable>) -> bool {
     match machine_text(rt.alloc(), state, map) {
         Ok(text) => {
@@ -170,7 +170,7 @@ fn show_machine(rt: &HostRuntime, state: &State, map: Option<&SymbolTable>) -> b
     }
 }
 
-/// A run of so many instructions as the words allow, with its trace where they ask for one.
+/// A run of at most as many instructions as the words allow, with its trace where they request one.
 fn run_as_asked<P: Port>(
     rt: &HostRuntime,
     machine: &mut Machine,
@@ -180,11 +180,21 @@ fn run_as_asked<P: Port>(
 ) -> End {
     match form.trace {
         Trace::File(path) => match BufWriter::new(rt.alloc(), OutFile::plain(rt, path)) {
-            Ok(mut out) => run_to(rt.alloc(), machine, port, form.max, map, &mut out),
+            Ok(out) => run_to(
+                machine,
+                port,
+                form.max,
+                TextTrace::new(rt.alloc(), map, out),
+            ),
             Err(_) => End::Memory,
         },
         Trace::Shown => match BufWriter::new(rt.alloc(), rt.stderr()) {
-            Ok(mut out) => run_to(rt.alloc(), machine, port, form.max, map, &mut out),
+            Ok(out) => run_to(
+                machine,
+                port,
+                form.max,
+                TextTrace::new(rt.alloc(), map, out),
+            ),
             Err(_) => End::Memory,
         },
         Trace::None => {
@@ -194,18 +204,17 @@ fn run_as_asked<P: Port>(
     }
 }
 
-/// A run with its trace to a writer, whose last lines are handed on.
-fn run_to<P: Port, W: Write>(
-    alloc: Global,
+/// A run with its trace, whose last lines are flushed.
+fn run_to<P: Port, W: Write + Drop>(
     machine: &mut Machine,
     port: &mut P,
     max: u64,
-    map: Option<&SymbolTable>,
-    out: &mut W,
+    trace: TextTrace<'_, W>,
 ) -> End {
-    match traced_run(alloc, machine, port, max, map, out) {
+    let mut trace = trace;
+    match traced_run(machine, port, max, &mut trace) {
         Ok(end) => {
-            if out.flush().is_ok() {
+            if trace.finish() {
                 End::Told(end)
             } else {
                 End::Told(TraceEnd::Unwritten)
@@ -215,7 +224,7 @@ fn run_to<P: Port, W: Write>(
     }
 }
 
-/// Says how a run stopped, as `run` does, with the function where the map has it; answers the exit status.
+/// Prints how a run stopped, as `run` does, with the function where the map has it; returns the exit status.
 fn tell_end(rt: &HostRuntime, outcome: Outcome, map: Option<&SymbolTable>) -> u8 {
     match outcome {
         Outcome::Ended(status) => status,
@@ -234,7 +243,7 @@ fn tell_end(rt: &HostRuntime, outcome: Outcome, map: Option<&SymbolTable>) -> u8
     }
 }
 
-/// Says in which function a run trapped; answers the exit status.
+/// Prints in which function a run trapped; returns the exit status.
 fn say_place(rt: &HostRuntime, map: &SymbolTable, pc: u32) -> u8 {
     match place_text(rt.alloc(), map, pc) {
         Ok(place) => {

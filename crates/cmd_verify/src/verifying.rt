@@ -14,8 +14,9 @@ const NOT_SHOWN: u8 = 3;
 /// Standard output has the verdict already.
 const NO_STREAM: &str = "the verdict goes to standard output: -o OUT wants a path";
 
-/// Tells whether a program does anything undefined, on any input, and how much of its stack it takes, and where it is defined and its stack suffices writes its executable
-/// file at the path that is given; answers the exit status: 0 where it is defined and the stack suffices, 3 where that was not shown, 1 where the program is refused.
+/// Reports whether a program has undefined behaviour, on any input, and how much of its stack it takes, and where it has none and its stack suffices writes its
+/// executable file at the path that is given; returns the exit status: 0 where it is defined and the stack suffices, 3 where that was not shown, 1 where the
+/// program is refused.
 pub fn verify_program(rt: &HostRuntime, program: &Program<'_>, words: &VerifyWords<'_>) -> u8 {
     let telling = words.telling;
     let path = words.out.unwrap_or_default();
@@ -39,7 +40,7 @@ pub fn verify_program(rt: &HostRuntime, program: &Program<'_>, words: &VerifyWor
     }
 }
 
-/// What is told of the program, or the fault for which it is refused.
+/// The report on the program, or the fault for which it is refused.
 fn said(
     alloc: Global,
     program: &Program<'_>,

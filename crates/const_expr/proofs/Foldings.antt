@@ -35,7 +35,7 @@ first_arm r t c a b v e k h = then_right r (folded c) v _ e (subst (λ k. IsOf r
 second_arm : (r : Refusal) (t : Option IntType) (c a b : typed.Value) (v : ℤ) → folded c ≡ fine v → truth v ≡ false → IsOf r (folded b) → IsOf r (folded (typed.chosen t c a b))
 second_arm r t c a b v e k h = then_right r (folded c) v _ e (subst (λ k. IsOf r (by_truth k (to_arm t (folded a)) (to_arm t (folded b)))) (sym k) (arm r t (folded b) h))
 
--- ---- of what the code holds
+-- ---- of the code's representation
 
 sees_cast : (t : IntType) (e : Box Value Global) → value_of (V.Cast t e) ≡ typed.cast t (value_of e.value)
 sees_cast t e = search (rules, the_lemmas)

@@ -30,7 +30,7 @@ types_of ps = map parameter_type_of ps
 
 -- ---- typed, from the left
 
--- what is left leads to the whole
+-- the result for the rest gives the result for the whole
 pub record Reading (t : List (List ℕ)) (s : Scope) (at : Pos) (start now : ℕ) (ps rest : List ParameterType) (all es : List Expr) (done : List held.Checked) : Type 0 where
   pub ok : (xs : List Checked) → arguments_at t now s at (types_of rest) (trees_of (map tree_of es)) ≡ given_for at (types_of rest) xs →
       arguments_at t start s at (types_of ps) (trees_of (map tree_of all)) ≡ given_for at (types_of ps) (map checked_of done ++ xs)
@@ -59,7 +59,7 @@ one_more t s at start n m all p ps whole e es done more x h f c g = record {
   count = let a = h.count in let k = length-append (strings (tree_of e)) (strings_in (trees_of (map tree_of es))) in omega (arith, a, k, c);
 }
 
--- the first so many, each for a parameter
+-- the first i, each for a parameter
 pub record ReadTo (t : List (List ℕ)) (s : Scope) (at : Pos) (start now : ℕ) (ps : List ParameterType) (all : List Expr) (i : ℕ) (done : List held.Checked) : Type 0 where
   pub made : length done ≡ i
   pub room : i ≤ length ps
@@ -166,7 +166,7 @@ assigned_next at ps xs left rest x p all more y b a f g =
           ∙ ap (λ l. fine (arguments_of (map argument_of l))) (sym (ap reverse g ∙ reverse-append all (y ∷ [])));
     }
 
--- what the last arguments break stands for all
+-- a constraint that the last arguments break is broken by all
 behind : (r : Refusal) (at : Pos) (ps : List ParameterType) (xs done : List held.Checked) → length xs ≤ length ps → Tells r (given_for at (types_of (drop (length xs) ps)) (map checked_of done)) →
     Tells r (given_for at (types_of ps) (map checked_of (xs ++ done)))
 behind r at ps [] done h q = q

@@ -25,7 +25,7 @@ then_same (broken vs) w f g e h = ap (λ k. then_check k g) e
 pub both_same : {A B C : Type 0} (v w : Verdict A) (x y : Verdict B) (f : A → B → Verdict C) → v ≡ w → x ≡ y → both v x f ≡ both w y f
 both_same v w x y f e h = ap (λ k. both k x f) e ∙ ap (λ k. both w k f) h
 
--- ---- what does not read the literals
+-- ---- functions that do not read the literals
 
 pub form_same : (t : List (List ℕ)) (k : List ℕ) (s : Scope) (e : Tree) → constant_form s e ≡ constant_form (seen t k s) e
 form_same t k s hole = refl

@@ -1,4 +1,4 @@
--- What the parts of an expression say of it, with the string literals counted.
+-- The result for an expression by those for its parts, with the string literals counted.
 use Rattle.std.proofs.Common.{◌≡◌, ℕ, ◌+◌, List, ◌++◌, length, sym, ap, ◌∙◌, subst, arith, Option, length-append}
 use Rattle.std.specs.Prelude.{replicate}
 use Rattle.std.proofs.lemmas.List.{length-replicate}
@@ -20,7 +20,7 @@ use Rattle.const_expr.proofs.Numbered.{both_same, more, typing_same, arguments_s
 counted : (n m : ℕ) (k : List ℕ) → m ≡ n + length k → length {A = ℕ} (replicate m 0) ≡ length {A = ℕ} (replicate n 0 ++ k)
 counted n m k h = omega (arith, h, length-replicate {A = ℕ} m 0, length-replicate {A = ℕ} n 0, length-append {A = ℕ} (replicate n 0) k)
 
--- behind so many literals more
+-- after the string literals of a preceding part
 pub typing_past : (t : List (List ℕ)) (n m : ℕ) (s : Scope) (a e : Tree) → m ≡ n + length (strings a) → typing_at t m s e ≡ typed.typing (past (numbered t n s) a) e
 typing_past t n m s a e h = typing_same t (replicate m 0) (replicate n 0 ++ strings a) s (counted n m (strings a) h) e
 

@@ -67,7 +67,7 @@ positive_is p v (suc n) e h = ap (positive p) e
 turned : (p n e a : ℕ) → p * (n * e) ≡ a → n * p * e ≡ a
 turned p n e a h = ap (λ k. k * e) (mul_comm n p) ∙ mul_assoc p n e ∙ h
 
--- the elements of so many lengths, before those that are left
+-- the number of elements by the lengths before those that are left
 pub record Counted (count : ℕ) (left all : List ℕ) : Type 0 where
   pub so_far : ℕ
   pub within : count ≡ capped so_far

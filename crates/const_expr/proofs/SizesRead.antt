@@ -14,7 +14,7 @@ use Rattle.typing_expressions.proofs.Verdicts.{tells_left, tells_right}
 use Rattle.const_expr.proofs.Listed.{next_of}
 use Rattle.const_expr.proofs.Parts.{lengths_past}
 
--- what is left leads to the whole
+-- the result for the rest gives the result for the whole
 pub record Read (t : List (List ℕ)) (s : Scope) (at : Pos) (start now : ℕ) (all es : List Expr) (done : List ℕ) : Type 0 where
   pub ok : (ns : List ℕ) → lengths_at t now s at (trees_of (map tree_of es)) ≡ fine ns → lengths_at t start s at (trees_of (map tree_of all)) ≡ fine (done ++ ns)
   pub err : (r : Refusal) → Tells r (lengths_at t now s at (trees_of (map tree_of es))) → Tells r (lengths_at t start s at (trees_of (map tree_of all)))

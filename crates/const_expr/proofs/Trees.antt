@@ -1,4 +1,4 @@
--- What the parts of the code's trees say of them.
+-- The code's trees by their parts.
 use Rattle.std.proofs.Common.{◌≡◌, ℕ, List, map, sym, ap, ◌∙◌, subst, rules, IfOk, IfErr}
 use Rattle.std.specs.Prelude.{Result, replicate}
 use Rattle.srcset.specs.declared.refusal.Pos.{Pos}

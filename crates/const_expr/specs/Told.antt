@@ -1,4 +1,4 @@
--- The fault of a constraint that stands.
+-- The fault that reports a broken constraint.
 use Rattle.srcset.specs.NameTable.{Texts}
 use Rattle.srcset.specs.Refusal.{IsFaultOfRefusal}
 use Rattle.srcset.specs.declared.fault.Fault.{Fault}

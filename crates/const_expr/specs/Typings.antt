@@ -1,4 +1,4 @@
--- What the code's types and constants stand for.
+-- The definition's values that the code's types and constants represent.
 use Rattle.std.specs.Prelude.{Bool, true, false, not, ℕ, ℤ, pos, List, [], ◌∷◌, Option, Some, None}
 use Rattle.const_expr.specs.declared.specifiers.BaseType.{BaseType}
 use Rattle.const_expr.specs.declared.specifiers.WordSet.{WordSet}

@@ -1,4 +1,4 @@
-//! What may stand in a constant expression (6.6p3, p6).
+//! The forms that are allowed in a constant expression (6.6p3, p6).
 #![tactic(auto, using(typing_expressions::proofs::Verdicts::each_left, typing_expressions::proofs::Verdicts::each_right, typing_expressions::proofs::Verdicts::each_fine))]
 
 ghost use Rattle.std.specs.Prelude.{◌≡◌, IfErr, OnOk};
@@ -33,7 +33,7 @@ fn no_comma(pos: Pos, op: BinaryOp) -> Result<(), Refusal>
 }
 
 /// Whether an expression may be the operand of `sizeof` in a constant expression: no assignment, increment, decrement, call or
-/// comma, also where it is not evaluated. Else 501 stands at one of these.
+/// comma, also where it is not evaluated. Else 501 is reported at one of these.
 pub fn measurable(e: &Expr) -> Result<(), Refusal>
     ensures ok { OnOk result (typed.measurable (tree_of e.now) ≡ fine tt) }
     ensures err { IfErr result (λ r. IsOf r (typed.measurable (tree_of e.now))) }
@@ -80,7 +80,7 @@ fn constant_name(pos: Pos, binding: Option<&Binding>) -> Result<(), Refusal>
 }
 
 /// Whether an expression may be a constant expression: of names enumerators alone, and string literals and subscripts under
-/// `sizeof` alone. Else 501 stands at what may not.
+/// `sizeof` alone. Else 501 is reported at a part that is not allowed.
 pub fn constant_form(scope: &Scope, e: &Expr) -> Result<(), Refusal>
     ensures ok { OnOk result (typed.constant_form scope.now (tree_of e.now) ≡ fine tt) }
     ensures err { IfErr result (λ r. IsOf r (typed.constant_form scope.now (tree_of e.now))) }

@@ -16,7 +16,7 @@ use srcset::{Code, Pos, Refusal};
 use tree::PrefixOp;
 use typed_ast::{Place, Value};
 
-/// What a sign makes of a value (6.5.3.3).
+/// The result of a sign on a value (6.5.3.3).
 fn sign_of(op: PrefixOp, ty: IntType, value: i64) -> Result<i64, Undef>
     ensures { result ≡ operators.sign_of op ty value }
 {
@@ -104,8 +104,8 @@ fn not_constant(pos: Pos) -> Refusal
     }
 }
 
-/// The value of a typed expression as far as it is evaluated, operands from the left. Else 501 stands at what has no constant
-/// value, 503 at the first division by zero that is evaluated, or 502 at the first other operation without a value.
+/// The value of a typed expression as far as it is evaluated, operands from the left. Else it fails with 501 at an operand that has no constant value, 503 at
+/// the first division by zero that is evaluated, or 502 at the first other operation without a value.
 ///
 /// Its recursion is no deeper than the expression.
 pub fn folded(e: &Value) -> Result<i64, Refusal>

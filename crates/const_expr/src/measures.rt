@@ -19,7 +19,7 @@ use srcset::{Code, Pos, Refusal};
 use typed_ast::Value;
 use typing_expressions::{Checked, Elements, broken};
 
-/// The bytes of an array of so many such elements, or 2^64 - 1 where that is less.
+/// The bytes of an array of `length` such elements, or 2^64 - 1 where that is less.
 fn bytes_of_array(length: u32, elements: Elements) -> u64
     ensures { result ≡ capped (type.size_of_object (type.array_of length (elements_of elements.entry))) }
 {
@@ -44,7 +44,7 @@ fn size_constant<'s>(pos: Pos, size: i64) -> Checked<'s>
     Checked::Value(pos, IntType::UInt, Value::Constant(IntType::UInt, size))
 }
 
-/// A size (6.5.3.4p2). It is 801 where an `i64` cannot tell it, as of no object within the limit.
+/// A size (6.5.3.4p2). It is 801 where an `i64` cannot hold it, as of no object within the limit.
 fn size_is<'s>(pos: Pos, bytes: u64) -> Result<Checked<'s>, Refusal>
     ensures ok { (size : ℕ) → bytes ≡ capped size → IfOk result (λ c. typed.size_is pos size ≡ fine (checked_of c)) }
     ensures err { IfErr result (λ r. r ≡ Memory) }

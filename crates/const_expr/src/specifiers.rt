@@ -28,7 +28,7 @@ struct WordSet {
     named: Option<IntType>,
 }
 
-/// How often a word stands among words.
+/// How often a word occurs among words.
 fn times(word: Word, words: &[Word]) -> usize
     ensures count { result ≡ typed.times word words.now }
     ensures most { result ≤ length words.now }
@@ -59,7 +59,7 @@ fn times_here(word: Word, specifier: &TypeSpecifier) -> usize
     }
 }
 
-/// How often a word stands among specifiers.
+/// How often a word occurs among specifiers.
 fn times_among(word: Word, specifiers: &[TypeSpecifier]) -> usize
     ensures count { result ≡ typed.times word (typed.words_of specifiers.now) }
     ensures most { result ≤ length specifiers.now }
@@ -136,7 +136,7 @@ fn is_const(specifiers: &[TypeSpecifier]) -> bool
     false
 }
 
-/// `enum tag` may stand only behind the end of the tag's list (6.7.2.3p3).
+/// `enum tag` may appear only after the end of the tag's list (6.7.2.3p3).
 fn tag_known(scope: &Scope, pos: Pos, tag: usize) -> Result<(), Refusal>
     ensures ok { OnOk result (refuse_if (not (typed.is_complete (tag_in scope.now.tags tag))) code.BadEnumTag pos ≡ fine tt) }
     ensures err { IfErr result (λ r. IsOf r (refuse_if (not (typed.is_complete (tag_in scope.now.tags tag))) code.BadEnumTag pos)) }
@@ -150,7 +150,7 @@ fn tag_known(scope: &Scope, pos: Pos, tag: usize) -> Result<(), Refusal>
     }
 }
 
-/// A specifier that is no `enum tag`, or one that may stand.
+/// A specifier that is no `enum tag`, or one that may appear here.
 fn tag_here(scope: &Scope, pos: Pos, specifier: &TypeSpecifier) -> Result<(), Refusal>
     ensures ok { OnOk result (tag_of scope.now pos specifier.now ≡ fine tt) }
     ensures err { IfErr result (λ r. IsOf r (tag_of scope.now pos specifier.now)) }
@@ -175,7 +175,7 @@ fn tags_known(scope: &Scope, pos: Pos, specifiers: &[TypeSpecifier]) -> Result<(
     Ok(())
 }
 
-/// Whether a word stands as often among the one as among the other.
+/// Whether a word occurs as often among the one as among the other.
 fn as_often(word: Word, words: &[Word], specifiers: &[TypeSpecifier]) -> bool
     ensures { result ≡ nat_eq (typed.times word words.now) (typed.times word (typed.words_of specifiers.now)) }
 {
@@ -361,8 +361,8 @@ fn named_type(specifiers: &[TypeSpecifier]) -> Option<Option<IntType>>
     }
 }
 
-/// The type of specifiers that bring no list of enumerators. Else 525 stands at them where `enum tag` names no complete type, and
-/// 511 where they name no type.
+/// The type of specifiers that bring no list of enumerators. Else it fails at them with 525 where `enum tag` names no complete type, and with 511 where they
+/// name no type.
 #[inline(never)]
 pub fn base_type(scope: &Scope, specifiers: &TypeSpecifiers) -> Result<BaseType, Refusal>
     ensures ok { IfOk result (λ b. typed.base_type scope.now specifiers.now.pos specifiers.now.list.items ≡ fine (base_type_of b)) }

@@ -279,7 +279,7 @@ fn subscript_typed<'s>(
     }
 }
 
-/// `++` and `--` behind an operand (6.5.2.4).
+/// `++` and `--` after an operand (6.5.2.4).
 #[cycle(typing)]
 #[inline(never)]
 fn after_typed<'s>(
@@ -433,8 +433,8 @@ fn assign_typed<'s>(
     }
 }
 
-/// What an expression is (6.5), behind so many string literals, whose count grows by those in it. Else a constraint stands that it
-/// breaks, or it is 801.
+/// The typed form of an expression (6.5), after a number of string literals, whose count grows by those in it. Else it fails with a constraint that the
+/// expression breaks, or with 801.
 ///
 /// Its recursion is as deep as the tree is.
 #[cycle(typing)]

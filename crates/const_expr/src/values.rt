@@ -43,7 +43,7 @@ pub fn constant_value(
 /// The type and the value of a constant expression (6.6) in a scope, whose names and literals have these texts.
 ///
 /// Fails
-/// - with 501 where a part may not stand in a constant expression, also where it is not evaluated;
+/// - with 501 where a part is not allowed in a constant expression, also where it is not evaluated;
 /// - else with another constraint that the expression breaks, 5xx, 62x or 712;
 /// - else with 503 at a division by zero, or 502 at another operation without a value, the first that is evaluated;
 /// - with 801 where memory runs out.

@@ -26,11 +26,11 @@ grows_on h h2 h3 g g2 = (g2.0 ++ g.0, g2.1 ∙ ap (λ x. g2.0 ++ x) g.1 ∙ sym 
 abbrev pub more : State → State
 more s = record s { clock = suc s.clock }
 
--- what a run has done
+-- the history of a run
 abbrev pub done : {A : Type 0} → Run A → List Entry
 done r = (last_of r).history
 
--- what a run says of that with one more tick: it is the same, or where the ticks are used, it has done more
+-- the relation of a run to that with one more tick: the same outcome, or where the ticks are used, a history that is no shorter
 abbrev pub Longer : {A : Type 0} → Run A → Run A → Type 0
 Longer (Goes a s) r' = r' ≡ Goes a (more s)
 Longer (Stops (Ended status) s) r' = r' ≡ Stops (Ended status) (more s)
@@ -43,7 +43,7 @@ pub record Steady {A : Type 0} (f f' : State → Run A) : Type 0 where
   pub grows' : (s : State) → Grows s.history (done (f' s))
   pub longer : (s : State) → Longer (f s) (f' (more s))
 
--- a change of the state that neither does anything nor looks at the clock
+-- a change of the state that neither adds to the history nor reads the clock
 record Plain (g : State → State) : Type 0 where
   same : (s : State) → (g s).history ≡ s.history
   moves : (s : State) → g (more s) ≡ more (g s)
@@ -87,7 +87,7 @@ steady_goes a g h c = record { grows = h; grows' = h; longer = λ s. ap (Goes a)
 steady_stay : {A : Type 0} (a : A) → Steady (λ s. Goes a s) (λ s. Goes a s)
 steady_stay a = steady_goes a (λ s. s) (λ s. ([], refl)) (λ s. refl)
 
--- a change of state, and what follows it
+-- a change of state, and the run after it
 steady_after : {A : Type 0} (g : State → State) → Plain g → (f f' : State → Run A) → Steady f f' → Steady (λ s. f (g s)) (λ s. f' (g s))
 steady_after g pl f f' h = record {
   grows = λ s. subst (λ x. Grows x (done (f (g s)))) (pl.same s) (h.grows (g s));
@@ -218,7 +218,7 @@ steady_after_switch Continued = steady_stay Continued
 steady_after_switch (Returned v) = steady_stay (Returned v)
 
 module _ (t t' : State → Run ℤ) (b b' : State → Run Flow) (u u' : State → Run ℤ) (ht : Steady t t') (hb : Steady b b') (hu : Steady u u') where
-  -- one turn, and what follows it
+  -- one turn, and the run after it
   steady_turn : (go go' : State → Run Flow) → Steady go go' → Steady (λ s. then_do (t s) (λ v s. choose (truth v) (then_do (b s) (λ f s. after_body f s (λ s. then_do (u s) (λ w s. go s)))) (Goes Normal s))) (λ s. then_do (t' s) (λ v s. choose (truth v) (then_do (b' s) (λ f s. after_body f s (λ s. then_do (u' s) (λ w s. go' s)))) (Goes Normal s)))
   steady_turn go go' h = steady_then t t' _ _ ht (λ v. steady_choose (truth v) _ _ _ _ (steady_then b b' _ _ hb (λ f. steady_after_body f _ _ (steady_then u u' _ _ hu (λ w. h)))) (steady_stay Normal))
 

@@ -1,4 +1,4 @@
--- Values lie in their types.
+-- Values fit their types.
 use Rattle.std.proofs.Common.{◌≡◌, ℕ, zero, suc, List, [], ◌∷◌, drop, Option, Some, None, Bool, true, false, not, ◌&&◌, ℤ, pos, negsuc, refl, arith}
 use Rattle.std.specs.Prelude.{slice_get, int_le, ◌≤ℤ◌}
 use Rattle.std.proofs.lemmas.Int.{ints}

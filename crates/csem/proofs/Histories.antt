@@ -1,4 +1,4 @@
--- More ticks: what was done stays, and so does a run that has ended.
+-- More ticks: the history is kept, and so is the outcome of a run that has ended.
 use Rattle.std.proofs.Common.{◌≡◌, ℕ, zero, suc, ◌+◌, [], true, refl, ap, ◌∙◌, subst, arith}
 use Rattle.csem.specs.Machine.{State, Ending, Run, Goes, Stops, Ended, Undefined, TicksUsed}
 use Rattle.csem.specs.Meaning.{cstep}

@@ -1,5 +1,5 @@
--- Programs, computed: how each ends, the ticks that its clock has left, what it writes, the input left, and the greatest sum of the
--- weights of active calls. The sources stand above; each clock has exactly the ticks that the run takes.
+-- Programs, computed: how each ends, the ticks that its clock has left, what it writes, the input left, and the greatest sum of the weights of active calls.
+-- The source is above each; each clock has exactly the ticks that the run takes.
 use Rattle.std.proofs.Common.{◌≡◌, ℕ, List, [], ◌∷◌, pos, refl, Some, None, Bool, true, false}
 use Rattle.srcset.specs.declared.refusal.Pos.{Pos}
 use Rattle.ctypes.specs.declared.types.IntType.{IntType}
@@ -21,7 +21,7 @@ at n = record { file = 0; line = n }
 abbrev object : IntType → Bool → List ℕ → ObjectType
 object t constant lengths = record { element = t; constant = constant; lengths = lengths }
 
--- what a row tells
+-- the result of a row
 pub record Seen : Type 0 where
   pub ending : Ending
   pub ticks_left : ℕ

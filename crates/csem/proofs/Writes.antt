@@ -1,4 +1,4 @@
--- Reading behind a write.
+-- Reading after a write.
 use Rattle.std.proofs.Common.{◌≡◌, ◌⊎◌, inl, inr, ℕ, zero, suc, List, [], ◌∷◌, Option, Some, None, refl, ap, ◌∙◌, subst, sym}
 use Rattle.std.specs.Prelude.{slice_get}
 use Rattle.csem.specs.Store.{Tree, Element, Array, Row, no_parts, and_part, Store, part_of, part_in, at_path, tree_at, change_part, change_in, put_at, put_in, put}

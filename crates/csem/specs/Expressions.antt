@@ -19,12 +19,12 @@ use Rattle.csem.specs.Machine.{State, Ended, Run, Goes, Stops, then_do, choose, 
 
 -- ---- calls (6.5.2.2)
 
--- what a call passes for a parameter: a number, or a reference to an array
+-- the value that a call passes for a parameter: a number, or a reference to an array
 pub data Passed : Type 0 where
   Number : (v : ℤ) → Passed
   Referred : (array : Reference) → Passed
 
--- what a call of a function with these arguments does; it may end without a value
+-- the semantics of a call of a function with these arguments; it may end without a value
 abbrev pub Calling : Type 0
 Calling = (f : ℕ) → List Passed → State → Run (Option ℤ)
 
@@ -106,7 +106,7 @@ module _ (p : Program) (call : Calling) where
     evaluate (typed.unary at op t e) s = tick s (λ s. then_do (evaluate e s) (λ v s. computed_at at (sign_of op t v) s))
     evaluate (typed.binary at op t a b) s =
         tick s (λ s. then_do (evaluate a s) (λ v s. then_do (evaluate b s) (λ w s. computed_at at (operated op t v w) s)))
-    -- `&&`, `||`, `?:`, comma: what is not wanted is not evaluated (6.5.13p4, 6.5.14p4, 6.5.15p4, 6.5.17p2)
+    -- `&&`, `||`, `?:`, comma: an operand that is not needed is not evaluated (6.5.13p4, 6.5.14p4, 6.5.15p4, 6.5.17p2)
     evaluate (typed.both_true a b) s = tick s (λ s. then_do (evaluate a s) (λ v s.
         choose (truth v) (then_do (evaluate b s) (λ w s. Goes (of_truth (truth w)) s)) (Goes (pos 0) s)))
     evaluate (typed.one_true a b) s = tick s (λ s. then_do (evaluate a s) (λ v s.

@@ -1,4 +1,4 @@
--- What a run did: bytes got and put, calls entered and left. A history has the newest first.
+-- The history of a run: bytes got and put, calls entered and left. A history has the newest first.
 use Rattle.std.specs.Prelude.{ℕ, ◌+◌, List, [], ◌∷◌, max, Option, Some, None, slice_get}
 use Rattle.csem_events.specs.Events.{Event}
 use Rattle.typing_spec.specs.Program.{Function, Program}
@@ -9,7 +9,7 @@ pub data Entry : Type 0 where
   Entered : (f : ℕ) → Entry
   Left : Entry
 
--- what was done to the outside, the newest first
+-- the input and output events, the newest first
 abbrev pub trace_of : List Entry → List Event
 trace_of [] = []
 trace_of (Did e ∷ earlier) = e ∷ trace_of earlier

@@ -20,11 +20,11 @@ IsNot m n = m ≡ n → ⊥
 
 -- ---- the clock
 
--- what the first history has is an end of the second
+-- the first history is a suffix of the second
 abbrev pub Grows : List Entry → List Entry → Type 0
 Grows h h2 = (newer : List Entry) × (h2 ≡ newer ++ h)
 
--- with more ticks a run has done what it did with fewer, and perhaps more after it
+-- with more ticks the history of a run is that of fewer ticks, perhaps with newer entries
 abbrev pub HistoryGrows : Type 0
 HistoryGrows = (n k : ℕ) (p : Program) (input : List ℕ) → Grows (last_of (cstep n p input)).history (last_of (cstep (k + n) p input)).history
 
@@ -49,7 +49,7 @@ abbrev pub OtherObjectStays : Type 0
 OtherObjectStays = (store : Store) (written read : Reference) (new : Tree) → IsNot written.object read.object →
     tree_at (put store written new) read ≡ tree_at store read
 
--- paths part where they have different subscripts at one place, behind equal ones
+-- paths part where they have different subscripts at one place, after equal ones
 abbrev pub Parts : List ℕ → List ℕ → Type 0
 Parts [] path = ⊥
 Parts (i ∷ path) [] = ⊥
@@ -60,13 +60,13 @@ abbrev pub OtherPartStays : Type 0
 OtherPartStays = (store : Store) (written read : Reference) (new : Tree) → Parts written.path read.path →
     tree_at (put store written new) read ≡ tree_at store read
 
--- what was written where something stands is read there
+-- a tree written where there is one is read there
 abbrev pub WrittenIsRead : Type 0
 WrittenIsRead = (store : Store) (r : Reference) (old new : Tree) → tree_at store r ≡ Some old → tree_at (put store r new) r ≡ Some new
 
 -- ---- values within their types (6.2.6.1p5 would let others be trap representations)
 
--- what an operator gives lies in the type of its result, whatever its operands are
+-- the result of an operator is a value of its result type, whatever its operands are
 abbrev pub OperationFits : Type 0
 OperationFits = (op : BinOp) (t : IntType) (a b : ℤ) → IfOk (operated op t a b) (λ v. IsValueOf (result_type op t) v)
 
@@ -92,7 +92,7 @@ abbrev pub ValueFits : IntType → Option ℤ → Type 0
 ValueFits t None = Unit {0}
 ValueFits t (Some v) = IsValueOf t v
 
--- an object whose elements lie in a type gives values of it, and keeps to it when such a tree is put in it
+-- an object each of whose elements, if it has a value, has one of a type gives values of that type only, and keeps to it when such a tree is put in it
 abbrev pub ReadFits : Type 0
 ReadFits = (t : IntType) (store : Store) (r : Reference) → FitsWhere t (slice_get store r.object) → ValueFits t (value_at store r)
 
@@ -100,7 +100,7 @@ abbrev pub WriteFits : Type 0
 WriteFits = (t : IntType) (store : Store) (r : Reference) (new : Tree) → FitsWhere t (slice_get store r.object) → TreeFits t new →
     FitsWhere t (slice_get (put store r new) r.object)
 
--- a new object lies in every type, and a static object of a typed program in its own
+-- a new object fits every type, and a static object of a typed program its own
 abbrev pub NewFits : Type 0
 NewFits = (t : IntType) (object : ObjectType) → TreeFits t (indeterminate object)
 

@@ -1,4 +1,4 @@
--- The state of the abstract machine (ISO/IEC 9899:2011 5.1.2.3), its clock, and what it does with the store.
+-- The state of the abstract machine (ISO/IEC 9899:2011 5.1.2.3), its clock, and its operations on the store.
 use Rattle.std.specs.Prelude.{ℕ, zero, suc, ◌+◌, List, length, Option, Some, None, Bool, true, false, ℤ, pos, negsuc, nat_lt, slice_get, Result, Ok, Err}
 use Rattle.srcset.specs.declared.refusal.Pos.{Pos}
 use Rattle.ctypes.specs.declared.operators.Undef.{Undef}
@@ -8,8 +8,8 @@ use Rattle.typing_spec.specs.Program.{Storage, Program}
 use Rattle.csem.specs.Store.{Store, Reference, whole, into, Element, tree_at, length_of, value_at, put}
 use Rattle.csem.specs.History.{Entry}
 
--- where a run is: the ticks that its clock has left, the objects that live (those of the present call from number `base` on), the
--- arrays that the array parameters of the present call refer to, the input left, and what was done, the newest first
+-- the point of a run: the ticks that its clock has left, the objects that live (those of the present call from number `base` on), the arrays that the array
+-- parameters of the present call refer to, the input left, and the history, the newest entry first
 pub record State : Type 0 where
   pub clock : ℕ
   pub store : Store
@@ -68,7 +68,7 @@ abbrev pub or_first : Option Reference → Reference
 or_first None = whole 0
 or_first (Some r) = r
 
--- what a name or a string literal designates (6.5.1p2, p4)
+-- the object that a name or a string literal designates (6.5.1p2, p4)
 abbrev pub designated : Program → Storage → State → Reference
 designated p (typed.literal n) s = whole n
 designated p (typed.static n) s = whole (length p.literals + n)

@@ -1,4 +1,4 @@
--- What a program does (ISO/IEC 9899:2011 5.1.2.3, 6.5.2.2, 6.9.1), with a clock of n ticks.
+-- The behaviour of a program (ISO/IEC 9899:2011 5.1.2.3, 6.5.2.2, 6.9.1), with a clock of n ticks.
 use Rattle.std.specs.Prelude.{ℕ, zero, suc, List, [], ◌∷◌, ◌++◌, map, take, drop, reverse, length, Option, Some, None, Bool, true, false, ℤ, pos, nat_eq, slice_get}
 use Rattle.ctypes.specs.Types.{modulo}
 use Rattle.csem_events.specs.Events.{Event, written}
@@ -82,7 +82,7 @@ end_with v s = Stops (Ended (status_of v)) s
 abbrev pub cstep : ℕ → Program → List ℕ → Run (Option ℤ)
 cstep n p input = then_do (calling p (suc n) p.main [] (start n p input)) end_with
 
--- ---- what is seen of a run
+-- ---- the observable behaviour of a run
 
 abbrev pub ending_of : Run (Option ℤ) → Ending
 ending_of (Goes v s) = TicksUsed
@@ -92,8 +92,7 @@ abbrev pub last_of : {A : Type 0} → Run A → State
 last_of (Goes v s) = s
 last_of (Stops e s) = s
 
--- how it ended, what it did to the outside in order, the bytes written, the input left, and the greatest sum of the weights of
--- the calls active at one time
+-- how it ended, its events in order, the bytes written, the input left, and the greatest sum of the weights of the calls active at one time
 pub record Answer : Type 0 where
   pub ending : Ending
   pub trace : List Event
@@ -110,6 +109,6 @@ answer_of p r = record {
   greatest = greatest_sum (weight_in p) (last_of r).history;
 }
 
--- what p does on this input with a clock of n
+-- the behaviour of p on this input with a clock of n
 abbrev pub answer : ℕ → Program → List ℕ → Answer
 answer n p input = answer_of p (cstep n p input)

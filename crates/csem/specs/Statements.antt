@@ -1,4 +1,4 @@
--- What initialisers and statements do (ISO/IEC 9899:2011 6.7.9, 6.8). Entering a node, testing a case and giving an element its first
+-- The semantics of initialisers and statements (ISO/IEC 9899:2011 6.7.9, 6.8). Entering a node, testing a case and giving an element its first
 -- value take a tick each.
 use Rattle.std.specs.Prelude.{ℕ, zero, suc, ◌+◌, ◌-◌, ◌*◌, List, [], ◌∷◌, ◌++◌, length, Option, Some, None, Bool, ◌&&◌, ℤ, pos, int_le, nat_lt, slice_get}
 use Rattle.ctypes.specs.declared.types.IntType.{IntType}
@@ -80,7 +80,7 @@ pub data Flow : Type 0 where
   Continued : Flow
   Returned : (value : Option ℤ) → Flow
 
--- what stands next is executed where the statement before it was left normally (6.8p2)
+-- the next statement is executed where the one before it was left normally (6.8p2)
 abbrev pub next_after : Flow → State → (State → Run Flow) → Run Flow
 next_after Normal s go = go s
 next_after Broken s go = Goes Broken s

@@ -29,7 +29,7 @@ whole x = record { object = x; path = [] }
 abbrev pub into : Reference → ℕ → Reference
 into r i = record { object = r.object; path = r.path ++ i ∷ [] }
 
--- ---- what stands at a reference
+-- ---- the tree at a reference
 
 abbrev pub parts : Row → ℕ
 parts no_parts = 0
@@ -110,7 +110,7 @@ abbrev pub first_or_zero : List ℤ → ℤ
 first_or_zero [] = pos 0
 first_or_zero (v ∷ vs) = v
 
--- n parts of so many elements each
+-- n parts of `size` elements each
 abbrev pub row_of : ℕ → ℕ → (List ℤ → Tree) → List ℤ → Row
 row_of zero size part vs = no_parts
 row_of (suc n) size part vs = and_part (part vs) (row_of n size part (drop size vs))

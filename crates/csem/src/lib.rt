@@ -5,7 +5,7 @@
 
 ghost use Rattle.csem.specs.Laws.{HistoryGrows, EndedStays, OtherObjectStays, OtherPartStays, WrittenIsRead, OperationFits, SignFits, ReadFits, WriteFits, NewFits, StaticFits};
 
-/// With more ticks a run has done what it did with fewer, and perhaps more after it (5.1.2.3).
+/// With more ticks the history of a run is that of fewer ticks, perhaps with newer entries (5.1.2.3).
 pub fn history_grows()
     ensures { HistoryGrows }
 {}
@@ -25,37 +25,37 @@ pub fn other_part_stays()
     ensures { OtherPartStays }
 {}
 
-/// What was written where something stands is read there.
+/// A tree written where there is one is read there.
 pub fn written_is_read()
     ensures { WrittenIsRead }
 {}
 
-/// What a binary operator gives is a value of the type of its result (6.5p5).
+/// The result of a binary operator is a value of its result type (6.5p5).
 pub fn operation_fits()
     ensures { OperationFits }
 {}
 
-/// What a sign gives is a value of the type of its result (6.5.3.3).
+/// The result of a sign is a value of its result type (6.5.3.3).
 pub fn sign_fits()
     ensures { SignFits }
 {}
 
-/// An object whose elements lie in a type gives values of it.
+/// An object each of whose elements, if it has a value, has one of a type gives values of that type only.
 pub fn read_fits()
     ensures { ReadFits }
 {}
 
-/// It keeps to the type where what is written lies in it.
+/// It keeps to the type where the written tree fits it.
 pub fn write_fits()
     ensures { WriteFits }
 {}
 
-/// A new object, which is indeterminate, lies in every type.
+/// A new object, which is indeterminate, fits every type.
 pub fn new_fits()
     ensures { NewFits }
 {}
 
-/// An object with static storage, whose first values lie in its type, begins within it (6.7.9p10).
+/// An object with static storage, whose first values fit its type, fits it at the beginning (6.7.9p10).
 pub fn static_fits()
     ensures { StaticFits }
 {}

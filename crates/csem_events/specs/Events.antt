@@ -1,4 +1,4 @@
--- What a run does to its outside: the bytes that it gets and puts, in one order. A history has the newest event first.
+-- The effects of a run on its outside: the bytes that it gets and puts, in one order. A history has the newest event first.
 use Rattle.std.specs.Prelude.{ℕ, List, [], ◌∷◌, reverse}
 
 -- a byte of the input was got, or its end was met, or a byte was put

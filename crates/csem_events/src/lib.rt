@@ -1,2 +1,2 @@
-//! The observable events of a run, for all layers that speak of runs.
+//! The observable events of a run, for all layers that deal with runs.
 #![tactic(auto)]

@@ -1,4 +1,4 @@
--- What 64 bits compute on values of the types is exact.
+-- Computing with 64 bits on values of the types is exact.
 use Rattle.std.proofs.Common.{sym, Bool, false, ◌≡◌, ℕ, zero, suc, ◌*◌, ◌/◌, ◌%◌, ◌^◌, ◌<◌, ◌≤◌, true, ℤ, pos, negsuc, ◌+ℤ◌, ◌-ℤ◌, ◌*ℤ◌, ◌≤ℤ◌, int_div, FitsSigned, to_z, of_z, w64, refl, ap, ◌∙◌, arith}
 use Rattle.std.proofs.lemmas.Int.{ints, quot_is, to_z-of_z, to_z_pos, fits_signed_mul, fits_signed_from_abs}
 use Rattle.std.proofs.lemmas.Nat.{mul-le}

@@ -44,7 +44,7 @@ promoted_has_values UInt v h = h
 promoted_has_values Long v h = h
 promoted_has_values ULong v h = h
 
--- what holds of each promoted type holds of each promotion
+-- a property of each promoted type holds of each promotion
 of_promotion : (P : IntType → Type 0) → P Int → P UInt → P Long → P ULong → (t : IntType) → P (promoted t)
 of_promotion P i u l ul ty.Bool = i
 of_promotion P i u l ul Char = i
@@ -190,7 +190,7 @@ right_fits BitAnd t b h = h
 right_fits BitXor t b h = h
 right_fits BitOr t b h = h
 
--- what holds of each value of a result
+-- a property of the value of a result
 abbrev pub Gives : (ℤ → Type 0) → Result ℤ Undef → Type 0
 Gives P r = IfOk r P
 
@@ -293,7 +293,7 @@ computed_refuses BitOr t a b = tt
 between : (low high v : ℤ) → (int_le low v && int_le v high) ≡ true → (low ≤ℤ v) × (v ≤ℤ high)
 between low high v h = (grind (arith, ints), grind (arith, ints))
 
--- a number in range is what was there before
+-- the conversion of a number in range leaves it unchanged
 kept : (act : Undef) (t : IntType) (exact v : ℤ) (b : Bool) → is_value_of t exact ≡ b → (if true && not b then Err act else Ok (converted t exact)) ≡ Ok v → v ≡ exact
 kept act t exact v true e h = let same : converted t exact ≡ v = cc in sym same ∙ converted_keeps t exact (between (least t) (greatest t) exact e)
 kept act t exact v false e h = cc

@@ -1,4 +1,4 @@
--- What the layers above use of the definitions.
+-- The laws of the definitions that the layers above use.
 use Rattle.std.specs.Prelude.{◌≡◌, ◌≤◌, Bool, true, false, ℤ, int_le, nat_lt, nat_le, if◌then◌else◌, Ok, IfOk, IfErr, ◌+ℤ◌, ◌*ℤ◌, int_div, int_rem}
 use Rattle.ctypes.specs.declared.types.IntType.{IntType}
 use Rattle.ctypes.specs.declared.types.IntType.TheVariants as ty
@@ -61,7 +61,7 @@ ConvertedIsCongruent = (t : IntType) (v : ℤ) → 2 ≤ bits_of t → modulo (b
 
 -- ---- operations
 
--- what is asked of the right operand holds of each value of the type
+-- the requirement on the right operand holds for each value of the type
 abbrev pub RightFits : Type 0
 RightFits = (op : BinOp) (t : IntType) (b : ℤ) → IsValueOf t b → RightIsValueOf op t b
 
@@ -69,7 +69,7 @@ RightFits = (op : BinOp) (t : IntType) (b : ℤ) → IsValueOf t b → RightIsVa
 abbrev pub ComputedFits : Type 0
 ComputedFits = (op : BinOp) (t : IntType) (a b : ℤ) → IsValueOf t a → IfOk (computed op t a b) (λ v. IsValueOf (result_type op t) v)
 
--- an operation is none but the first four undefined acts
+-- an operation has only the first four kinds of undefined behaviour
 abbrev pub ComputedRefuses : Type 0
 ComputedRefuses = (op : BinOp) (t : IntType) (a b : ℤ) → IfErr (computed op t a b) (λ act. number_of act ≤ 4)
 

@@ -1,4 +1,4 @@
-//! Binary operations, each with the undefined acts that it may be.
+//! Binary operations, each with the undefined behaviour that it may have.
 
 ghost use Rattle.std.specs.Prelude.{◌≡◌, ◌≤ℤ◌, ◌^◌, ◌*ℤ◌, pos, true, false, IfOk};
 ghost use Rattle.ctypes.specs.Types.{signed, IsValueOf, converted};

@@ -1,4 +1,4 @@
-//! Laws of the definitions, for proofs about what is built on them. The functions do nothing: each
+//! Laws of the definitions, for proofs about code that uses them. The functions do nothing: each
 //! has a contract so that its laws are proved. `proofs/Uses.antt` has the laws as lemmas.
 
 ghost use Rattle.ctypes.specs.Laws.{PromotedStays, PromotedHasValues, UsualCommutes, UsualOfSame, UsualIsPromoted, UsualIsByRank, ConvertedFits, ConvertedKeeps, ConvertedIsCongruent, RightFits, ComputedFits, ComputedRefuses, SignedIsExact, ResultIsCongruent, QuotientIsExact, RemainderIsExact, DivisionAddsUp};

@@ -1,4 +1,4 @@
-//! Binary operators, and the acts that the standard leaves undefined.
+//! Binary operators, and the kinds of undefined behaviour.
 
 ghost use Rattle.std.specs.Prelude.{◌≡◌};
 ghost use Rattle.ctypes.specs.Arithmetic.{number_of, result_type};
@@ -56,7 +56,7 @@ impl BinOp {
     }
 }
 
-/// An act that is undefined when a program does it.
+/// The kinds of undefined behaviour of a program.
 #[derive(Clone, Copy, PartialEq, Eq, Debug)]
 pub enum Undef {
     /// Signed arithmetic out of range, also the least number by -1 under `/` and `%` (6.5p5, 6.5.5p6).

@@ -1,4 +1,4 @@
-//! Calls, and the parameters of what they call.
+//! Calls, and the parameters of the called functions.
 
 use crate::forms::{close_behind, separator_from};
 use source_words::{Span, Words};

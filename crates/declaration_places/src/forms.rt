@@ -1,4 +1,4 @@
-//! The forms of tokens, and what stands between parentheses.
+//! The forms of tokens, and the tokens between parentheses.
 
 use source_words::{Span, Words};
 
@@ -58,7 +58,7 @@ pub fn is_identifier(token: &[u8]) -> bool {
     is_word && !is_type_word(token) && !is_statement_word(token)
 }
 
-/// The number of the token that closes what the token with this number opens.
+/// The number of the token that closes the bracket opened by the token with this number.
 pub fn close_behind(words: &Words<'_>, open: usize) -> Option<usize> {
     let mut depth: usize = 0;
     for place in open..words.list.len() {
@@ -92,7 +92,7 @@ pub fn open_before(words: &Words<'_>, number: usize) -> Option<usize> {
     None
 }
 
-/// The number of the first `,` or `;` from this token on that stands in no parentheses of its own, or of what closes those around it.
+/// The number of the first `,` or `;` from this token on that is in no parentheses of its own, or of the token that closes those around it.
 pub fn separator_from(words: &Words<'_>, first: usize) -> usize {
     let mut depth: usize = 0;
     for number in first..words.list.len() {
@@ -131,7 +131,7 @@ fn outermost_brace(words: &Words<'_>, number: usize) -> Option<usize> {
     if depth == 0 { None } else { outermost }
 }
 
-/// The number of the name of the function in whose body the token with this number stands.
+/// The number of the name of the function whose body contains the token with this number.
 pub fn function_around(words: &Words<'_>, number: usize) -> Option<usize> {
     let brace = outermost_brace(words, number)?;
     let close = brace.checked_sub(1)?;

@@ -8,13 +8,13 @@ use std::alloc::{AllocError, Global};
 /// A `for` whose head declares something.
 #[derive(Clone, Copy, Debug, PartialEq, Eq)]
 struct Loop {
-    /// The first token behind the statement.
+    /// The first token after the statement.
     past: usize,
     /// How many declarations are visible before it.
     count: usize,
 }
 
-/// What has been passed.
+/// The state of the walk: the tokens passed so far.
 #[derive(Drop)]
 struct Walk {
     found: Vec<Declared>,
@@ -27,8 +27,8 @@ struct Walk {
     parameters: Option<usize>,
 }
 
-/// The declarations that are visible at the token with this number, in their order. A file is taken as it is written: what macros make is
-/// not seen.
+/// The declarations that are visible at the token with this number, in their order. The file is taken as it is written: the results of macros
+/// are not seen.
 pub fn visible(
     alloc: Global,
     words: &Words<'_>,
@@ -53,7 +53,7 @@ pub fn visible(
 }
 
 impl Walk {
-    /// Passes the token with this number; answers the next one to be passed.
+    /// Passes the token with this number; returns the next one to be passed.
     fn pass(&mut self, words: &Words<'_>, number: usize) -> Result<usize, AllocError> {
         self.end_loops(number);
         let next = number.saturating_add(1);
@@ -94,7 +94,7 @@ impl Walk {
         }
     }
 
-    /// Whether the token with this number is of a type: a keyword, or a name behind which a declared name stands.
+    /// Whether the token with this number is of a type: a keyword, or a name that a declared name follows.
     fn begins(&self, words: &Words<'_>, number: usize) -> bool {
         let token = words.at(number);
         let is_front = self.front.is_some()
@@ -143,7 +143,7 @@ impl Walk {
         Ok(close.saturating_add(1))
     }
 
-    /// Passes `for`, and notes where its statement ends.
+    /// Passes `for`, and records where its statement ends.
     fn pass_for(&mut self, words: &Words<'_>, number: usize) -> Result<usize, AllocError> {
         let open = number.saturating_add(1);
         let first = open.saturating_add(1);
@@ -229,7 +229,7 @@ fn is_parameter(words: &Words<'_>, number: usize) -> bool {
         && matches!(words.at(number.saturating_add(1)), b"," | b")" | b"[")
 }
 
-/// The token behind an initialiser, or behind the size of an array.
+/// The token after an initialiser, or after the size of an array.
 fn past_value(words: &Words<'_>, number: usize) -> usize {
     let next = number.saturating_add(1);
     if matches!(words.at(number), b"[") {
@@ -241,7 +241,7 @@ fn past_value(words: &Words<'_>, number: usize) -> usize {
     separator_from(words, next)
 }
 
-/// The token behind a type's word, or behind the tag of an enumeration.
+/// The token after a type's word, or after the tag of an enumeration.
 fn past_type(words: &Words<'_>, number: usize, token: &[u8]) -> usize {
     let next = number.saturating_add(1);
     if matches!(token, b"enum") && is_identifier(words.at(next)) {
@@ -250,7 +250,7 @@ fn past_type(words: &Words<'_>, number: usize, token: &[u8]) -> usize {
     next
 }
 
-/// The first token behind the statement that begins with this one, where that is a block or a simple statement.
+/// The first token after the statement that begins with this one, where that is a block or a simple statement.
 fn statement_end(words: &Words<'_>, first: usize) -> usize {
     let mut number = first;
     for _ in first..words.list.len() {

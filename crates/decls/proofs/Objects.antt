@@ -53,6 +53,6 @@ size_fine s next at name u i n e f = then_fine (length_from s at u i) n (sized (
 pub size_refused : (s : Scope) (at : Pos) (name : ℕ) (u : ObjectType) (i : Init) (n : ℕ) (r : Refusal) → length_from s at u i ≡ fine n → Tells r (sized (past_init s i) at name u n) → Tells r (size_given s at name u i)
 size_refused s at name u i n r e h = then_tells r (length_from s at u i) n (sized (past_init s i) at name u) e h
 
--- the bytes of an array of so many elements
+-- the bytes of an array of `n` elements
 pub sized_bytes : (n : ℕ) (u : ObjectType) (ns : List ℕ) (bytes : ℕ) → ns ≡ n ∷ u.lengths → bytes ≡ capped (size_of_object (record { element = u.element; constant = u.constant; lengths = ns })) → bytes ≡ capped (size_of_object (array_of n u))
 sized_bytes n u ns bytes e h = h ∙ ap (λ l. capped (size_of_object (record { element = u.element; constant = u.constant; lengths = l }))) e

@@ -1,4 +1,4 @@
--- What the code's declarators stand for.
+-- The models of the code's declarators.
 use Rattle.decls_linkage.specs.declared.rules.StorageClass.{StorageClass}
 use Rattle.decls_linkage.specs.Views.{class_of}
 use Rattle.typed_ast.specs.View.{storage_of, declared_type_of}

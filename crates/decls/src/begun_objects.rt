@@ -1,4 +1,4 @@
-//! Declarators of objects that have begun (6.2.1p7): the name is in scope, the initialiser is still to come.
+//! Declarators of objects that have begun (6.2.1p7): the name is in scope, the initialiser follows.
 #![tactic(auto, using(decls_declarators::proofs::Verdicts::told))]
 
 ghost use Rattle.std.specs.Prelude.{◌≡◌, map, IfErr, IfOk};
@@ -30,7 +30,7 @@ pub struct BegunObject {
     pub what: Storage,
 }
 
-/// The storage of what a name stands for.
+/// The storage of the object that a name denotes.
 fn storage_in(meaning: &Meaning) -> Storage
     ensures { storage_of result ≡ typed.storage_in (meaning_of meaning.now) }
 {
@@ -42,7 +42,7 @@ fn storage_in(meaning: &Meaning) -> Storage
     }
 }
 
-/// The storage of the name that was declared last.
+/// The storage of the most recently declared name.
 fn storage_of_binding(binding: Option<&Binding>) -> Storage
     ensures { storage_of result ≡ typed.storage_of (option_binding binding.entry) }
 {
@@ -69,7 +69,7 @@ fn type_of_meaning(
     }
 }
 
-/// The type of the name that was declared last.
+/// The type of the most recently declared name.
 fn type_of_binding(
     alloc: Global,
     declared: DeclaredType,
@@ -84,13 +84,13 @@ fn type_of_binding(
     }
 }
 
-/// The declarator of an object, whose name is in scope behind it.
+/// The declarator of an object, whose name is in scope after it.
 ///
 /// Fails
 /// - as `decls_declarators::declared_type` does where its type is none;
 /// - as `decls_linkage::object_at` does where the name is declared already.
 ///
-/// After a refusal nothing is said of the scope.
+/// After an error the scope is unspecified.
 pub fn begun(
     alloc: Global,
     names: &Names,

@@ -1,4 +1,4 @@
-//! Types and meanings once more.
+//! Cloning of types and meanings.
 #![tactic(auto)]
 
 ghost use Rattle.std.specs.Prelude.{◌≡◌, map, IfErr, IfOk};
@@ -10,7 +10,7 @@ use srcset::Refusal;
 use std::alloc::Global;
 use typed_ast::{DeclaredType, FunctionType, ParameterType};
 
-/// The same type once more.
+/// A copy of the type.
 pub(crate) fn copied_type(alloc: Global, declared: &DeclaredType) -> Result<DeclaredType, Refusal>
     ensures ok { IfOk result (λ t. declared_type_of t ≡ declared_type_of declared.now) }
     ensures err { IfErr result (λ r. r ≡ Memory) }
@@ -60,7 +60,7 @@ fn copied_parameters(
     Ok(copies)
 }
 
-/// The same function's type once more.
+/// A copy of the function's type.
 pub(crate) fn copied_function(
     alloc: Global,
     function: &FunctionType,

@@ -20,10 +20,10 @@ use tree::{Declaration, Expr, Item, Specifiers};
 use typing_expressions::broken;
 use typing_scopes::Scope;
 
-/// The scope behind a static assertion, whose condition is a constant other than zero (6.7.10p3).
+/// The scope after a static assertion, whose condition is a constant other than zero (6.7.10p3).
 ///
 /// Fails
-/// - with what the condition breaks as a constant expression, and with 523 where it is zero;
+/// - with the violations of the condition as a constant expression, and with 523 where it is zero;
 /// - with 801 where memory runs out.
 pub fn asserted(
     alloc: Global,
@@ -48,7 +48,7 @@ pub fn asserted(
     }
 }
 
-/// The scope behind specifiers and their declarators.
+/// The scope after specifiers and their declarators.
 fn with_items(
     alloc: Global,
     names: &Names,
@@ -86,16 +86,16 @@ fn scope_after(
     }
 }
 
-/// The scope behind a declaration (6.7) or a static assertion (6.7.10), in which names and literals have these texts. Initialisers
-/// are looked at only for the sizes that they give.
+/// The scope after a declaration (6.7) or a static assertion (6.7.10), in which names and literals have these texts. Initialisers
+/// are examined only for the sizes that they give.
 ///
 /// Fails
-/// - with what the specifiers break, 511 to 514, 515, 524, 525 and what the value of an enumerator breaks;
-/// - with what a declarator breaks, 514 to 519, 521, 526, 553, 712 and what its sizes break;
-/// - with what an assertion's condition breaks, or with 523;
+/// - with the violations of the specifiers, 511 to 514, 515, 524, 525 and those of the value of an enumerator;
+/// - with the violations of a declarator, 514 to 519, 521, 526, 553, 712 and those of its sizes;
+/// - with the violations of an assertion's condition, or with 523;
 /// - with 801 where memory runs out.
 ///
-/// The fault is of a constraint that stands, at its place; the scope is then gone.
+/// The fault is of a violated constraint, at its place; the scope is then lost.
 pub fn declare(
     alloc: Global,
     declaration: &Declaration,

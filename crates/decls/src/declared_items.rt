@@ -22,14 +22,14 @@ use tree::{FunctionDeclarator, Item, ObjectDeclarator};
 use typing_expressions::broken;
 use typing_scopes::{Scope, State};
 
-/// The scope behind the declarator of a function, which in a block has no tree.
+/// The scope after the declarator of a function, which in a block has no tree.
 ///
 /// Fails
 /// - with 401 in a block;
 /// - as `decls_declarators::function_type` does where its type is none;
 /// - as `decls_linkage::file_function` does where the name is declared already.
 ///
-/// After a refusal nothing is said of the scope.
+/// After an error the scope is unspecified.
 pub fn function_at(
     alloc: Global,
     names: &Names,
@@ -65,7 +65,7 @@ pub fn function_at(
     }
 }
 
-/// The scope behind the declarator of an object, whose initialiser is looked at only for a size.
+/// The scope after the declarator of an object, whose initialiser is examined only for a size.
 fn object_declared(
     alloc: Global,
     names: &Names,
@@ -106,7 +106,7 @@ fn item_declared(
     }
 }
 
-/// The scope behind declarators, each in the scope of those before it.
+/// The scope after declarators, each in the scope of those before it.
 pub(crate) fn items_declared(
     alloc: Global,
     names: &Names,

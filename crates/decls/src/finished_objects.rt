@@ -30,7 +30,7 @@ use typed_ast::{DeclaredType, ObjectType, Storage};
 use typing_expressions::{OBJECT_LIMIT, broken};
 use typing_scopes::{Linkage, Meaning, Scope, State, StaticObject};
 
-/// The lengths of an array of so many elements of these lengths.
+/// The lengths of an array of `length` elements of these lengths.
 fn widened(alloc: Global, length: usize, lengths: &[u32]) -> Result<Vec<u64>, Refusal>
     ensures ok { IfOk result (λ ns. ns.items ≡ length ∷ lengths.now) }
     ensures err { IfErr result (λ r. r ≡ Memory) }
@@ -48,7 +48,7 @@ fn widened(alloc: Global, length: usize, lengths: &[u32]) -> Result<Vec<u64>, Re
     Ok(wide)
 }
 
-/// An array of so many such elements, within the limit. It is 801 where a `u32` cannot tell how many, as of no elements of a size
+/// An array of a number of such elements, within the limit. It is 801 where a `u32` cannot hold the number, as of no elements of a size
 /// greater than zero.
 fn array_within(
     alloc: Global,
@@ -75,7 +75,7 @@ fn array_within(
     }
 }
 
-/// A name's declared type meets its type so far (6.7p4).
+/// The meaning of a name with the composite of its declared type and its type so far (6.7p4).
 fn retyped_meaning(
     alloc: Global,
     pos: Pos,
@@ -153,7 +153,7 @@ fn with_storage_type(
     }
 }
 
-/// A name stands for this, and its object has that type.
+/// A name has this meaning, and its object has that type.
 fn with_meaning(
     alloc: Global,
     scope: &mut Scope,
@@ -212,7 +212,7 @@ fn left_unknown(level: usize, class: StorageClass, pos: Pos) -> Result<(), Refus
     }
 }
 
-/// The array has so many elements.
+/// The array has this number of elements.
 fn sized(
     alloc: Global,
     scope: &mut Scope,
@@ -260,7 +260,7 @@ fn sized_by(
     }
 }
 
-/// The literals of an initialiser, if there is one, stand behind those of the scope.
+/// Appends the literals of an initialiser, if there is one, to those of the scope.
 fn past_option(scope: &mut Scope, initialiser: &Option<Initialiser>) -> Result<(), Refusal>
     ensures ok { OnOk result (scope.new ≡ past_given scope.old (option_init initialiser.now)) }
     ensures err { IfErr result (λ r. r ≡ Memory) }
@@ -271,14 +271,14 @@ fn past_option(scope: &mut Scope, initialiser: &Option<Initialiser>) -> Result<(
     }
 }
 
-/// The scope behind a declarator and its initialiser, which is looked at only for a size that it gives.
+/// The scope after a declarator and its initialiser, which is examined only for a size that it gives.
 ///
 /// Fails
 /// - with 519 where an array of unknown size has no initialiser, in a block or with `static`;
 /// - with 521 where its initialiser gives no size, and with 712 where it gives one beyond the limit;
 /// - with 801 where memory runs out.
 ///
-/// After a refusal nothing is said of the scope.
+/// After an error the scope is unspecified.
 pub fn finished(
     alloc: Global,
     names: &Names,

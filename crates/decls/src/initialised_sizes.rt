@@ -32,7 +32,7 @@ fn has_characters(element: &ObjectType) -> bool
     element.lengths.is_empty() && is_character(element.element)
 }
 
-/// How many bytes the characters of a literal and the zero behind them have.
+/// The number of bytes of a literal's characters and the zero after them.
 fn text_length(names: &Names, name: usize) -> usize
     ensures { (s : scope_typed.Scope) → result ≡ length (scope_typed.literal_of (with_texts names.now s) name) + 1 }
 {
@@ -75,7 +75,7 @@ fn literal_of(initialiser: &Initialiser) -> Option<usize>
     }
 }
 
-/// The literal that stands alone in braces.
+/// The literal that is alone in braces.
 fn literal_alone(parts: &[Initialiser]) -> Option<usize>
     ensures { result ≡ alone_literal (inits_of (map init_of parts.now)) }
 {
@@ -134,7 +134,7 @@ fn size_of_text(names: &Names, characters: bool, pos: Pos, e: &Expr) -> Result<u
     }
 }
 
-/// The length that an initialiser gives an array of such elements. Else 521 stands, at the brace or at the declarator.
+/// The length that an initialiser gives an array of such elements. Else reports 521, at the brace or at the declarator.
 pub(crate) fn length_from(
     names: &Names,
     pos: Pos,

@@ -1,4 +1,4 @@
-//! Declarations: the scope behind them (ISO/IEC 9899:2011 6.7, 6.9.2).
+//! Declarations: the scope after them (ISO/IEC 9899:2011 6.7, 6.9.2).
 #![tactic(auto)]
 
 mod begun_objects;

@@ -20,7 +20,7 @@ use Rattle.decls_declarators.specs.Views.{sizes_with, known_size, Positive}
 use Rattle.decls_declarators.proofs.Verdicts.{both_fine, next_of}
 use Rattle.decls_declarators.proofs.Strings.{none_more, some_more}
 
--- what is left leads to the whole
+-- the result for the rest gives the result for the whole
 pub record Reading (t : Texts) (at : Pos) (s0 s : Scope) (all rest : List (Option Tree)) (old new : List ℕ) : Type 0 where
   pub ok : (ns : List ℕ) → inner_sizes (with_texts t s) at rest ≡ fine ns → (ms : List ℕ) × (inner_sizes (with_texts t s0) at all ≡ fine ms) × (new ++ ns ≡ old ++ ms)
   pub err : (r : Refusal) → Tells r (inner_sizes (with_texts t s) at rest) → Tells r (inner_sizes (with_texts t s0) at all)

@@ -1,4 +1,4 @@
--- What a parameter is, of its parts.
+-- The typing of a parameter, by its parts.
 use Rattle.std.proofs.Common.{subst}
 use Rattle.srcset.specs.NameTable.{Texts}
 use Rattle.srcset.specs.declared.refusal.Refusal.{Refusal}

@@ -59,7 +59,7 @@ step_tree t s next n more p ps o old new e f g h =
     ∙ ap (λ k. onto new (parameters_from k behind ps)) (sym g)
     ∙ ap (λ k. onto new (parameters_from more k ps)) (texts_behind t n s p o ∙ ap (with_texts t) (sym f))
 
--- what is left leads to the whole
+-- the result for the rest gives the result for the whole
 abbrev pub Left : Texts → Scope → List Parameter → List (held.ParameterType) → ℕ → Scope → List Parameter → Type 0
 Left t s0 all types n s rest = onto (map parameter_type_of types) (parameters_from n (with_texts t s) (map parameter_of rest)) ≡ parameters_from 0 (with_texts t s0) (map parameter_of all)
 
@@ -89,7 +89,7 @@ ended t s0 s all i types n h inv =
     sym inv ∙ ap (λ l. onto (map parameter_type_of types) (parameters_from n (with_texts t s) (map parameter_of l))) (drop_all i all h)
     ∙ ap (λ l. fine (record { types = l; scope = with_texts t s })) (append-nil (map parameter_type_of types))
 
--- ---- what parameters leave as it was
+-- ---- what parameters leave unchanged
 
 pub record Kept (s inner : Scope) : Type 0 where
   pub names : List Binding
@@ -152,7 +152,7 @@ kept_all (p ∷ ps) n s whole e =
     let more = of_more (type_of_parameter first.0) (parameters_from (references_after n first.0) next ps) whole first.2 in
     kept_by s next whole.scope (subst (λ k. Kept next k) more.2 (kept_all ps (references_after n first.0) next more.0 more.1)) (kept_one n s p.name p first.0)
 
--- behind a declarator
+-- after a declarator
 pub kept_behind : (t : Texts) (outer inner : Scope) (ps : List ParameterTree) (types : List ParameterType) → parameters_in (with_texts t outer) ps ≡ fine (record { types = types; scope = with_texts t inner }) →
     Kept (inside (record (with_texts t outer) { objects = [] })) (with_texts t inner)
 kept_behind t outer inner ps types e = kept_all ps 0 (inside (record (with_texts t outer) { objects = [] })) (record { types = types; scope = with_texts t inner }) e

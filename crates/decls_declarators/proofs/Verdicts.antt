@@ -1,4 +1,4 @@
--- What the verdicts of parts say of the whole.
+-- The verdict on the whole, by the verdicts on parts.
 use Rattle.std.proofs.Common.{◌≡◌, ℕ, ◌+◌, ◌<◌, List, ◌∷◌, drop, get_or, length, ap, ◌∙◌, subst, sym}
 use Rattle.std.proofs.lemmas.List.{drop_more}
 use Rattle.srcset.specs.declared.refusal.Refusal.{Refusal}

@@ -1,4 +1,4 @@
--- What the code's parameters stand for.
+-- The definition's values that the code's parameters represent.
 use Rattle.std.specs.Prelude.{ℕ, []}
 use Rattle.decls_declarators.specs.declared.parameter_objects.ParameterObject.{ParameterObject}
 use Rattle.decls_declarators.specs.declared.parameter_objects.ParameterObject.TheVariants.{Number, Reference}
@@ -12,7 +12,7 @@ abbrev pub parameter_object_of : ParameterObject → typed.ParameterObject
 parameter_object_of (Number t k) = typed.a_number (typed.object_type t k [])
 parameter_object_of (Reference t) = typed.a_reference (object_type_of t)
 
--- a parameter whose name is fresh, and the scope behind it
+-- a parameter whose name is fresh, and the scope after it
 abbrev pub checked_parameter : Scope → ParameterTree → Verdict typed.ParameterObject
 checked_parameter s p = provided (typed.fresh_if_named s p.at p.name) (typed.parameter_object s p)
 

@@ -1,4 +1,4 @@
--- What the code's types of declarators stand for.
+-- The definition's values that the code's types of declarators represent.
 use Rattle.std.specs.Prelude.{ℕ, ◌<◌, Bool, true, false, List, [], ◌∷◌, Option, Some, None}
 use Rattle.decls_declarators.specs.declared.sizes.Sizes.{Sizes}
 use Rattle.typing_spec.specs.Declarators as typed

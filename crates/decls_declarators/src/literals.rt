@@ -10,7 +10,7 @@ use srcset::Refusal;
 use tree::Expr;
 use typing_scopes::Scope;
 
-/// The literals of expressions stand behind those of the scope.
+/// Appends the literals of expressions to those of the scope.
 #[cycle(literals)]
 fn all_past(scope: &mut Scope, es: &[Expr]) -> Result<(), Refusal>
     ensures ok { OnOk result (scope.new ≡ typed.with_literals scope.old (typed.strings_in (trees_of (map tree_of es.now)))) }
@@ -25,7 +25,7 @@ fn all_past(scope: &mut Scope, es: &[Expr]) -> Result<(), Refusal>
     Ok(())
 }
 
-/// The literals of an expression stand behind those of the scope. It fails where memory runs out.
+/// Appends the literals of an expression to those of the scope. It fails where memory runs out.
 ///
 /// Its recursion is as deep as the tree is.
 #[cycle(literals)]

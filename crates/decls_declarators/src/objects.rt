@@ -127,13 +127,13 @@ fn with_base(
     }
 }
 
-/// The type of an object's declarator, behind which the literals of its sizes stand.
+/// The type of an object's declarator; the literals of its sizes are appended to those of the scope.
 ///
 /// Fails
 /// - with 519 where the object is `void`;
 /// - with 518 where a size is no constant greater than zero, or an inner one is left out, or the elements are `void`;
 /// - with 712 where the object has more than 1,048,576 bytes, an array of unknown size where its elements have;
-/// - with what a size breaks, and with 801 where memory runs out.
+/// - with the constraint that a size breaks, and with 801 where memory runs out.
 pub fn declared_type(
     alloc: Global,
     names: &Names,

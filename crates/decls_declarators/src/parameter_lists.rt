@@ -23,8 +23,7 @@ use tree::Parameter;
 use typed_ast::{FunctionType, ObjectType, ParameterType};
 use typing_scopes::{Block, Scope};
 
-/// The types of parameters that are in scope, and what stood there before: the block around them, and the objects of another
-/// function.
+/// The types of parameters that are in scope, and the parts of the scope that they replace: the block around them, and the objects of another function.
 #[derive(Drop)]
 pub struct Entered {
     pub types: Vec<ParameterType>,
@@ -90,9 +89,9 @@ fn parameters_from(
 /// - with 514 where two have one name;
 /// - with 526 where one is `void`, and with 518 where one is an array of it, or a size is none;
 /// - with 712 where the elements of an array have more than 1,048,576 bytes;
-/// - with what its specifiers or a size break, and with 801 where memory runs out.
+/// - with the constraint that its specifiers or a size break, and with 801 where memory runs out.
 ///
-/// After a refusal nothing is said of the scope.
+/// After a refusal the scope is unspecified.
 pub fn parameters_in(
     alloc: Global,
     names: &Names,
@@ -117,7 +116,7 @@ pub fn parameters_in(
     }
 }
 
-/// Behind a declarator the names of its parameters are gone, and their string literals stay.
+/// After a declarator the names of its parameters are removed, and their string literals stay.
 pub fn behind_parameters(scope: &mut Scope, block: Block, objects: Vec<ObjectType>)
     ensures { (t : Texts) (outer : scope_typed.Scope) (ps : List ParameterTree) (types : List type.ParameterType) → typed.parameters_in (with_texts t outer) ps ≡ fine (record { types = types; scope = with_texts t scope.old }) → block ≡ block_of outer → map object_type_of objects.items ≡ outer.objects → with_texts t scope.new ≡ typed.behind_parameters (with_texts t outer) (with_texts t scope.old) }
 {
@@ -125,7 +124,7 @@ pub fn behind_parameters(scope: &mut Scope, block: Block, objects: Vec<ObjectTyp
     scope.change_objects(objects);
 }
 
-/// The type of a function by its declarator, behind which the names of its parameters are gone. It fails as `parameters_in` does.
+/// The type of a function by its declarator, after which the names of its parameters are removed. It fails as `parameters_in` does.
 pub fn function_type(
     alloc: Global,
     names: &Names,

@@ -26,7 +26,7 @@ use typed_ast::{DeclaredType, ObjectType, ParameterType, Storage};
 use typing_expressions::broken;
 use typing_scopes::{Linkage, Meaning, Scope, State};
 
-/// What a parameter is in its function.
+/// The object of a parameter in its function.
 #[derive(Drop)]
 pub(crate) enum ParameterObject {
     /// A number, which may be `const`.
@@ -91,7 +91,7 @@ fn parameter_with(
     }
 }
 
-/// What a parameter is, behind which the literals of its sizes stand.
+/// The object of a parameter; the literals of its sizes are appended to those of the scope.
 fn parameter_object(
     alloc: Global,
     names: &Names,
@@ -126,7 +126,7 @@ fn fresh_if_named(scope: &Scope, pos: Pos, name: Option<usize>) -> Result<(), Re
     }
 }
 
-/// What a parameter whose name is fresh is in its function.
+/// The object of a parameter whose name is fresh, in its function.
 pub(crate) fn fresh_parameter(
     alloc: Global,
     names: &Names,
@@ -175,7 +175,7 @@ fn number_object(alloc: Global, ty: IntType, constant: bool) -> ObjectType
     }
 }
 
-/// A name stands for a parameter: the next object of the function, or the next reference.
+/// Binds a name to a parameter: the next object of the function, or the next reference.
 fn name_parameter(
     alloc: Global,
     scope: &mut Scope,
@@ -203,7 +203,7 @@ fn name_parameter(
     }
 }
 
-/// The name of a parameter, if it has one, stands for it.
+/// Binds the name of a parameter, if it has one, to it.
 pub(crate) fn with_parameter(
     alloc: Global,
     scope: &mut Scope,

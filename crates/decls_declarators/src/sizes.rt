@@ -21,7 +21,7 @@ use typing_scopes::Scope;
 /// The sizes of a declarator, none or from the outermost.
 #[derive(Drop)]
 pub struct Sizes {
-    /// Whether one more stands before these, which is unknown.
+    /// Whether one more precedes these, which is unknown.
     pub unknown: bool,
     pub lengths: Vec<u64>,
 }
@@ -43,7 +43,7 @@ fn size_of_array(
     }
 }
 
-/// A size, behind which its literals stand.
+/// A size; its literals are appended to those of the scope.
 fn size_past(
     alloc: Global,
     names: &Names,
@@ -125,7 +125,7 @@ fn outer_size(
     }
 }
 
-/// The sizes of a declarator, behind which their literals stand.
+/// The sizes of a declarator; their literals are appended to those of the scope.
 pub fn sizes_in(
     alloc: Global,
     names: &Names,

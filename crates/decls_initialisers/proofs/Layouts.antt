@@ -98,7 +98,7 @@ pad_is before vs old cut new start count end missing o s e c m n =
 abbrev pub parts_of : List held.Initialiser → program.Initialisers
 parts_of is = initialisers_of (map initialiser_of is)
 
--- what is left leads to the whole
+-- the result on the rest determines the result on the whole
 pub record Laid (t : List (List ℕ)) (k : List ℕ) (u : IntType) (lengths : List ℕ) (all rest : List held.Initialiser) (old new : List ℤ) : Type 0 where
   pub ok : (ws : List ℤ) → all_values_with t k u lengths (parts_of rest) ≡ fine ws → (vs : List ℤ) × (all_values_with t k u lengths (parts_of all) ≡ fine vs) × (new ++ ws ≡ old ++ vs)
   pub err : (r : Refusal) → Tells r (all_values_with t k u lengths (parts_of rest)) → Tells r (all_values_with t k u lengths (parts_of all))
@@ -156,7 +156,7 @@ pub whole_values : (t : List (List ℕ)) (k : List ℕ) (s : Scope) (u : IntType
     typed.values (seen t k s) u lengths i ≡ fine new
 whole_values t k s u lengths i new empty vs e n h = values_same t k s (file_scope [] []) u lengths i ∙ h ∙ ap fine (sym (n ∙ ap (λ l. l ++ vs) e))
 
--- ---- counts that no word tells
+-- ---- counts that exceed a word
 
 -- one of an element's parts is one of the whole's
 pub beyond_within : (first : ℕ) (rest lengths : List ℕ) → lengths ≡ first ∷ rest → (k : ℕ) × (2 ^ 64 ≤ elements_in (drop k rest)) → (k : ℕ) × (2 ^ 64 ≤ elements_in (drop k lengths))

@@ -83,11 +83,11 @@ mutual
 counted : (n m : ℕ) (k : List ℕ) → m ≡ n + length k → length {A = ℕ} (replicate m 0) ≡ length {A = ℕ} (replicate n 0 ++ k)
 counted n m k h = omega (arith, h, length-replicate {A = ℕ} m 0, length-replicate {A = ℕ} n 0, length-append {A = ℕ} (replicate n 0) k)
 
--- behind so many literals more
+-- after more literals
 pub parts_past : (t : List (List ℕ)) (n m : ℕ) (s : Scope) (i : Init) (at : Pos) (u : IntType) (lengths : List ℕ) (is : Inits) → m ≡ n + length (strings_of i) →
     initialisers_at t m s at u lengths is ≡ initialisers (past_init (numbered t n s) i) at u lengths is
 parts_past t n m s i at u lengths is h = initialisers_same t (replicate m 0) (replicate n 0 ++ strings_of i) s (counted n m (strings_of i) h) at u lengths is
 
--- in a scope that has so many literals
+-- in a scope that has this number of literals
 pub initialiser_whole : (t : List (List ℕ)) (n : ℕ) (s : Scope) (at : Pos) (u : IntType) (w : Wanted) (top : Bool) (i : Init) → n ≡ length s.literals → initialiser (with_texts t s) at u w top i ≡ initialiser_at t n s at u w top i
 initialiser_whole t n s at u w top i h = initialiser_same t s.literals (replicate n 0) s (sym (length-replicate {A = ℕ} n 0 ∙ h)) at u w top i

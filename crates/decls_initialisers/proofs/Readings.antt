@@ -25,7 +25,7 @@ use Rattle.decls_initialisers.proofs.Numbered.{parts_past}
 abbrev pub parts_of : List Initialiser → Inits
 parts_of is = inits_of (map init_of is)
 
--- what is left leads to the whole
+-- the result on the rest determines the result on the whole
 pub record Reading (t : List (List ℕ)) (s : Scope) (at : Pos) (u : IntType) (lengths : List ℕ) (start now : ℕ) (all rest : List Initialiser) (done : List held.Initialiser) : Type 0 where
   pub ok : (is : List program.Initialiser) → initialisers_at t now s at u lengths (parts_of rest) ≡ fine (initialisers_of is) → initialisers_at t start s at u lengths (parts_of all) ≡ fine (initialisers_of (map initialiser_of done ++ is))
   pub err : (r : Refusal) → Tells r (initialisers_at t now s at u lengths (parts_of rest)) → Tells r (initialisers_at t start s at u lengths (parts_of all))

@@ -1,4 +1,4 @@
--- What the rules say of the forms that the code holds.
+-- The verdicts of the rules on the forms that the code holds.
 use Rattle.std.proofs.Common.{◌≡◌, ℕ, ◌+◌, ◌-◌, Bool, true, false, List, [], ◌∷◌, length, map, Option, Some, None, refl, sym, ap, ◌∙◌, subst, arith, append-nil, Global, Ok, Err, IfOk, IfErr, OnOk, inl}
 use Rattle.std.specs.Prelude.{Result, Vec, slice_get, replicate, take}
 use Rattle.std.specs.Bool.{◌==◌}
@@ -209,7 +209,7 @@ pub list_of_none : (r : Refusal) (p : Pos) (room : Option ℕ) (parts : Inits) (
 list_of_none r p room parts v is e h =
     then_tells r v is (λ is. provided (typed.fits_room p room parts) (fine (program.list is))) e (provided_left r (typed.fits_room p room parts) (fine (program.list is)) h)
 
--- ---- an array in braces, of what the code holds
+-- ---- an array in braces, in the code's form
 
 pub array_rule : (t : List (List ℕ)) (n : ℕ) (s : Scope) (at : Pos) (u : IntType) (w : Wanted) (top : Bool) (init : Initialiser) (brace : Pos) (parts : Vec Initialiser Global) (room : Option ℕ) (lengths : Bor (List ℕ)) (ps : List Initialiser) →
     w ≡ wanted.Array room lengths → init ≡ I.List brace parts → ps ≡ parts.items →

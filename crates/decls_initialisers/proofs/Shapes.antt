@@ -1,4 +1,4 @@
--- The forms of initialisers, of what the code holds.
+-- The forms of initialisers, as the code holds them.
 use Rattle.std.proofs.Common.{◌≡◌, ◌≢◌, List, [], ◌∷◌, length, map, refl, sym, ap, ◌∙◌, arith, rules, Global, None}
 use Rattle.srcset.specs.declared.refusal.Pos.{Pos}
 use Rattle.std.specs.Prelude.{Vec}

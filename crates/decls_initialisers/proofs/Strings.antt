@@ -1,4 +1,4 @@
--- String literals behind those of a scope.
+-- String literals after those of a scope.
 use Rattle.std.proofs.Common.{◌≡◌, ℕ, ◌+◌, ◌<◌, ◌≤◌, List, [], ◌++◌, drop, get_or, length, map, sym, ap, ◌∙◌, append_assoc, append-nil}
 use Rattle.std.proofs.lemmas.List.{drop_all}
 use Rattle.tree.specs.declared.declaration.Initialiser.{Initialiser}

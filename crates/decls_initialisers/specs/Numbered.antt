@@ -1,4 +1,4 @@
--- Initialisers where so many string literals stand before.
+-- Initialisers after a number of string literals.
 use Rattle.std.specs.Prelude.{ℕ, Bool, List}
 use Rattle.srcset.specs.declared.refusal.Pos.{Pos}
 use Rattle.ctypes.specs.declared.types.IntType.{IntType}

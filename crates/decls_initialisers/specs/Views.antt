@@ -1,4 +1,4 @@
--- What the code's values stand for.
+-- The models of the code's values.
 use Rattle.std.specs.Prelude.{ℕ, Option, Some, None}
 use Rattle.srcset.specs.declared.refusal.Pos.{Pos}
 use Rattle.tree.specs.Tree.{Tree, string}

@@ -1,4 +1,4 @@
-//! What may stand in the initialiser of an object with static storage (6.7.9p4).
+//! The permitted parts of the initialiser of an object with static storage (6.7.9p4).
 #![tactic(auto)]
 
 ghost use Rattle.std.specs.Prelude.{◌≡◌, ◌&&◌, is_some, map, IfErr, OnOk};
@@ -38,7 +38,7 @@ fn is_text(e: &Expr) -> bool
     }
 }
 
-/// Whether a string literal may stand for it: an array of characters (6.7.9p14).
+/// Whether a string literal may initialise it: an array of characters (6.7.9p14).
 fn takes_text(element: IntType, wanted: Wanted<'_>) -> bool
     ensures { result ≡ typed.takes_text element (wanted_of wanted.entry) }
 {
@@ -48,7 +48,7 @@ fn takes_text(element: IntType, wanted: Wanted<'_>) -> bool
     }
 }
 
-/// What a part of a list is.
+/// The type of a part of a list.
 fn part_wanted<'s>(wanted: Wanted<'s>) -> Wanted<'s>
     ensures { wanted_of result ≡ typed.part_wanted (wanted_of wanted.entry) }
 {
@@ -81,7 +81,7 @@ fn is_text_alone(element: IntType, wanted: Wanted<'_>, parts: &[Initialiser]) ->
     takes_text(element, wanted) && text_alone(parts).is_some()
 }
 
-/// The parts of a list, each of which is this.
+/// Whether this holds of each part of a list.
 #[cycle(constancy)]
 fn all_constant(
     scope: &Scope,
@@ -102,7 +102,7 @@ fn all_constant(
 }
 
 /// Whether each part may be a constant expression, or is a string literal for an array of characters, as in the initialiser of an
-/// object with static storage (6.7.9p4, p14). Else 501 stands at what may not.
+/// object with static storage (6.7.9p4, p14). Else reports 501 at one that may not.
 ///
 /// Its recursion is as deep as the tree is.
 #[cycle(constancy)]

@@ -18,7 +18,7 @@ use srcset::{Names, Refusal};
 use std::alloc::Global;
 use typed_ast::{Initialiser, Value};
 
-/// How many elements arrays of these lengths have; none only where no `usize` tells it of the arrays, or of an element of theirs.
+/// How many elements arrays of these lengths have; none only where no `usize` holds the number for the arrays, or for an element of theirs.
 fn element_count(lengths: &[u32]) -> Option<usize>
     ensures counted { IfSome result (λ n. n ≡ elements_in lengths.now) }
     ensures beyond { IfNone result ((k : ℕ) × (2 ^ 64 ≤ elements_in (drop k lengths.now))) }
@@ -43,7 +43,7 @@ fn push_value(value: i64, all: &mut Vec<i64>) -> Result<(), Refusal>
     }
 }
 
-/// So many zeros more.
+/// Appends `count` zeros.
 fn push_zeros(count: usize, all: &mut Vec<i64>) -> Result<(), Refusal>
     ensures ok { OnOk result (all.new.items ≡ all.old.items ++ typed.zeros count) }
     ensures err { IfErr result (λ r. r ≡ Memory) }
@@ -57,7 +57,7 @@ fn push_zeros(count: usize, all: &mut Vec<i64>) -> Result<(), Refusal>
     Ok(())
 }
 
-/// The values from this place on are cut at so many, or zeros stand behind them.
+/// Cuts the values from this place on at `count`, or appends zeros up to it.
 fn pad(start: usize, count: usize, all: &mut Vec<i64>) -> Result<(), Refusal>
     ensures ok { (before vs : List ℤ) → all.old.items ≡ before ++ vs → start ≡ length before → OnOk result (all.new.items ≡ before ++ typed.padded count vs) }
     ensures err { IfErr result (λ r. r ≡ Memory) }
@@ -70,7 +70,7 @@ fn pad(start: usize, count: usize, all: &mut Vec<i64>) -> Result<(), Refusal>
     push_zeros(missing, all)
 }
 
-/// The characters of a text, which has a zero behind them.
+/// The characters of a text, which ends in a zero.
 fn characters_of<'n>(names: &'n Names, name: usize) -> &'n [u8]
     ensures { result.now ≡ characters_with names.now name }
 {
@@ -159,7 +159,7 @@ fn push_parts(
     Ok(())
 }
 
-/// The values of an initialiser, behind others.
+/// Appends the values of an initialiser to others.
 #[cycle(element_values)]
 fn push_values(
     names: &Names,

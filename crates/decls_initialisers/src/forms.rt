@@ -1,4 +1,4 @@
-//! What is initialised, and the forms of initialisers.
+//! The types to initialise, and the forms of initialisers.
 #![tactic(auto, using(crate::proofs::Shapes::counted, crate::proofs::Shapes::alone_none, crate::proofs::Shapes::alone_one, crate::proofs::Shapes::alone_more, crate::proofs::Shapes::alone_list))]
 
 ghost use Rattle.std.specs.Prelude.{◌≡◌, map};
@@ -11,7 +11,7 @@ use ctypes::IntType;
 use srcset::Pos;
 use tree::{Expr, Initialiser};
 
-/// What is initialised: a number, or an array.
+/// The type to initialise: a number, or an array.
 #[derive(Clone, Copy)]
 pub enum Wanted<'s> {
     Number,

@@ -12,7 +12,7 @@ use srcset::Refusal;
 use tree::Initialiser;
 use typing_scopes::Scope;
 
-/// The literals of the parts of a list stand behind those of the scope.
+/// Appends the literals of the parts of a list to those of the scope.
 #[cycle(literals)]
 fn all_past(scope: &mut Scope, parts: &[Initialiser]) -> Result<(), Refusal>
     ensures ok { OnOk result (scope.new ≡ with_literals scope.old (typed.strings_of_all (inits_of (map init_of parts.now)))) }
@@ -27,7 +27,7 @@ fn all_past(scope: &mut Scope, parts: &[Initialiser]) -> Result<(), Refusal>
     Ok(())
 }
 
-/// The literals of an initialiser stand behind those of the scope. It fails where memory runs out.
+/// Appends the literals of an initialiser to those of the scope. It fails where memory runs out.
 ///
 /// Its recursion is as deep as the tree is.
 #[cycle(literals)]

@@ -105,7 +105,7 @@ pub(crate) fn number_in_braces(
     }
 }
 
-/// How many characters a literal has; its text has a zero behind them.
+/// The number of characters of a literal; its text has a zero after them.
 fn character_count(names: &Names, name: usize) -> usize
     ensures { result ≡ length (or_empty (slice_get names.now name)) - 1 }
 {

@@ -63,7 +63,7 @@ fn fits_room(pos: Pos, room: Option<usize>, parts: &[Init]) -> Result<(), Refusa
     Ok(())
 }
 
-/// The string literal for characters that stands alone in braces.
+/// The string literal for characters that is alone in braces.
 fn braced_text(element: IntType, lengths: &[u32], parts: &[Init]) -> Option<(Pos, usize)>
     ensures { option_string result ≡ braced_string (typed.has_characters element lengths.now) (typed.text_alone (inits_of (map init_of parts.now))) }
 {
@@ -176,9 +176,9 @@ fn array_in_braces(
     }
 }
 
-/// An initialiser behind so many string literals, whose count grows by those in it. The elements of what is initialised have the type;
-/// the place is that of its declarator, where `top` says that it is in no list, else that of the list. Else a constraint stands that it
-/// breaks, or it is 801.
+/// Types an initialiser after `*literals` string literals; the count grows by those in it. The elements of the initialised object have the type;
+/// the place is that of its declarator, where `top` says that it is in no list, else that of the list. Else reports a constraint that it
+/// violates, or 801.
 ///
 /// Its recursion is as deep as the tree is.
 #[cycle(typing)]

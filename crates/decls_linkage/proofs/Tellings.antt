@@ -1,4 +1,4 @@
--- What the verdicts of parts say of a name that is declared again.
+-- The verdict on a name that is declared again, by the verdicts on parts.
 use Rattle.std.proofs.Common.{◌≡◌, ℕ, List, ◌&&◌, Option, Ok, Err, OnOk, refl, ap, ◌∙◌, sym, subst}
 use Rattle.std.specs.Prelude.{Result}
 use Rattle.srcset.specs.declared.code.Code.TheVariants as code

@@ -1,4 +1,4 @@
--- What the code's types of linkage stand for.
+-- The definition's values that the code's types of linkage represent.
 use Rattle.std.specs.Prelude.{Bool, false, Option, Some, None}
 use Rattle.typed_ast.specs.declared.types.ObjectType.{ObjectType}
 use Rattle.typed_ast.specs.declared.types.DeclaredType.{DeclaredType}

@@ -21,7 +21,7 @@ use typed_ast::{DeclaredType, Storage};
 use typing_expressions::broken;
 use typing_scopes::{Linkage, Meaning, Scope, State, StaticObject};
 
-/// A name without linkage is declared once in a scope (6.7p3). Else 514 stands at it.
+/// A name without linkage is declared once in a scope (6.7p3). Else it fails at the name with 514.
 pub fn fresh(scope: &Scope, pos: Pos, name: usize) -> Result<(), Refusal>
     ensures ok { OnOk result (declarators.fresh scope.now pos name ≡ fine tt) }
     ensures err { IfErr result (λ r. IsOf r (declarators.fresh scope.now pos name)) }
@@ -86,7 +86,7 @@ fn with_static(
     }
 }
 
-/// The scope behind the declaration of an object in a block, where `extern` has no tree.
+/// The scope after the declaration of an object in a block, where `extern` has no tree.
 fn block_object(
     alloc: Global,
     scope: &mut Scope,
@@ -111,7 +111,7 @@ fn block_object(
     }
 }
 
-/// The scope behind the declaration of an object, at file scope or in a block, with an initialiser or without one. It fails as
+/// The scope after the declaration of an object, at file scope or in a block, with an initialiser or without one. It fails as
 /// `file_object` does; in a block with 514 where the name is declared there already.
 pub fn object_at(
     alloc: Global,

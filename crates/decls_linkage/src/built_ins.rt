@@ -44,7 +44,7 @@ fn is_meant(built_in: BuiltIn, meaning: &Meaning) -> bool
     }
 }
 
-/// What is declared under the name of a built-in is that function, has external linkage and is not defined.
+/// A declaration of a built-in's name is of that function, has external linkage and is no definition.
 pub fn as_built_in(pos: Pos, new: &Agreed, built_in: Option<BuiltIn>) -> Result<(), Refusal>
     ensures ok { OnOk result (typed.as_built_in pos (agreed_of new.now) (option_built_in built_in) ≡ fine tt) }
     ensures err { IfErr result (λ r. IsOf r (typed.as_built_in pos (agreed_of new.now) (option_built_in built_in))) }

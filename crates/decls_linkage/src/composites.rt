@@ -13,7 +13,7 @@ use srcset::Refusal;
 use std::alloc::Global;
 use typed_ast::{DeclaredType, ObjectType};
 
-/// The same type once more.
+/// A copy of the type.
 pub fn copied(alloc: Global, object: &ObjectType) -> Result<ObjectType, Refusal>
     ensures ok { IfOk result (λ t. object_type_of t ≡ object_type_of object.now) }
     ensures err { IfErr result (λ r. r ≡ Memory) }
@@ -29,7 +29,7 @@ pub fn copied(alloc: Global, object: &ObjectType) -> Result<ObjectType, Refusal>
     }
 }
 
-/// An array of so many such objects.
+/// An array of `length` such objects.
 pub fn array_of(alloc: Global, length: u32, object: &ObjectType) -> Result<ObjectType, Refusal>
     ensures ok { IfOk result (λ t. object_type_of t ≡ typed.array_of length (object_type_of object.now)) }
     ensures err { IfErr result (λ r. r ≡ Memory) }

@@ -69,7 +69,7 @@ fn with_storage(
     }
 }
 
-/// The scope has what the name now stands for.
+/// The scope has the meaning that the name now has.
 fn agreed_in(alloc: Global, scope: &mut Scope, name: usize, agreed: Agreed) -> Result<(), Refusal>
     ensures ok { OnOk result (typed.agreed_in scope.old name (agreed_of agreed) ≡ fine scope.new) }
     ensures err { IfErr result (λ r. r ≡ Memory) }
@@ -123,14 +123,14 @@ fn storage_of_meaning(scope: &Scope, meaning: &Meaning) -> Storage
     }
 }
 
-/// The scope behind the declaration of an object at file scope.
+/// The scope after the declaration of an object at file scope.
 ///
 /// Fails
 /// - with 514 where the name has no linkage, as an enumerator;
 /// - with 515 where it was declared with another type, or is that of a built-in;
 /// - with 516 where one declaration is `static` and another is not;
 /// - with 517 where both define it;
-/// - with 801 where memory runs out; what the scope then is, nothing says.
+/// - with 801 where memory runs out; the scope is then unspecified.
 pub fn file_object(
     alloc: Global,
     names: &Names,
@@ -155,7 +155,7 @@ pub fn file_object(
     declared_at_file(alloc, names, scope, pos, name, new)
 }
 
-/// The scope behind the declaration of a function, or its definition's declarator. It fails as `file_object` does, and with 553 where
+/// The scope after the declaration of a function, or its definition's declarator. It fails as `file_object` does, and with 553 where
 /// it defines a built-in.
 pub fn file_function(
     alloc: Global,

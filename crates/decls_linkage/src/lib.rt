@@ -1,4 +1,4 @@
-//! Linkage: what a name declared again stands for (ISO/IEC 9899:2011 6.2.2, 6.2.7, 6.7, 6.9.2).
+//! Linkage: the meaning of a name declared again (ISO/IEC 9899:2011 6.2.2, 6.2.7, 6.7, 6.9.2).
 #![tactic(auto)]
 
 mod block_scope;

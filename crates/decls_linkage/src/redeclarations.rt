@@ -1,4 +1,4 @@
-//! What a name stands for once it is declared again (6.2.2p7, 6.7p3, p4, 6.9p3, p5).
+//! The meaning of a name once it is declared again (6.2.2p7, 6.7p3, p4, 6.9p3, p5).
 #![tactic(auto, using(typing_expressions::proofs::Verdicts::each_left, typing_expressions::proofs::Verdicts::each_right, typing_expressions::proofs::Verdicts::each_fine, crate::proofs::Same::same_function_is, crate::proofs::Tellings::told))]
 
 ghost use Rattle.std.specs.Prelude.{◌≡◌, ◌&&◌, IfErr, IfOk, OnOk};
@@ -22,7 +22,7 @@ use typed_ast::{DeclaredType, FunctionType, Storage};
 use typing_expressions::broken;
 use typing_scopes::{Binding, Linkage, Meaning, State};
 
-/// What a name stands for.
+/// The meaning of a name.
 #[derive(Drop)]
 pub struct Agreed {
     pub meaning: Meaning,
@@ -129,7 +129,7 @@ fn with_linkage(alloc: Global, pos: Pos, new: Agreed, old: &Binding) -> Result<A
     }
 }
 
-/// What a name stands for that is declared, perhaps again.
+/// The meaning of a name that is declared, perhaps again.
 pub(crate) fn redeclared(
     alloc: Global,
     pos: Pos,

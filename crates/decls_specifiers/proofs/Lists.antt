@@ -22,7 +22,7 @@ class_alone at no_class = refl
 class_alone at by_extern = refl
 class_alone at by_static = refl
 
--- ---- the type, with so many lists
+-- ---- the type, with a number of lists
 
 none_before : (n : ℕ) → 0 + n ≡ n
 none_before n = omega arith

@@ -1,4 +1,4 @@
--- Lists of trees, as far as they are read: what F gives of those that are left is what it gives of the whole.
+-- Lists of trees, as far as they are read: the result of F on the rest is its result on the whole.
 use Rattle.std.proofs.Common.{◌≡◌, ℕ, ◌+◌, ◌<◌, ◌≤◌, List, [], ◌∷◌, drop, get_or, length, map, sym, ap, ◌∙◌, subst}
 use Rattle.std.proofs.lemmas.List.{drop_all}
 use Rattle.srcset.specs.declared.refusal.Refusal.{Refusal}

@@ -15,7 +15,7 @@ use srcset::{Code, Pos, Refusal};
 use tree::Specifier;
 use typing_expressions::broken;
 
-/// The class behind one more specifier.
+/// The class after one more specifier.
 fn class_with(pos: Pos, class: StorageClass, specifier: &Specifier) -> Result<StorageClass, Refusal>
     ensures ok { (ss : List SpecifierTree) → IfOk result (λ c. typed.class_of pos (class_before (view.class_of class) ++ typed.classes_of (specifier_of specifier.now ∷ ss)) ≡ typed.class_of pos (class_before (view.class_of c) ++ typed.classes_of ss)) }
     ensures err { (ss : List SpecifierTree) → IfErr result (λ r. Tells r (typed.class_of pos (class_before (view.class_of class) ++ typed.classes_of (specifier_of specifier.now ∷ ss)))) }

@@ -23,14 +23,14 @@ use tree::{Item, Specifier, Specifiers};
 use typing_expressions::broken;
 use typing_scopes::Scope;
 
-/// What specifiers say.
+/// The meaning of specifiers.
 #[derive(Clone, Copy)]
 pub struct SpecifiedBase {
     pub class: StorageClass,
     pub base: BaseType,
 }
 
-/// The enumerators of a specifier, if it brings a list.
+/// The enumerators of a specifier, if it contains a list.
 fn with_list(
     alloc: Global,
     names: &Names,
@@ -69,16 +69,16 @@ fn with_lists(
     Ok(())
 }
 
-/// What specifiers say, behind their lists of enumerators.
+/// The meaning of specifiers, after their lists of enumerators.
 ///
 /// Fails
 /// - with 512 where there are two storage-class specifiers;
 /// - with 511 where they name no type, and with 525 where a tag has no complete list, or a second one in a scope;
 /// - with 514 where an enumerator is declared already, and with 524 where its value is no `int`;
 /// - with 515 where it has the name of a built-in at file scope;
-/// - with what the value of an enumerator breaks, and with 801 where memory runs out.
+/// - with the violations of an enumerator's value, and with 801 where memory runs out.
 ///
-/// After a refusal nothing is said of the scope.
+/// After an error the scope is unspecified.
 pub fn specified(
     alloc: Global,
     names: &Names,
@@ -109,7 +109,7 @@ fn declares_nothing(specifiers: &[Specifier], items: &[Item]) -> bool
     lists_in(specifiers) == 0 && items.is_empty()
 }
 
-/// What the specifiers of a declaration with these declarators say. It fails as `specified` does, and with 513 where the declaration
+/// The meaning of the specifiers of a declaration with these declarators. It fails as `specified` does, and with 513 where the declaration
 /// declares nothing.
 pub fn specified_for(
     alloc: Global,

@@ -36,7 +36,7 @@ fn fits_int(pos: Pos, value: i64) -> Result<i64, Refusal>
     Err(broken(Code::EnumeratorOutOfRange, pos))
 }
 
-/// The value that stands behind an enumerator, or that of the one before and 1 (6.7.2.2p3).
+/// The value given after an enumerator, or that of the one before plus 1 (6.7.2.2p3).
 fn value_of_enumerator(
     alloc: Global,
     names: &Names,
@@ -58,7 +58,7 @@ fn value_of_enumerator(
     }
 }
 
-/// The literals of an expression, if there is one, stand behind those of the scope.
+/// Appends the literals of an expression, if there is one, to those of the scope.
 fn past_option(scope: &mut Scope, value: &Option<Expr>) -> Result<(), Refusal>
     ensures ok { OnOk result (scope.new ≡ typed.past_option scope.old (option_tree value.now)) }
     ensures err { IfErr result (λ r. r ≡ Memory) }
@@ -122,7 +122,7 @@ fn checked_enumerator(
     }
 }
 
-/// One more enumerator, in scope behind itself (6.2.1p7). It gives the value of the next.
+/// One more enumerator, whose scope begins after it (6.2.1p7). It gives the value of the next.
 fn enumerate(
     alloc: Global,
     names: &Names,
@@ -147,7 +147,7 @@ fn enumerate(
     }
 }
 
-/// Enumerators in order, the first of which is 0 unless a value stands behind it.
+/// Enumerators in order, the first of which is 0 unless a value follows it.
 fn enumerators(
     alloc: Global,
     names: &Names,

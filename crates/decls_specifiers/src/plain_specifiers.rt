@@ -1,4 +1,4 @@
-//! The type that specifiers name, of which some bring lists of enumerators (6.7.2, 6.7.3).
+//! The type that specifiers name, some of which contain lists of enumerators (6.7.2, 6.7.3).
 #![tactic(auto, using(decls_declarators::proofs::Verdicts::told))]
 
 ghost use Rattle.std.specs.Prelude.{◌≡◌, ◌+◌, ◌≤◌, ◌++◌, ◌∷◌, List, map, IfErr, IfOk, OnOk};
@@ -21,7 +21,7 @@ use tree::{Specifier, Specifiers, TypeSpecifier, TypeSpecifiers};
 use typing_expressions::broken;
 use typing_scopes::Scope;
 
-/// A specifier that brings no list goes behind those before it.
+/// Appends a specifier that contains no list to those before it.
 fn push_plain(plain: &mut Vec<TypeSpecifier>, specifier: &Specifier) -> Result<(), Refusal>
     ensures ok { (ss : List SpecifierTree) → OnOk result (plain.new.items ++ typed.plain_of ss ≡ plain.old.items ++ typed.plain_of (specifier_of specifier.now ∷ ss)) }
     ensures err { IfErr result (λ r. r ≡ Memory) }
@@ -37,7 +37,7 @@ fn push_plain(plain: &mut Vec<TypeSpecifier>, specifier: &Specifier) -> Result<(
     }
 }
 
-/// The specifiers and qualifiers that bring no list.
+/// The specifiers and qualifiers that contain no list.
 fn plain_of(alloc: Global, specifiers: &[Specifier]) -> Result<Vec<TypeSpecifier>, Refusal>
     ensures ok { IfOk result (λ plain. plain.items ≡ typed.plain_of (map specifier_of specifiers.now)) }
     ensures err { IfErr result (λ r. r ≡ Memory) }
@@ -52,7 +52,7 @@ fn plain_of(alloc: Global, specifiers: &[Specifier]) -> Result<Vec<TypeSpecifier
     Ok(plain)
 }
 
-/// How many lists a specifier brings.
+/// How many lists a specifier contains.
 fn lists_of(specifier: &Specifier) -> usize
     ensures more { (ss : List SpecifierTree) → typed.lists_in (specifier_of specifier.now ∷ ss) ≡ typed.lists_in ss + result }
     ensures most { result ≤ 1 }
@@ -76,7 +76,7 @@ pub(crate) fn lists_in(specifiers: &[Specifier]) -> usize
     count
 }
 
-/// One enumerated type alone, which is `int` in this profile (6.7.2.2p4), beside `const`.
+/// One enumerated type alone, which is `int` in this profile (6.7.2.2p4), apart from `const`.
 fn enumerated_type(pos: Pos, specifiers: &[TypeSpecifier]) -> Result<BaseType, Refusal>
     ensures ok { (s : scope_typed.Scope) → IfOk result (λ b. typed.base_in s pos 1 specifiers.now ≡ fine (base_type_of b)) }
     ensures err { (s : scope_typed.Scope) → IfErr result (λ r. Tells r (typed.base_in s pos 1 specifiers.now)) }
@@ -94,7 +94,7 @@ fn enumerated_type(pos: Pos, specifiers: &[TypeSpecifier]) -> Result<BaseType, R
     })
 }
 
-/// The type of specifiers that bring no list.
+/// The type of specifiers that contain no list.
 fn plain_type(scope: &Scope, specifiers: &TypeSpecifiers) -> Result<BaseType, Refusal>
     ensures ok { (t : Texts) → IfOk result (λ b. typed.base_in (with_texts t scope.now) specifiers.now.pos 0 specifiers.now.list.items ≡ fine (base_type_of b)) }
     ensures err { (t : Texts) → IfErr result (λ r. Tells r (typed.base_in (with_texts t scope.now) specifiers.now.pos 0 specifiers.now.list.items)) }
@@ -105,7 +105,7 @@ fn plain_type(scope: &Scope, specifiers: &TypeSpecifiers) -> Result<BaseType, Re
     }
 }
 
-/// The type that specifiers name, behind their lists. Else 525 stands at them where `enum tag` names no complete type, or 511 where
+/// The type that specifiers name, after their lists. Else reports 525 at them where `enum tag` names no complete type, or 511 where
 /// they name no type.
 pub(crate) fn base_in(
     alloc: Global,

@@ -78,7 +78,7 @@ data_byte p k h =
 lt_true : (m n : ℕ) → m < n → ltb m n ≡ true
 lt_true m n h = grind (arith, nat_tests)
 
--- what the tests of a place say
+-- the facts that the tests of a place give
 within_low : (s n a : ℕ) → is_within s n a ≡ true → s ≤ a
 within_low s n a h = grind (arith, nat_tests)
 
@@ -114,7 +114,7 @@ data_not_text p a h = let lt = within_high 0x11000 (length p.text) a h in below 
 stack_not_text : (p : Parts) (a : ℕ) → length p.text ≤ 117440512 → p.stack ≤ 16777216 → is_text p a ≡ true → is_stack p a ≡ false
 stack_not_text p a f t h = let lt = within_high 0x11000 (length p.text) a h in below (stack_start p.stack) p.stack a (omega arith)
 
--- the byte at a, by where a lies
+-- the byte at a, by the part that contains a
 chosen : (x y z : Bool) (p q r p' q' : ℕ) → (x ≡ true → p ≡ p') → (y ≡ true → q ≡ q') → r ≡ 0 → (if x then p else if y then q else if z then r else 0) ≡ (if x then p' else if y then q' else 0)
 chosen true y z p q r p' q' f g h = f refl
 chosen false true z p q r p' q' f g h = g refl

@@ -1,4 +1,4 @@
--- What the written file says.
+-- The contents of the written file.
 use Rattle.std.proofs.Common.{ℕ, ◌≡◌, ◌<◌, ◌≤◌, ◌+◌, ◌*◌, ◌/◌, ◌%◌, ◌^◌, Bool, true, false, ◌&&◌, ◌||◌, List, [], ◌∷◌, ◌++◌, length, refl, ap, sym, ◌∙◌, arith, leb, ltb}
 use Rattle.std.specs.Prelude.{None}
 use Rattle.std.specs.List.{sum_by}

@@ -1,4 +1,4 @@
--- What a contract sees of an image.
+-- The view that a contract has of an image.
 use Rattle.std.specs.Prelude.{ℕ, List}
 
 -- the segments of text and of data, whole, and the bytes of the stack

@@ -2,7 +2,7 @@
 
 ghost use Rattle.elf_out.specs.Laws.{WrittenIsRead};
 
-/// What a file says that is written is the memory that was to be.
+/// The image of a written file is the intended memory.
 pub fn written_is_read()
     ensures { WrittenIsRead }
 {}

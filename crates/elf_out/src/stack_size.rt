@@ -26,7 +26,7 @@ impl Model for StackSize {
 }
 
 impl StackSize {
-    /// The stack of so many bytes, or `None` where that is no multiple of 4,096 from 4,096 to 16,777,216.
+    /// The stack of this number of bytes, or `None` where that is no multiple of 4,096 from 4,096 to 16,777,216.
     pub fn new(bytes: u32) -> Option<StackSize>
         ensures some { IsSome result ↔ IsStackSize bytes }
         ensures value { IfSome result (λ size. size ≡ bytes) }
@@ -38,7 +38,7 @@ impl StackSize {
         }
     }
 
-    /// The stack that a program has where no other is asked for: 1,048,576 bytes.
+    /// The default stack of a program: 1,048,576 bytes.
     pub fn usual() -> StackSize
         ensures { result ≡ usual_stack }
     {

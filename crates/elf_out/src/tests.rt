@@ -27,7 +27,7 @@ const PROGRAM_HEADERS: [u8; 96] = [
     0, 0, 0, 0, 0, 0, 0x10, 0, 6, 0, 0, 0, 0, 0x10, 0, 0,
 ];
 
-/// The file of a text, and of data that is these bytes behind 16 zero bytes.
+/// The file of a text, and of data that is these bytes after 16 zero bytes.
 fn written(alloc: Global, text: &[u8], objects: &[u8]) -> Result<Vec<u8>, Fail> {
     let text = Vec::from_slice(alloc, text)?;
     let mut statics = Vec::from_slice(alloc, &[0; 16])?;

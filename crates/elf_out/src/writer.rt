@@ -42,7 +42,7 @@ const PROGRAM_HEADER_SIZE: u16 = 32;
 /// How many program headers there are.
 const SEGMENTS: u16 = 3;
 
-/// What a program header of type `PT_LOAD` says.
+/// The fields of a program header of type `PT_LOAD`.
 #[derive(Clone, Copy)]
 struct Segment {
     offset: u32,
@@ -57,8 +57,7 @@ struct Segment {
 /// It has three segments: the text from 0x00011000 on, where the program begins, which may only be
 /// executed; the data, from the first multiple of 4096 not below the text's end on, which may be read and
 /// written; and the stack, of as many bytes as the image says, which ends below 0x80000000, may be read and written, and of which the
-/// file holds nothing. The file ends with the last byte of the data. It is refused only for want of
-/// memory, with code 801.
+/// file holds nothing. The file ends with the last byte of the data. It fails only when out of memory, with code 801.
 pub fn write_elf(alloc: Global, image: &Image) -> Result<Vec<u8>, Fault>
     ensures bytes { IfOk result (λ file. file.items ≡ file_of image.now) }
     ensures image { IfOk result (λ file. file_image file.items ≡ Ok (program_image image.now)) }

@@ -14,10 +14,10 @@ use explain_places::blank;
 use srcset::{Code, Fault, FileSet};
 use std::alloc::{AllocError, Global};
 
-/// How many faults are told at most where no other number is asked for.
+/// The maximum number of faults reported where no other number is requested.
 pub const USUAL_FAULTS: usize = 20;
 
-/// How far a program is looked at.
+/// How far a program is checked.
 #[derive(Clone, Copy, Debug, PartialEq, Eq)]
 pub enum Stage {
     /// Up to preprocessing: translation phases 1 to 4.
@@ -29,14 +29,14 @@ pub enum Stage {
 /// The faults of a program.
 #[derive(Drop)]
 pub struct Explained {
-    /// The fault that the compiler answers.
+    /// The fault that the compiler reports.
     pub first: Finding,
-    /// The faults that the compiler would answer next without the statements, or the function bodies, of those before; in the order of the source.
+    /// The faults that the compiler would report next without the statements, or the function bodies, of those before; in the order of the source.
     pub further: Vec<Finding>,
 }
 
 /// Why the program in the file `main` of the set is refused; `None` where it is not, at this stage. `names` are those of
-/// the files of the set, `stack` is the size of its stack, and `most` is how many faults are told at most. An error: out of memory.
+/// the files of the set, `stack` is the size of its stack, and `most` is the maximum number of reported faults. An error: out of memory.
 pub fn explain(
     alloc: Global,
     set: &FileSet,
@@ -111,7 +111,7 @@ fn is_of_stage(stage: Stage, code: u16) -> bool
 #[derive(Drop)]
 struct Looking<'a> {
     set: &'a FileSet,
-    /// Its sources, in which what was passed over is blank.
+    /// Its sources, in which the skipped parts are blank.
     sources: Sources,
     includes: Includes,
     main: &'a str,
@@ -127,7 +127,7 @@ impl<'a> Looking<'a> {
         }
     }
 
-    /// A fault with what is known of it. The set has the texts as they were given.
+    /// A fault with its explanation. The set has the texts as they were given.
     fn told(&self, alloc: Global, fault: Fault) -> Result<Finding, AllocError>
         ensures { IfOk result (λ found. found.fault ≡ fault) }
     {
@@ -145,7 +145,7 @@ impl<'a> Looking<'a> {
         Ok(Finding { fault, shown })
     }
 
-    /// The next faults: each time the statement or the function body in which the last one stands is passed over.
+    /// The next faults: each time the statement or the function body that contains the last one is skipped.
     fn further(
         &mut self,
         alloc: Global,
@@ -183,7 +183,7 @@ impl<'a> Looking<'a> {
     }
 }
 
-/// Puts a finding behind those that stand before it in the sources.
+/// Puts a finding after those that precede it in the sources.
 fn put_sorted(found: &mut Vec<Finding>, finding: Finding) -> Result<(), AllocError> {
     let at = match found.iter().position(|other| is_behind(other, &finding)) {
         Some(at) => at,
@@ -193,7 +193,7 @@ fn put_sorted(found: &mut Vec<Finding>, finding: Finding) -> Result<(), AllocErr
     Ok(())
 }
 
-/// Whether a finding stands behind another in the sources; one without a place stands behind all.
+/// Whether a finding follows another in the sources; one without a place follows all.
 fn is_behind(one: &Finding, other: &Finding) -> bool {
     match (one.shown.place, other.shown.place) {
         (Some(one), Some(other)) => {
@@ -205,7 +205,7 @@ fn is_behind(one: &Finding, other: &Finding) -> bool {
     }
 }
 
-/// Makes the statement around a place empty, or else the function body; answers whether there is one.
+/// Makes the statement around a place empty, or else the function body; returns whether there is one.
 fn pass_over(
     alloc: Global,
     sources: &mut Sources,

@@ -1,4 +1,4 @@
-//! Why the compiler refuses a program, told so that a person sees it: the token, the macro and includes behind it, a hint,
+//! Explains to a person why the compiler refuses a program: the token, the macro and includes that lead to it, a hint,
 //! and the faults of the other functions.
 #![tactic(auto)]
 

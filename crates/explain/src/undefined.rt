@@ -1,4 +1,4 @@
-//! A program interpreted, and the undefined behaviour that it does.
+//! Interpreting a program, and its undefined behaviour.
 
 use cc::{Cmd, StackSize, perform};
 use explain_findings::{
@@ -11,14 +11,14 @@ use srcset::FileSet;
 use std::alloc::{AllocError, Global};
 use std::{io, str};
 
-/// What interpreting a program comes to.
+/// The result of interpreting a program.
 #[derive(Drop)]
 pub struct Interpretation {
     /// The exit status of `interp`.
     pub status: u8,
-    /// What the program wrote.
+    /// The output of the program.
     pub output: Vec<u8>,
-    /// What `interp` says on standard error.
+    /// The line that `interp` prints on standard error.
     pub line: Vec<u8>,
     /// The undefined behaviour, where it ended with one.
     pub undefined: Option<Undefined>,
@@ -29,7 +29,7 @@ pub struct Interpretation {
 pub struct Run<'a> {
     /// The bytes that it reads.
     pub input: &'a [u8],
-    /// At most so many ticks.
+    /// The maximum number of ticks.
     pub max: u64,
     pub stack: StackSize,
 }
@@ -42,7 +42,7 @@ struct RunEnd {
     line: Vec<u8>,
 }
 
-/// Where undefined behaviour stands.
+/// The place of undefined behaviour.
 #[derive(Drop)]
 struct Site {
     file: String,

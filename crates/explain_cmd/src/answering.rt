@@ -1,4 +1,4 @@
-//! What `cc explain` tells.
+//! The output of `cc explain`.
 
 ghost use Rattle.std.specs.Prelude.{◌≡◌, ◌≤◌, IfOk};
 
@@ -14,7 +14,7 @@ use explain_render::{
 use srcset::{Fault, FileSet};
 use std::alloc::{AllocError, Global};
 
-/// The form in which a fault is told.
+/// The form in which a fault is reported.
 #[derive(Clone, Copy, Debug, PartialEq, Eq)]
 pub enum Form {
     /// As text, on standard error.
@@ -25,7 +25,7 @@ pub enum Form {
     Sarif,
 }
 
-/// What a command tells.
+/// The output of a command.
 #[derive(Drop)]
 pub struct Said {
     /// On standard output.
@@ -42,12 +42,12 @@ pub struct Bounds {
     pub stage: Stage,
     /// The stack that the program is built for.
     pub stack: StackSize,
-    /// How many faults are told at most.
+    /// The maximum number of reported faults.
     pub most: usize,
 }
 
-/// The faults of the program in the file `main` of the set, told in a form; the status is 1 where there are some, else 0. `names` are those of
-/// the files of the set, and `given` is the one by which the main file is told.
+/// The faults of the program in the file `main` of the set, reported in a form; the status is 1 where there are some, else 0. `names` are those of
+/// the files of the set, and `given` is the one by which the main file is reported.
 pub fn explain_faults(
     alloc: Global,
     set: &FileSet,
@@ -63,7 +63,7 @@ pub fn explain_faults(
     tell_faults(alloc, told.as_ref(), form)
 }
 
-/// What is told in a form of the faults that were found; the status is 1 where there are some, else 0.
+/// The report, in a form, of the faults that were found; the status is 1 where there are some, else 0.
 pub fn tell_faults(alloc: Global, told: Option<&Explained>, form: Form) -> Result<Said, AllocError>
     ensures { IfOk result (λ said. said.status ≤ 1) }
 {
@@ -90,7 +90,7 @@ pub fn tell_faults(alloc: Global, told: Option<&Explained>, form: Form) -> Resul
     })
 }
 
-/// The faults of a program, in which the main file has the name by which it is told.
+/// The faults of a program, in which the main file has the name by which it is reported.
 pub fn find_faults(
     alloc: Global,
     set: &FileSet,
@@ -114,7 +114,7 @@ pub fn find_faults(
     }
 }
 
-/// Puts the name by which the main file is told in place of the one that it has in the set.
+/// Puts the name by which the main file is reported in place of the one that it has in the set.
 fn put_name(
     alloc: Global,
     main: &str,
@@ -149,7 +149,7 @@ pub fn fault_source(
     Ok(text.into_bytes())
 }
 
-/// Why a file was not read, which no source explains, told in a form; the status is 1.
+/// Why a file was not read, which no source explains, reported in a form; the status is 1.
 pub fn explain_unread(alloc: Global, fault: Fault, form: Form) -> Result<Said, AllocError>
     ensures { IfOk result (λ said. said.status ≡ 1) }
 {
@@ -231,8 +231,8 @@ fn codes(alloc: Global, told: &Explained) -> Result<Vec<u16>, AllocError> {
     Ok(codes)
 }
 
-/// A program interpreted: what it wrote, which only the text tells beside it, and its undefined
-/// behaviour explained, with the values and the calls behind it, or else the line that `interp` says. The status is that of `interp`.
+/// Interprets a program: the text that it wrote, which only the text form includes, and its undefined
+/// behaviour explained, with the values and the calls that lead to it, or else the line that `interp` prints. The status is that of `interp`.
 pub fn explain_run(
     alloc: Global,
     set: &FileSet,
@@ -271,8 +271,8 @@ pub fn explain_run(
     })
 }
 
-/// What is told in a form of a run without undefined behaviour that ended with this line: nothing, which as SARIF is a log without results. A
-/// run that ended for want of memory has no log, since nothing was found out of it.
+/// The report, in a form, of a run without undefined behaviour that ended with this line: nothing, which as SARIF is a log without results. A
+/// run that ran out of memory has no log, since nothing was found out about it.
 fn told_nothing(alloc: Global, form: Form, line: &[u8]) -> Result<String, AllocError> {
     let mut told = String::new(alloc);
     if form == Form::Sarif && !wants_memory(line) {
@@ -288,7 +288,7 @@ fn told_act(alloc: Global, form: Form, act: &Undefined) -> Result<String, AllocE
     Ok(told)
 }
 
-/// Undefined behaviour with its values and the calls behind it.
+/// Undefined behaviour with its values and the calls that lead to it.
 fn act_known(
     alloc: Global,
     set: &FileSet,

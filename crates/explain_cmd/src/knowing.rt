@@ -1,4 +1,4 @@
-//! What a second run tells of an undefined act.
+//! The facts that a second run finds out about undefined behaviour.
 
 use cc::{checked_program, interpret_observed};
 use explain::Run;
@@ -10,7 +10,7 @@ use srcset::{Code, Fault, FileSet, Names};
 use std::alloc::{AllocError, Global};
 use typed_ast::Program;
 
-/// Puts notes with the values that make the act undefined and with the calls that are active there: the program is interpreted again with an
+/// Puts notes with the values that make the operation undefined and with the calls that are active there: the program is interpreted again with an
 /// observer.
 ///
 /// Errors: memory ran out.
@@ -32,7 +32,7 @@ pub(crate) fn put_known(
     }
 }
 
-/// Interprets the program with an observer, and puts what that found where the run ends with the same act.
+/// Interprets the program with an observer, and puts its findings where the run ends with the same undefined behaviour.
 fn follow(
     alloc: Global,
     program: &Program,

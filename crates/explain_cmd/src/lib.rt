@@ -1,4 +1,4 @@
-//! The commands that explain and show: what `cc explain` tells.
+//! The commands that explain and show: the output of `cc explain`.
 #![tactic(auto)]
 
 mod answering;

@@ -1,22 +1,22 @@
-//! A port that tells on a terminal that a run goes on.
+//! A port that shows on a terminal that a run is still in progress.
 
 ghost use Rattle.std.specs.Prelude.{◌≡◌};
 
 use io_ports::{Port, PortFault};
 use std::time::{Clock, Instant};
 
-/// How many seconds a run takes before it is told.
+/// The number of seconds that a run takes before its duration is shown.
 const PATIENCE: u64 = 2;
 
-/// A port over another, which tells on standard error how long the run has taken, once a second: where that is a terminal, and nothing was
+/// A port over another, which shows on standard error how long the run has taken, once a second: where that is a terminal, and nothing was
 /// written before to a standard output that is one too.
 #[derive(Drop)]
 pub struct Watching<'a, R: Clock + Eprint, P: Port + Drop> {
     rt: &'a R,
     pub inner: P,
-    // When the run began; none where nothing is told.
+    // When the run began; none where nothing is shown.
     start: Option<Instant>,
-    // The seconds that were told last; 0 where none were.
+    // The number of seconds shown last; 0 where none was.
     told: u64,
     shares_terminal: bool,
 }
@@ -38,7 +38,7 @@ impl<'a, R: Clock + Eprint, P: Port + Drop> Watching<'a, R, P> {
         }
     }
 
-    /// Takes back what is told.
+    /// Erases the number shown.
     pub fn clear(&mut self)
         ensures { self.new.inner ≡ self.old.inner }
     {

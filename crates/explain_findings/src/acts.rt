@@ -1,9 +1,9 @@
-//! Undefined behaviour of a program that is interpreted, and what `interp` says of it.
+//! Undefined behaviour of a program that is interpreted, and the line that `interp` prints for it.
 
 use crate::finding::Shown;
 use std::alloc::{AllocError, Global};
 
-/// Whether undefined behaviour was met.
+/// Whether undefined behaviour occurred.
 #[derive(Clone, Copy, Debug, PartialEq, Eq)]
 pub enum Certainty {
     /// In a run.
@@ -18,13 +18,13 @@ pub struct Undefined {
     pub file: String,
     /// The line, counted from 1.
     pub line: u32,
-    /// The number of the act, 1 to 8.
+    /// The number of the operation, 1 to 8.
     pub act: u32,
     pub certainty: Certainty,
     pub shown: Shown,
 }
 
-/// An empty line with room for what `interp` says, which is then not lost where no more memory is given: two names of files of 4,096 bytes fit.
+/// An empty line with room for the report of `interp`, which is then not lost when memory runs out: two names of files of 4,096 bytes fit.
 pub fn room_for_line(alloc: Global) -> Result<Vec<u8>, AllocError> {
     Vec::with_capacity(alloc, 8192)
 }
@@ -34,7 +34,7 @@ pub fn wants_memory(line: &[u8]) -> bool {
     line == b"cc: 801 out of memory\n".as_slice() || line == b"cc: port fault 801\n".as_slice()
 }
 
-/// What is undefined about the act of this number, with the section of ISO/IEC 9899:2011.
+/// Why the operation of this number is undefined, with the section of ISO/IEC 9899:2011.
 pub fn act_help(act: u32) -> &'static str {
     match act {
         1 =>
@@ -54,9 +54,9 @@ pub fn act_help(act: u32) -> &'static str {
     }
 }
 
-/// What undefined behaviour is called.
+/// The title of undefined behaviour.
 impl Undefined {
-    /// The words that head the report: `undefined: ` and what the act is.
+    /// The words that head the report: `undefined: ` and the name of the operation.
     pub fn title(&self) -> &'static str {
         match self.certainty {
             Certainty::Met => act_title(self.act),
@@ -65,7 +65,7 @@ impl Undefined {
     }
 }
 
-/// The words that head the report of the act with this number.
+/// The words that head the report of the operation with this number.
 pub fn act_title(act: u32) -> &'static str {
     match act {
         1 => "undefined: signed arithmetic out of range",
@@ -79,7 +79,7 @@ pub fn act_title(act: u32) -> &'static str {
     }
 }
 
-/// The words for the act with this number where it was not ruled out.
+/// The words for the operation with this number where it was not ruled out.
 fn possible_title(act: u32) -> &'static str {
     match act {
         1 => "may be undefined: signed arithmetic out of range",

@@ -1,4 +1,4 @@
-//! What was expected at a syntax error: changes of the source are tried, and the one with which it is read furthest tells.
+//! What was expected at a syntax error: the change of the source with which parsing gets furthest shows it.
 
 use crate::asking::{Answer, Asking, Compiler};
 use crate::finding::{Noted, Place, Point, Topic, point_at};
@@ -19,7 +19,7 @@ const TO_THE_END: u32 = 0xffff_ffff;
 /// How the function looks with which a program begins.
 const MAIN_FORM: &str = "a program begins with `int main(void)`, which takes no arguments";
 
-/// Where a syntax error stands.
+/// The place of a syntax error.
 #[derive(Clone, Copy)]
 struct Site<'a> {
     sources: &'a Sources,
@@ -62,7 +62,7 @@ pub fn put_advice<C: Compiler>(
     }
 }
 
-/// Puts what is open at the end of the file, where the last token is the one that does not fit.
+/// Puts the bracket or block that is open at the end of the file, where the last token is the one that does not fit.
 fn put_open_at_end(
     alloc: Global,
     site: Site<'_>,
@@ -86,7 +86,7 @@ fn put_open_at_end(
     }
 }
 
-/// Puts what is too much in the macro that makes the token; answers whether the source can be read without it.
+/// Puts the superfluous part of the macro that makes the token; returns whether the source can be parsed without it.
 fn put_macro_body<C: Compiler>(
     alloc: Global,
     asking: &Asking<'_, C>,
@@ -127,7 +127,7 @@ fn stray_token(tokens: &Tokens<'_>, hash: usize) -> Option<Spot> {
     }
 }
 
-/// The last token of the directive in which the token with this number stands.
+/// The last token of the directive that contains the token with this number.
 fn last_of_directive(tokens: &Tokens<'_>, first: usize) -> usize {
     let mut last = first;
     for number in first..tokens.spots.len() {
@@ -217,7 +217,7 @@ fn line_reached(fault: &Fault, file: &str, trial: &Trial) -> u32 {
     }
 }
 
-/// Puts what a change says of the token that does not fit.
+/// Puts what a change shows about the token that does not fit.
 fn put_candidate(
     alloc: Global,
     site: Site<'_>,
@@ -247,7 +247,7 @@ fn put_candidate(
     Ok(())
 }
 
-/// Whether the token with this number stands between the parentheses behind `main`.
+/// Whether the token with this number is between the parentheses after `main`.
 fn is_head_of_main(words: &Words<'_>, number: usize) -> bool {
     match open_before(words, number) {
         Some(open) => matches!(words.before(open), b"main"),
@@ -278,7 +278,7 @@ fn put_expected(
     noted.put_at(alloc, Topic::Expected, file, at, text.as_str())
 }
 
-/// The token of which a change speaks: what stands behind an insertion, or else the one that does not fit.
+/// The token that a change is about: the one that follows an insertion, or else the one that does not fit.
 fn token_of<'b>(words: &Words<'b>, number: usize, candidate: Candidate) -> &'b [u8] {
     if candidate.start != candidate.end {
         return words.at(number);

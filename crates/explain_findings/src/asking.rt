@@ -1,10 +1,10 @@
-//! The compiler asked again.
+//! Runs the compiler again on changed sources.
 
 use crate::sources::Sources;
 use srcset::{Fault, FileSet};
 use std::alloc::{AllocError, Global};
 
-/// Who answers for which fault a program is refused.
+/// Returns the fault for which a program is refused.
 pub trait Compiler {
     /// The fault of the program in the file `main` of the set, where it has one. An error: out of memory.
     fn fault_of(
@@ -15,7 +15,7 @@ pub trait Compiler {
     ) -> Result<Option<Fault>, AllocError>;
 }
 
-/// A program that is asked about.
+/// A program to compile again.
 #[derive(Drop)]
 pub struct Asking<'a, C> {
     pub sources: &'a Sources,
@@ -24,7 +24,7 @@ pub struct Asking<'a, C> {
     pub compiler: &'a C,
 }
 
-/// What the compiler answers of sources in which a file has another text.
+/// The compiler's result for sources in which a file has another text.
 #[derive(Drop)]
 pub enum Answer {
     Accepted,
@@ -34,7 +34,7 @@ pub enum Answer {
 }
 
 impl<'a, C: Compiler> Asking<'a, C> {
-    /// The answer where the file of this number has this text; of the sources as they are, where no file has the number.
+    /// The result where the file of this number has this text; of the sources as they are, where no file has the number.
     pub fn answer_with(
         &self,
         alloc: Global,

@@ -1,15 +1,15 @@
-//! What is found out about a fault.
+//! What is found out about a fault: its place, notes and fixes.
 
 use explain_places::source_line;
 use srcset::{Fault, FileSet};
 use std::alloc::{AllocError, Global};
 
-/// Where a fault stands in the sources.
+/// The place of a fault in the sources.
 #[derive(Clone, Copy)]
 pub struct Place {
     /// The number of its file.
     pub file: usize,
-    /// How many bytes of the file stand before its token.
+    /// The number of bytes of the file before its token.
     pub start: usize,
     /// How many bytes there are up to the token's end.
     pub end: usize,
@@ -19,7 +19,7 @@ pub struct Place {
     pub column: usize,
 }
 
-/// What a note is about.
+/// The topic of a note.
 #[derive(Clone, Copy, Debug, PartialEq, Eq)]
 pub enum Topic {
     /// What was expected in place of the token, or is wrong with it.
@@ -30,17 +30,17 @@ pub enum Topic {
     Included,
     /// The macro that made the token.
     Macro,
-    /// A call that is active, at the line that it has come to.
+    /// A call that is active, at the line that it has reached.
     Called,
-    /// The values with which an act is undefined.
+    /// The values with which an operation is undefined.
     Value,
     /// A name that may have been meant.
     Suggestion,
-    /// What to write instead, or what the command takes.
+    /// The text to write instead, or the arguments that the command takes.
     Hint,
 }
 
-/// A note beside a fault. Its place is empty where it has none.
+/// A note on a fault. Its place is empty where it has none.
 #[derive(Drop)]
 pub struct Note {
     pub topic: Topic,
@@ -63,7 +63,7 @@ pub struct Point {
     pub points: usize,
 }
 
-/// A change of the file in which a fault stands: what stands from `start` up to `end` becomes `text`.
+/// A change of the file that contains a fault: the text from `start` up to `end` becomes `text`.
 #[derive(Drop)]
 pub struct Fix {
     pub start: Point,
@@ -71,32 +71,32 @@ pub struct Fix {
     pub text: String,
 }
 
-/// What is known beside a fault's place.
+/// The notes and fixes of a fault, in addition to its place.
 #[derive(Drop)]
 pub struct Noted {
     pub notes: Vec<Note>,
-    /// What mends the fault, where that is sure: none or one.
+    /// The change that fixes the fault, where that is certain: none or one.
     pub fixes: Vec<Fix>,
 }
 
-/// What is shown of a place beside what is wrong there.
+/// A place, and what is shown with it in addition to the fault.
 #[derive(Drop)]
 pub struct Shown {
-    /// Where the token stands, where that is known.
+    /// The place of the token, where that is known.
     pub place: Option<Place>,
     /// The token, as it is written; empty where it is not known.
     pub token: Vec<u8>,
     /// The source line; empty where the file is not known.
     pub source: Vec<u8>,
     pub notes: Vec<Note>,
-    /// A change of the file that mends the fault, where one is sure: none or one.
+    /// A change of the file that fixes the fault, where one is certain: none or one.
     pub fixes: Vec<Fix>,
 }
 
 /// A fault as it is explained.
 #[derive(Drop)]
 pub struct Finding {
-    /// What the compiler answers.
+    /// The fault that the compiler reports.
     pub fault: Fault,
     pub shown: Shown,
 }
@@ -130,7 +130,7 @@ impl Noted {
         put_note(alloc, &mut self.notes, topic, file, at, text)
     }
 
-    /// Adds a change that mends the fault.
+    /// Adds a change that fixes the fault.
     pub fn put_fix(
         &mut self,
         alloc: Global,
@@ -169,7 +169,7 @@ fn put_note(
     Ok(())
 }
 
-/// The place of the byte behind so many in a text.
+/// The line and column of the byte after the first `place` bytes of a text.
 pub fn point_at(text: &[u8], place: usize) -> Point {
     let before = text.get(..place).unwrap_or(text);
     let start = match before.iter().rposition(|byte| *byte == b'\n') {
@@ -206,7 +206,7 @@ fn points(bytes: &[u8]) -> usize {
     count
 }
 
-/// What is shown of a place in a file of the set, or of its line alone.
+/// A place in a file of the set, or its line alone, as it is shown.
 pub fn show_place(
     alloc: Global,
     set: &FileSet,

@@ -1,6 +1,6 @@
-//! What to write in place of what the compiler leaves out, and what a code means for its source.
+//! What to write in place of what the compiler leaves out, and the meaning of a code for its source.
 
-/// What helps with a fault of this code at this token; empty where nothing is sure.
+/// The hint for a fault of this code at this token; empty where nothing is certain.
 pub fn hint(code: u16, token: &[u8]) -> &'static str {
     match code {
         301 | 302 | 607 => literal_hint(code, token),
@@ -26,7 +26,7 @@ pub fn hint(code: u16, token: &[u8]) -> &'static str {
     }
 }
 
-/// What helps with a fault of the preprocessor, or one that is about the files of the command.
+/// The hint for a fault of the preprocessor, or one that is about the files of the command.
 fn whole_hint(code: u16, token: &[u8]) -> &'static str {
     match code {
         111 => "end the last line of the file with a newline",
@@ -42,7 +42,7 @@ fn whole_hint(code: u16, token: &[u8]) -> &'static str {
     }
 }
 
-/// What helps where a file is not found.
+/// The hint where a file is not found.
 fn include_hint(token: &[u8]) -> &'static str {
     match token {
         b"<stdio.h>" | b"<stdlib.h>" | b"<string.h>" | b"<unistd.h>" =>
@@ -54,7 +54,7 @@ fn include_hint(token: &[u8]) -> &'static str {
     }
 }
 
-/// What helps with a token that is none, or with a literal.
+/// The hint for a token that is none, or for a literal.
 fn literal_hint(code: u16, token: &[u8]) -> &'static str {
     match (code, token) {
         (301, b"\"") => "no `\"` closes this string literal in its line",

@@ -52,7 +52,7 @@ impl Includes {
         Ok(())
     }
 
-    /// Notes who includes a file; answers whether that is new.
+    /// Notes the file that includes a file; returns whether that is new.
     fn notes(&mut self, to: usize, file: usize, line: u32) -> bool {
         match self.by.get_mut(to) {
             Some(entry) if entry.is_none() => {

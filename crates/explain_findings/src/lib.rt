@@ -1,4 +1,4 @@
-//! What is found out about a fault beside what the compiler answers: its token, the macro and the includes behind it, what was expected or meant.
+//! Finds out about a fault, in addition to the compiler's report: its token, its macro and its includes, and what was expected or meant.
 #![tactic(auto)]
 
 mod acts;

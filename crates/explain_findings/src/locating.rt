@@ -1,4 +1,4 @@
-//! Which token a fault speaks of.
+//! The token that a fault is about.
 
 use crate::asking::{Asking, Compiler};
 use crate::finding::Place;
@@ -6,8 +6,8 @@ use explain_places::{Spot, Tokens, column, laid_out};
 use srcset::Fault;
 use std::alloc::{AllocError, Global};
 
-/// The place of a fault. A line of a directive has it by what the fault speaks of; for any other, the line is laid out
-/// anew, a token a line, and the compiler asked again.
+/// The place of a fault. On a line of a directive it follows from the subject of the fault; any other line is laid out
+/// anew, one token a line, and compiled again.
 pub fn place_of<C: Compiler>(
     alloc: Global,
     asking: &Asking<'_, C>,
@@ -43,7 +43,7 @@ pub fn place_of<C: Compiler>(
     })
 }
 
-/// Whether the fault with this code speaks of a token, and not of a file or the whole program.
+/// Whether the fault with this code is about a token, and not about a file or the whole program.
 fn speaks_of_token(code: u16) -> bool {
     !matches!(code, 101..=113 | 551 | 701..=703 | 708 | 711 | 713 | 715 | 716 | 801..=907)
 }
@@ -59,7 +59,7 @@ pub fn place_at(file: usize, text: &[u8], spot: Spot) -> Place {
     }
 }
 
-/// The token of a line behind so many; those of directives do not count.
+/// The token of a line after the first `count`; those of directives do not count.
 pub fn nth_on_line(spots: &[Spot], line: u32, count: u32) -> Option<Spot> {
     spots
         .iter()
@@ -73,7 +73,7 @@ fn directive_at(tokens: &Tokens<'_>, line: u32) -> Option<usize> {
     tokens.spots.iter().position(|spot| spot.line == line && spot.is_first && spot.in_directive)
 }
 
-/// The token of a directive that a fault of this code speaks of, by its number.
+/// The token of a directive that a fault of this code is about, by its number.
 fn in_directive(tokens: &Tokens<'_>, hash: usize, code: u16) -> usize {
     let behind = match code {
         201 | 202 | 204 | 205 | 208 | 221..=223 | 232 | 235 | 704 | 705 => 2,
@@ -87,7 +87,7 @@ fn in_directive(tokens: &Tokens<'_>, hash: usize, code: u16) -> usize {
     }
 }
 
-/// How far behind the `#` of a directive the next `#` stands; 2 where none does.
+/// The distance in tokens from the `#` of a directive to the next `#`; 2 where there is none.
 fn stray_hash(tokens: &Tokens<'_>, hash: usize) -> usize {
     let first = hash.saturating_add(1);
     let rest = tokens.all().get(first..).unwrap_or_default();

@@ -12,7 +12,7 @@ pub struct MacroPlace {
     pub file: usize,
     /// The number of the directive's `#` among the tokens of the file.
     pub hash: usize,
-    /// How many bytes stand before the macro's name.
+    /// The number of bytes before the macro's name.
     start: usize,
 }
 
@@ -51,7 +51,7 @@ pub fn put_macro_note(
     }
 }
 
-/// The number of the `#` of the directive that defines a macro, and how many bytes stand before the name.
+/// The number of the `#` of the directive that defines a macro, and the number of bytes before the name.
 fn definition(tokens: &Tokens<'_>, name: &[u8]) -> Option<(usize, usize)> {
     let hash = (0..tokens.spots.len()).find(|number| defines(tokens, *number, name))?;
     let spot = tokens.spot(hash.saturating_add(2))?;

@@ -27,7 +27,7 @@ struct Nearby {
 }
 
 impl Nearby {
-    /// No name yet for one of so many letters: at most a third of them may be others, and one at least.
+    /// No name yet for one of `length` letters: at most a third of them may differ, and one at least.
     fn of(alloc: Global, length: usize) -> Nearby {
         Nearby {
             name: String::new(alloc),
@@ -97,7 +97,7 @@ fn try_visible(
     Ok(())
 }
 
-/// Tries the macros of a file, and, where it is another than the one that is asked about, what it declares at file scope.
+/// Tries the macros of a file, and, where it is not the file in question, the names that it declares at file scope.
 fn try_file(
     alloc: Global,
     text: &[u8],

@@ -1,4 +1,4 @@
-//! The notes beside a fault.
+//! The notes on a fault.
 
 use crate::advising::put_advice;
 use crate::asking::{Asking, Compiler};
@@ -14,8 +14,8 @@ use explain_places::{Spot, Tokens};
 use srcset::Fault;
 use std::alloc::{AllocError, Global};
 
-/// The notes of a fault: the macro of its token, the includes that lead to it, what was expected or meant, the other place that it has to
-/// do with, a hint, and the files that nothing includes, where the fault may come from that.
+/// The notes of a fault: the macro of its token, the includes that lead to it, what was expected or meant, the other place that is involved,
+/// a hint, and the files that nothing includes, where the fault may come from that.
 pub fn notes<C: Compiler>(
     alloc: Global,
     asking: &Asking<'_, C>,
@@ -79,7 +79,7 @@ fn put_place_notes<C: Compiler>(
     noted.put_text(alloc, Topic::Hint, hint(fault.code, token))
 }
 
-/// Puts what may be meant by a header or a directive, and what is too much in it.
+/// Puts the header or directive that may be meant, and the superfluous tokens in it.
 fn put_directive_notes(
     alloc: Global,
     sources: &Sources,
@@ -103,7 +103,7 @@ fn put_directive_notes(
     put_suggestion(alloc, meant, noted)
 }
 
-/// Puts what stands behind the header of an `#include`.
+/// Puts the tokens after the header of an `#include`.
 fn put_behind_header(
     alloc: Global,
     file: &str,
@@ -126,7 +126,7 @@ fn put_behind_header(
     noted.put_fix(alloc, start, end, "")
 }
 
-/// The second token behind the one that begins there, where it is of the same directive.
+/// The second token after the one that begins there, where it is of the same directive.
 fn token_behind(tokens: &Tokens<'_>, start: usize) -> Option<Spot> {
     let number = tokens.spots.iter().position(|spot| spot.start == start)?;
     let spot = tokens.spot(number.saturating_add(2))?;

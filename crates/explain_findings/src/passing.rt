@@ -1,12 +1,12 @@
-//! What is passed over so that the next fault is met.
+//! The tokens that are skipped so that the next fault is found.
 
 use declaration_places::{close_behind, is_identifier, is_type_word, open_before};
 use explain_places::{Spot, Tokens, bodies};
 use source_words::{Span, Words};
 use std::alloc::{AllocError, Global};
 
-/// The places of the tokens that are passed over for a fault of this code at the byte behind so many: of its statement, where nothing else
-/// depends on that, or else of the function body around it; none where it stands in none.
+/// The places of the tokens that are skipped for a fault of this code at byte `start`: of its statement, where nothing else
+/// depends on that, or else of the function body around it; none where it is in none.
 pub fn spots_to_pass(
     alloc: Global,
     text: &[u8],
@@ -25,7 +25,7 @@ pub fn spots_to_pass(
     }
 }
 
-/// The places of the tokens of the function body in which the byte behind so many stands; empty where it stands in none.
+/// The places of the tokens of the function body that contains byte `start`; empty where it is in none.
 fn body_spots(alloc: Global, text: &[u8], start: usize) -> Result<Vec<Spot>, AllocError> {
     let none = Vec::new(alloc);
     let Some(tokens) = Tokens::of(alloc, text)? else {
@@ -40,7 +40,7 @@ fn body_spots(alloc: Global, text: &[u8], start: usize) -> Result<Vec<Spot>, All
     Ok(none)
 }
 
-/// Whether the byte behind so many stands between the first of these tokens and the last.
+/// Whether byte `start` is between the first of these tokens and the last.
 fn is_within(spots: &[Spot], start: usize) -> bool {
     match (spots.first(), spots.last()) {
         (Some(first), Some(last)) => first.start <= start && start < last.end,
@@ -164,7 +164,7 @@ fn statement_front(words: &Words<'_>, number: usize) -> usize {
     first
 }
 
-/// The `;` that ends the statement, where no block stands before it.
+/// The `;` that ends the statement, where no block precedes it.
 fn statement_end(words: &Words<'_>, first: usize) -> Option<usize> {
     let mut number = first;
     for _ in first..words.list.len() {

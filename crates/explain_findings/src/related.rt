@@ -99,7 +99,7 @@ fn object_declared(
     Ok(last_named(words, declared.as_slice(), words.at(before)))
 }
 
-/// Puts why what stands before an operator can be neither assigned nor subscripted.
+/// Puts why the operand before an operator can be neither assigned nor subscripted.
 fn put_object(
     alloc: Global,
     words: &Words<'_>,
@@ -208,7 +208,7 @@ fn put_array_hint(alloc: Global, code: u16, noted: &mut Noted) -> Result<(), All
     )
 }
 
-/// Puts what to write for a string literal where a value is wanted.
+/// Puts the text to write for a string literal where a value is wanted.
 fn put_literal_hint(
     alloc: Global,
     token: &[u8],
@@ -250,7 +250,7 @@ fn put_count(
     Ok(())
 }
 
-/// Puts both counts where a file declares a function of this name at file scope; answers whether it does.
+/// Puts both counts where a file declares a function of this name at file scope; returns whether it does.
 fn put_count_of(
     alloc: Global,
     text: &[u8],
@@ -365,7 +365,7 @@ fn is_array_name(words: &Words<'_>, declared: &[Declared], argument: Span) -> bo
     }
 }
 
-/// Puts which size of an array is wanted, where one behind the first is left out.
+/// Puts which size of an array is wanted, where one after the first is left out.
 fn put_sizes(
     alloc: Global,
     words: &Words<'_>,
@@ -406,7 +406,7 @@ fn put_label(
     }
 }
 
-/// Puts what the function around a `return` gives.
+/// Puts the type that the function around a `return` returns.
 fn put_return(
     alloc: Global,
     words: &Words<'_>,

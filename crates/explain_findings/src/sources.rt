@@ -1,4 +1,4 @@
-//! The source files that are asked about, which may be laid out otherwise.
+//! The source files of the program in question, which may be laid out otherwise.
 
 use srcset::{Code, FileSet};
 use std::alloc::{AllocError, Global};
@@ -89,7 +89,7 @@ impl Sources {
     }
 }
 
-/// Adds a file to a set; answers false where the set does not take it. An error: out of memory.
+/// Adds a file to a set; returns false where the set does not take it. An error: out of memory.
 pub fn add_file(set: &mut FileSet, name: &str, text: Vec<u8>) -> Result<bool, AllocError> {
     match set.add(name, text) {
         Ok(()) => Ok(true),

@@ -15,7 +15,7 @@ use std::alloc::{AllocError, Global};
 /// The most names of a macro that are tried.
 const MAX_TRIED: usize = 16;
 
-/// Puts what may be meant by the undeclared name at this place, or what declares it.
+/// Puts the name that may be meant by the undeclared name at this place, or the file or header that declares it.
 pub fn put_undeclared<C: Compiler>(
     alloc: Global,
     asking: &Asking<'_, C>,
@@ -63,7 +63,7 @@ fn is_counter(words: &Words<'_>, number: usize) -> bool {
     )
 }
 
-/// Puts the nearest name that is visible, as what may be meant.
+/// Puts the nearest visible name, as a suggestion.
 fn put_nearest(
     alloc: Global,
     sources: &Sources,
@@ -83,7 +83,7 @@ fn put_nearest(
     noted.put_fix(alloc, start, end, meant)
 }
 
-/// Puts where a file declares the name behind its use; answers whether it does.
+/// Puts where a file declares the name after its use; returns whether it does.
 fn put_later(
     alloc: Global,
     file: &str,
@@ -107,7 +107,7 @@ fn put_later(
     }
 }
 
-/// What declares a name that people know; empty where it is none of these.
+/// The header or declaration of a well-known name; empty for any other name.
 fn library_help(name: &[u8]) -> &'static str {
     match name {
         b"rv_getbyte" | b"rv_putbyte" | b"rv_exit" => "`#include <rvio.h>` declares it",
@@ -198,7 +198,7 @@ fn is_cause<C: Compiler>(
     })
 }
 
-/// Whether a fault of the same code stands behind another in its file, or in another file.
+/// Whether a fault of the same code follows another in its file, or is in another file.
 fn is_later(other: &Fault, fault: &Fault) -> bool {
     other.code == fault.code
         && (other.file.as_str() != fault.file.as_str() || other.line > fault.line)

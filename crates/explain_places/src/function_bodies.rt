@@ -6,13 +6,13 @@ use std::alloc::{AllocError, Global};
 /// The body of a function: the tokens between its outermost braces, by their numbers in the file.
 #[derive(Clone, Copy)]
 pub struct Body {
-    /// The token behind `{`.
+    /// The token after `{`.
     pub first: usize,
     /// The `}`.
     pub past: usize,
 }
 
-/// What has been passed of a file's tokens.
+/// The state of a walk over a file's tokens.
 #[derive(Clone, Copy)]
 struct Passed {
     depth: usize,
@@ -21,7 +21,7 @@ struct Passed {
     closes_list: bool,
 }
 
-/// The bodies in a file: at no other brace's inside, `{` directly behind `)`, through the `}` that closes it. A body that is
+/// The bodies in a file: at no other brace's inside, `{` directly after `)`, through the `}` that closes it. A body that is
 /// not closed is none. Directives are passed over.
 pub fn bodies(alloc: Global, tokens: &Tokens<'_>) -> Result<Vec<Body>, AllocError> {
     let mut found = Vec::new(alloc);
@@ -40,7 +40,7 @@ pub fn bodies(alloc: Global, tokens: &Tokens<'_>) -> Result<Vec<Body>, AllocErro
     Ok(found)
 }
 
-/// Passes a token; answers the body that it closes.
+/// Passes a token; returns the body that it closes.
 fn pass(passed: &mut Passed, number: usize, spelling: &[u8]) -> Option<Body> {
     let closes_list = passed.closes_list;
     passed.closes_list = matches!(spelling, b")");

@@ -1,10 +1,10 @@
-//! A source file laid out otherwise, so that what a compiler says of a line tells which token it speaks of.
+//! A source file laid out otherwise, so that the line of a compiler's message identifies the token that it is about.
 
 use crate::spots::Spot;
 use std::alloc::{AllocError, Global};
 
-/// The same file where each token of this line but the first begins a line of its own: the k-th token, counted from 0, then
-/// stands k lines further on. Tokens of directives stay.
+/// The same file where each token of this line but the first begins a line of its own: the k-th token, counted from 0, is then k lines further on. Tokens of
+/// directives stay.
 pub fn laid_out(
     alloc: Global,
     bytes: &[u8],

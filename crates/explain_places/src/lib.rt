@@ -1,4 +1,4 @@
-//! Where the tokens of a source file stand in its bytes, and the same file laid out otherwise.
+//! The places of the tokens of a source file in its bytes, and the same file laid out otherwise.
 #![tactic(auto)]
 
 mod function_bodies;

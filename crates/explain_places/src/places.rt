@@ -1,6 +1,6 @@
 //! Lines and columns.
 
-/// The column of the byte behind so many, counted in bytes from 1.
+/// The column of the byte after the first `start`, counted in bytes from 1.
 pub fn column(bytes: &[u8], start: usize) -> usize {
     let Some(before) = bytes.get(..start) else {
         return 1;

@@ -5,10 +5,10 @@ use phases::{Lines, PpToken, try_scan};
 use srcset::{MAX_FILE_BYTES, Refusal};
 use std::alloc::{AllocError, Global};
 
-/// Where a token stands in the bytes of its file.
+/// The place of a token in the bytes of its file.
 #[derive(Clone, Copy)]
 pub struct Spot {
-    /// How many bytes stand before it.
+    /// How many bytes precede it.
     pub start: usize,
     /// How many bytes there are up to its end.
     pub end: usize,
@@ -16,7 +16,7 @@ pub struct Spot {
     pub line: u32,
     /// Whether it is the first of its line.
     pub is_first: bool,
-    /// Whether it stands in a directive.
+    /// Whether it is in a directive.
     pub in_directive: bool,
 }
 
@@ -81,7 +81,7 @@ fn spots(alloc: Global, bytes: &[u8], lines: &Lines<'_>) -> Result<Option<Vec<Sp
     Ok(Some(spots))
 }
 
-/// Puts the places of the tokens of a line; answers the bytes behind them.
+/// Adds the places of the tokens of a line; returns the bytes after them.
 fn put_line<'b>(
     spots: &mut Vec<Spot>,
     bytes: &[u8],

@@ -1,6 +1,6 @@
 //! The bytes of a source file, passed piece by piece (ISO/IEC 9899:2011 5.1.1.2, phases 1 to 3).
 
-/// The bytes behind the first `count`.
+/// The bytes after the first `count`.
 fn behind(bytes: &[u8], count: usize) -> &[u8] {
     match bytes.get(count..) {
         Some(rest) => rest,
@@ -8,7 +8,7 @@ fn behind(bytes: &[u8], count: usize) -> &[u8] {
     }
 }
 
-/// The bytes behind a text that stands in front.
+/// The bytes after a text at the front.
 fn past_text<'a>(bytes: &'a [u8], text: &[u8]) -> Option<&'a [u8]> {
     if bytes.starts_with(text) {
         Some(behind(bytes, text.len()))
@@ -17,7 +17,7 @@ fn past_text<'a>(bytes: &'a [u8], text: &[u8]) -> Option<&'a [u8]> {
     }
 }
 
-/// The bytes behind a line splice that stands in front.
+/// The bytes after a line splice at the front.
 fn past_splice(bytes: &[u8]) -> Option<&[u8]> {
     let backslash = match past_text(bytes, b"??/") {
         Some(rest) => rest,
@@ -29,7 +29,7 @@ fn past_splice(bytes: &[u8]) -> Option<&[u8]> {
     }
 }
 
-/// The bytes behind all line splices in front.
+/// The bytes after all line splices at the front.
 fn past_splices(bytes: &[u8]) -> &[u8] {
     let mut rest = bytes;
     for _ in 0..bytes.len() {
@@ -41,7 +41,7 @@ fn past_splices(bytes: &[u8]) -> &[u8] {
     rest
 }
 
-/// The bytes behind the comment whose opening has been passed: from its `*/` on, or none.
+/// The bytes after the comment whose opening has been passed: from its `*/` on, or none.
 fn past_comment(bytes: &[u8]) -> &[u8] {
     match bytes.windows(2).position(|pair| matches!(pair, b"*/")) {
         Some(count) => behind(bytes, count.saturating_add(2)),
@@ -64,7 +64,7 @@ fn past_line(bytes: &[u8]) -> &[u8] {
     rest
 }
 
-/// The bytes behind the white space, the comment or the splice that stands in front.
+/// The bytes after the white space, the comment or the splice at the front.
 fn past_piece(bytes: &[u8]) -> Option<&[u8]> {
     match bytes.first()? {
         b' ' | b'\t' | b'\n' | b'\r' | 0x0b | 0x0c => Some(behind(bytes, 1)),
@@ -76,7 +76,7 @@ fn past_piece(bytes: &[u8]) -> Option<&[u8]> {
     }
 }
 
-/// The bytes behind all that stands before a token.
+/// The bytes after all that precedes a token.
 pub fn past_gap(bytes: &[u8]) -> &[u8] {
     let mut rest = bytes;
     for _ in 0..bytes.len() {
@@ -88,7 +88,7 @@ pub fn past_gap(bytes: &[u8]) -> &[u8] {
     rest
 }
 
-/// The bytes behind this character, which may be written as a trigraph.
+/// The bytes after this character, which may be written as a trigraph.
 fn past_character(bytes: &[u8], character: u8) -> Option<&[u8]> {
     if bytes.first() == Some(&character) {
         return Some(behind(bytes, 1));
@@ -108,7 +108,7 @@ fn past_character(bytes: &[u8], character: u8) -> Option<&[u8]> {
     past_text(bytes, trigraph)
 }
 
-/// The bytes behind a token of this spelling, which may have splices and trigraphs in it.
+/// The bytes after a token of this spelling, which may have splices and trigraphs in it.
 pub fn past_spelling<'a>(bytes: &'a [u8], spelling: &[u8]) -> Option<&'a [u8]> {
     if let Some(rest) = past_text(bytes, spelling) {
         return Some(rest);

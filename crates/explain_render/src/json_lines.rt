@@ -6,8 +6,8 @@ use explain_findings::{Finding, Fix, Note, Shown, Topic, Undefined};
 use srcset::message;
 use std::alloc::{AllocError, Global};
 
-/// Puts a fault as one object on a line of its own, with the members file, line, column, end, code, text, token and notes, and fix
-/// where a change mends it. The code is a string, of digits for a fault. Columns are counted in bytes from 1, `end` is that behind the token; both are null where they are not known.
+/// Prints a fault as one object on a line of its own, with the members file, line, column, end, code, text, token and notes, and fix where a change corrects
+/// it. The code is a string, of digits for a fault. Columns are counted in bytes from 1, `end` is that after the token; both are null where they are not known.
 pub fn put_json(alloc: Global, finding: &Finding, out: &mut String) -> Result<(), AllocError> {
     let fault = &finding.fault;
     let code = fault.code;
@@ -24,7 +24,7 @@ pub fn put_json(alloc: Global, finding: &Finding, out: &mut String) -> Result<()
     put_json_report(alloc, report, out)
 }
 
-/// Puts undefined behaviour in the same form; its code is U1 to U8.
+/// Prints undefined behaviour in the same form; its code is U1 to U8.
 pub fn put_json_undefined(
     alloc: Global,
     undefined: &Undefined,
@@ -35,7 +35,7 @@ pub fn put_json_undefined(
     put_json_report(alloc, Report::of_act(undefined, code.as_str()), out)
 }
 
-/// Puts a report in the same form.
+/// Prints a report in the same form.
 pub fn put_json_report(
     alloc: Global,
     report: Report<'_>,
@@ -47,7 +47,7 @@ pub fn put_json_report(
     put_rest(alloc, report.text, report.shown, out)
 }
 
-/// Puts the members that tell a place.
+/// Prints the members that describe a place.
 fn put_place(
     alloc: Global,
     file: &str,
@@ -61,7 +61,7 @@ fn put_place(
     put_columns(alloc, shown, out)
 }
 
-/// Puts the members text, token, notes and fix, and the end of the line.
+/// Prints the members text, token, notes and fix, and the end of the line.
 fn put_rest(alloc: Global, text: &str, shown: &Shown, out: &mut String) -> Result<(), AllocError> {
     out.push_str(",\"text\":")?;
     put_string(alloc, text, out)?;
@@ -77,7 +77,7 @@ fn put_rest(alloc: Global, text: &str, shown: &Shown, out: &mut String) -> Resul
     out.push_str("}\n")
 }
 
-/// Puts the member fix: the lines and columns of what is replaced, and the text that stands there instead.
+/// Prints the member fix: the lines and columns of the replaced text, and its replacement.
 fn put_fix(alloc: Global, fix: &Fix, out: &mut String) -> Result<(), AllocError> {
     let (line, column) = (fix.start.line, fix.start.column);
     let (end_line, end) = (fix.end.line, fix.end.column);
@@ -88,14 +88,14 @@ fn put_fix(alloc: Global, fix: &Fix, out: &mut String) -> Result<(), AllocError>
     out.push_str("}")
 }
 
-/// The text of a fault's code, and what the fault adds to it.
+/// The text of a fault's code, and the text that the fault adds to it.
 pub(crate) fn said(alloc: Global, finding: &Finding) -> Result<String, AllocError> {
     let mut text = String::from_str(alloc, message(finding.fault.code))?;
     text.push_str(finding.fault.text.as_str())?;
     Ok(text)
 }
 
-/// Puts the members column and end.
+/// Prints the members column and end.
 fn put_columns(alloc: Global, shown: &Shown, out: &mut String) -> Result<(), AllocError> {
     let column = column_of(shown);
     if column == 0 {
@@ -118,7 +118,7 @@ fn put_notes(alloc: Global, notes: &[Note], out: &mut String) -> Result<(), Allo
     Ok(())
 }
 
-/// Puts a note: its topic, its text, and where it has one its place.
+/// Prints a note: its topic, its text, and where it has one its place.
 fn put_note(alloc: Global, note: &Note, out: &mut String) -> Result<(), AllocError> {
     out.push_str("{\"topic\":\"")?;
     out.push_str(match note.topic {
@@ -145,7 +145,7 @@ fn put_note(alloc: Global, note: &Note, out: &mut String) -> Result<(), AllocErr
     out.push_str("}")
 }
 
-/// Puts a string with its quotes: `"`, `\` and the characters below U+0020 are escaped (RFC 8259, section 7).
+/// Prints a string with its quotes: `"`, `\` and the characters below U+0020 are escaped (RFC 8259, section 7).
 pub(crate) fn put_string(alloc: Global, text: &str, out: &mut String) -> Result<(), AllocError> {
     out.push('"')?;
     for letter in text.chars() {

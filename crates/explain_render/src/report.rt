@@ -1,11 +1,11 @@
-//! What is reported of a place.
+//! A report on a place.
 
 use explain_findings::{Certainty, Shown, Undefined};
 
 /// A report about a place of the sources.
 #[derive(Clone, Copy)]
 pub struct Report<'a> {
-    /// The code of what is reported: the digits of a fault's, U1 to U8, or a word.
+    /// The code of the report: the digits of a fault's, U1 to U8, or a word.
     pub code: &'a str,
     pub text: &'a str,
     /// How grave it is (SARIF 2.1.0, 3.27.10): `error` or `warning`.

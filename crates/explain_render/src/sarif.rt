@@ -7,8 +7,8 @@ use explain_findings::{Finding, Fix, Note, Shown, Undefined, act_help, act_title
 use srcset::message;
 use std::alloc::{AllocError, Global};
 
-/// Puts what stands before the results: the program with its version and its rules, one for each of these codes of faults and each of these
-/// numbers of undefined acts.
+/// Prints the part before the results: the program with its version and its rules, one for each of these codes of faults and each of these numbers of undefined
+/// behaviours.
 pub fn put_sarif_start(
     alloc: Global,
     version: &str,
@@ -22,7 +22,7 @@ pub fn put_sarif_start(
     put_sarif_results(out)
 }
 
-/// Puts what stands before the rules: the program with its version.
+/// Prints the part before the rules: the program with its version.
 pub fn put_sarif_tool(alloc: Global, version: &str, out: &mut String) -> Result<(), AllocError> {
     out.push_str(
         "{\"$schema\":\"https://json.schemastore.org/sarif-2.1.0.json\",\"version\":\"2.1.0\",\"runs\":[",
@@ -32,12 +32,12 @@ pub fn put_sarif_tool(alloc: Global, version: &str, out: &mut String) -> Result<
     out.push_str(",\"rules\":[")
 }
 
-/// Puts what stands between the rules and the results.
+/// Prints the part between the rules and the results.
 pub fn put_sarif_results(out: &mut String) -> Result<(), AllocError> {
     out.push_str("]}},\"columnKind\":\"unicodeCodePoints\",\"results\":[")
 }
 
-/// The version alone, without what follows a comma.
+/// The version alone, without the part from a comma on.
 fn plain_version(version: &str) -> &str {
     match version.split_once(',') {
         Some((plain, _)) => plain,
@@ -45,7 +45,7 @@ fn plain_version(version: &str) -> &str {
     }
 }
 
-/// Puts a rule for each of these codes (3.49).
+/// Prints a rule for each of these codes (3.49).
 fn put_code_rules(alloc: Global, codes: &[u16], out: &mut String) -> Result<(), AllocError> {
     let mut is_first = true;
     for code in codes {
@@ -63,7 +63,7 @@ fn put_code_rules(alloc: Global, codes: &[u16], out: &mut String) -> Result<(), 
     Ok(())
 }
 
-/// Puts the rules of these undefined acts, where no other stands before them.
+/// Prints the rules of these undefined behaviours, where no other rule precedes them.
 pub fn put_sarif_act_rules(
     alloc: Global,
     acts: &[u32],
@@ -72,7 +72,7 @@ pub fn put_sarif_act_rules(
     put_act_rules(alloc, acts, true, out)
 }
 
-/// Puts a rule for each of these undefined acts.
+/// Prints a rule for each of these undefined behaviours.
 fn put_act_rules(
     alloc: Global,
     acts: &[u32],
@@ -97,7 +97,7 @@ fn put_comma(is_first: bool, out: &mut String) -> Result<(), AllocError> {
     out.push_str(",")
 }
 
-/// Puts a rule (3.49).
+/// Prints a rule (3.49).
 pub fn put_sarif_rule(
     alloc: Global,
     id: &str,
@@ -116,7 +116,7 @@ pub fn put_sarif_rule(
     out.push_str("}}")
 }
 
-/// Puts the words of a text as one name, each with a capital letter.
+/// Prints the words of a text as one name, each with a capital letter.
 fn put_name(title: &str, out: &mut String) -> Result<(), AllocError> {
     let mut begins = true;
     for letter in title.chars() {
@@ -132,7 +132,7 @@ fn put_name(title: &str, out: &mut String) -> Result<(), AllocError> {
     Ok(())
 }
 
-/// Puts a fault as a result; a comma stands before each but the first.
+/// Prints a fault as a result; a comma precedes each but the first.
 pub fn put_sarif_result(
     alloc: Global,
     finding: &Finding,
@@ -154,7 +154,7 @@ pub fn put_sarif_result(
     put_sarif_report(alloc, report, is_first, out)
 }
 
-/// Puts undefined behaviour as the only result.
+/// Prints undefined behaviour as the only result.
 pub fn put_sarif_undefined(
     alloc: Global,
     undefined: &Undefined,
@@ -165,7 +165,7 @@ pub fn put_sarif_undefined(
     put_sarif_report(alloc, Report::of_act(undefined, code.as_str()), true, out)
 }
 
-/// Puts a report as a result (3.27); a comma stands before each but the first.
+/// Prints a report as a result (3.27); a comma precedes each but the first.
 pub fn put_sarif_report(
     alloc: Global,
     report: Report<'_>,
@@ -193,7 +193,7 @@ pub fn put_sarif_report(
     out.push_str("}")
 }
 
-/// Puts what stands behind the results.
+/// Prints the part after the results.
 pub fn put_sarif_end(out: &mut String) -> Result<(), AllocError> {
     out.push_str("]}]}\n")
 }
@@ -216,7 +216,7 @@ fn whole_text(alloc: Global, title: &str, shown: &Shown) -> Result<String, Alloc
     Ok(text)
 }
 
-/// Puts a place. A region has lines of 1 or more (3.30.5), so that a fault of the whole file has none.
+/// Prints a place. A region has lines of 1 or more (3.30.5), so that a fault of the whole file has none.
 fn put_location(
     alloc: Global,
     file: &str,
@@ -249,20 +249,20 @@ fn point_column(shown: &Shown) -> usize {
     }
 }
 
-/// Puts the beginning of a location, up to the URI of its file.
+/// Prints the beginning of a location, up to the URI of its file.
 fn put_file(name: &str, out: &mut String) -> Result<(), AllocError> {
     out.push_str("{\"physicalLocation\":")?;
     put_artifact(name, out)
 }
 
-/// Puts the beginning of an object that names a file first.
+/// Prints the beginning of an object that names a file first.
 fn put_artifact(name: &str, out: &mut String) -> Result<(), AllocError> {
     out.push_str("{\"artifactLocation\":{\"uri\":\"")?;
     put_uri(name, out)?;
     out.push_str("\"}")
 }
 
-/// Puts the beginning of a region, which is not closed yet; nothing where the line is 0.
+/// Prints the beginning of a region, which is not closed yet; nothing where the line is 0.
 fn put_line(alloc: Global, line: u32, column: usize, out: &mut String) -> Result<(), AllocError> {
     if line == 0 {
         return Ok(());
@@ -274,7 +274,7 @@ fn put_line(alloc: Global, line: u32, column: usize, out: &mut String) -> Result
     Ok(())
 }
 
-/// Puts the notes that have a place, by its line: what stands before a note's column, in bytes, is not at hand.
+/// Prints the notes that have a place, by its line: the bytes before a note's column are not available.
 fn put_related(alloc: Global, notes: &[Note], out: &mut String) -> Result<(), AllocError> {
     let mut is_first = true;
     for note in notes {
@@ -301,7 +301,7 @@ fn put_related(alloc: Global, notes: &[Note], out: &mut String) -> Result<(), Al
     out.push_str("]")
 }
 
-/// Puts a change of the file that mends the fault (3.55 to 3.57).
+/// Prints a change of the file that mends the fault (3.55 to 3.57).
 fn put_fix(alloc: Global, file: &str, fix: &Fix, out: &mut String) -> Result<(), AllocError> {
     let (line, column) = (fix.start.line, fix.start.points);
     let (end_line, end) = (fix.end.line, fix.end.points);
@@ -315,7 +315,7 @@ fn put_fix(alloc: Global, file: &str, fix: &Fix, out: &mut String) -> Result<(),
     out.push_str("}}]}]}]")
 }
 
-/// Puts a name as a relative reference: all but letters, digits and `-._~/` is percent-encoded (RFC 3986, 2.1).
+/// Prints a name as a relative reference: all but letters, digits and `-._~/` is percent-encoded (RFC 3986, 2.1).
 fn put_uri(name: &str, out: &mut String) -> Result<(), AllocError> {
     for byte in name.as_bytes() {
         match *byte {

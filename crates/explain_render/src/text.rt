@@ -13,7 +13,7 @@ pub enum Style {
 }
 
 impl Style {
-    /// What begins bold text in red.
+    /// The beginning of bold text in red.
     fn red(self) -> &'static str {
         match self {
             Style::Plain => "",
@@ -21,7 +21,7 @@ impl Style {
         }
     }
 
-    /// What begins text in cyan.
+    /// The beginning of text in cyan.
     fn cyan(self) -> &'static str {
         match self {
             Style::Plain => "",
@@ -29,7 +29,7 @@ impl Style {
         }
     }
 
-    /// What begins bold text.
+    /// The beginning of bold text.
     fn bold(self) -> &'static str {
         match self {
             Style::Plain => "",
@@ -37,7 +37,7 @@ impl Style {
         }
     }
 
-    /// What ends all of these.
+    /// The end of all of these.
     fn end(self) -> &'static str {
         match self {
             Style::Plain => "",
@@ -46,7 +46,7 @@ impl Style {
     }
 }
 
-/// Puts an explained fault: `FILE:LINE:COLUMN: CODE TEXT 'token'`, the source line with a caret under the token, and a line
+/// Prints an explained fault: `FILE:LINE:COLUMN: CODE TEXT 'token'`, the source line with a caret under the token, and a line
 /// for each note.
 pub fn put_finding(
     alloc: Global,
@@ -70,7 +70,7 @@ pub fn put_finding(
     put_rest(alloc, style, fault.line, &finding.shown, out)
 }
 
-/// Puts undefined behaviour in the same form.
+/// Prints undefined behaviour in the same form.
 pub fn put_undefined(
     alloc: Global,
     style: Style,
@@ -91,7 +91,7 @@ pub fn put_undefined(
     put_rest(alloc, style, line, &undefined.shown, out)
 }
 
-/// Puts the place with which the first line begins.
+/// Prints the place with which the first line begins.
 fn put_start(
     alloc: Global,
     style: Style,
@@ -109,7 +109,7 @@ fn put_start(
     out.push_str(style.end())
 }
 
-/// Puts a code and a space.
+/// Prints a code and a space.
 fn put_code(style: Style, code: &str, out: &mut String) -> Result<(), AllocError> {
     out.push_str(style.red())?;
     out.push_str(code)?;
@@ -117,7 +117,7 @@ fn put_code(style: Style, code: &str, out: &mut String) -> Result<(), AllocError
     out.push_str(" ")
 }
 
-/// Puts the token, the source line and the notes.
+/// Prints the token, the source line and the notes.
 fn put_rest(
     alloc: Global,
     style: Style,
@@ -147,7 +147,7 @@ pub(crate) fn column_of(shown: &Shown) -> usize {
     }
 }
 
-/// Puts `FILE:LINE:COLUMN: `, and without the column where that is 0.
+/// Prints `FILE:LINE:COLUMN: `, and without the column where that is 0.
 fn put_place(
     alloc: Global,
     file: &str,
@@ -163,7 +163,7 @@ fn put_place(
     out.push_str(": ")
 }
 
-/// Puts a text with `?` in place of each control character but a tab.
+/// Prints a text with `?` in place of each control character but a tab.
 fn put_shown(text: &str, out: &mut String) -> Result<(), AllocError> {
     for letter in text.chars() {
         if letter.is_ascii_control() && letter != '\t' {
@@ -175,7 +175,7 @@ fn put_shown(text: &str, out: &mut String) -> Result<(), AllocError> {
     Ok(())
 }
 
-/// Puts the source line, and under it a caret where the token begins.
+/// Prints the source line, and under it a caret where the token begins.
 pub fn put_source(
     alloc: Global,
     style: Style,
@@ -206,7 +206,7 @@ pub fn put_source(
     out.push_str("\n")
 }
 
-/// Puts a space for each character of these bytes, and a tab for a tab.
+/// Prints a space for each character of these bytes, and a tab for a tab.
 fn put_blanks(before: &[u8], out: &mut String) -> Result<(), AllocError> {
     for byte in before {
         if *byte == b'\t' {
@@ -218,7 +218,7 @@ fn put_blanks(before: &[u8], out: &mut String) -> Result<(), AllocError> {
     Ok(())
 }
 
-/// Puts a caret, and `~` to the token's end or that of the line.
+/// Prints a caret, and `~` to the token's end or that of the line.
 fn put_caret(shown: &Shown, column: usize, out: &mut String) -> Result<(), AllocError> {
     out.push('^')?;
     let room = shown.source.len().saturating_sub(column);
@@ -240,7 +240,7 @@ pub(crate) fn points(bytes: &[u8]) -> usize {
     count
 }
 
-/// Puts a note on a line of its own.
+/// Prints a note on a line of its own.
 fn put_note(alloc: Global, style: Style, note: &Note, out: &mut String) -> Result<(), AllocError> {
     out.push_str("  ")?;
     out.push_str(style.cyan())?;

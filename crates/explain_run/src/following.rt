@@ -1,4 +1,4 @@
-//! An observer of a run up to its undefined act.
+//! An observer of a run up to its undefined behaviour.
 
 use crate::refusals::{Values, is_outside, is_refused_sign, refused, refused_step};
 use cabs::Observer;
@@ -16,14 +16,14 @@ use typed_ast::{Initialiser, Value};
 /// A place that is none.
 const NOWHERE: Pos = Pos { file: 0, line: 0 };
 
-/// A call that is active: the number of its function, and the place that it has come to, which is not known of the innermost.
+/// A call that is active: the number of its function, and the place that it has reached, which is not known of the innermost.
 #[derive(Clone, Copy)]
 pub(crate) struct ActiveCall {
     pub function: usize,
     pub at: Pos,
 }
 
-/// An observer that keeps which calls are active, and the values with which an act will be undefined.
+/// An observer that records which calls are active, and the values with which an operation will be undefined.
 #[derive(Drop)]
 pub struct Following {
     alloc: Global,
@@ -56,7 +56,7 @@ impl Following {
         }
     }
 
-    /// Keeps these values, where there was memory for them.
+    /// Records these values, where there was memory for them.
     fn keep(&mut self, values: Result<Values, AllocError>) {
         match values {
             Ok(values) => self.values = Some(values),
@@ -64,13 +64,13 @@ impl Following {
         }
     }
 
-    /// Keeps the name of an element.
+    /// Records the name of an element.
     fn keep_element(&mut self, scene: &Scene, element: &Reference) {
         let values = element_of(self.alloc, &self.names, self.function(), scene, element);
         self.keep(values);
     }
 
-    /// Keeps an index and the name and length of its array.
+    /// Records an index and the name and length of its array.
     fn keep_index(&mut self, scene: &Scene, array: &Reference, index: i64) {
         let text = self.names.text(self.alloc, self.function(), scene, array);
         let values = match text {
@@ -80,21 +80,21 @@ impl Following {
         self.keep(values);
     }
 
-    /// An operation is to be done.
+    /// An operation is about to be executed.
     fn operation(&mut self, op: BinOp, ty: IntType, left: i64, right: i64) {
         if let Some(operands) = refused(op, ty, left, right) {
             self.values = Some(Values::Operands(operands));
         }
     }
 
-    /// An element is to be written.
+    /// An element is about to be written.
     fn writing(&mut self, scene: &Scene, element: &Reference) {
         if element.object < self.names.literals {
             self.keep_element(scene, element);
         }
     }
 
-    /// A compound assignment is to be done, whose right operand is this.
+    /// A compound assignment is about to be executed, whose right operand is this.
     fn compound(&mut self, scene: &Scene, c: &Compound, element: &Reference, right: i64) {
         match scene.store.value(element) {
             None => self.keep_element(scene, element),
@@ -105,7 +105,7 @@ impl Following {
         }
     }
 
-    /// `++` or `--` is to be done.
+    /// `++` or `--` is about to be executed.
     fn step(&mut self, scene: &Scene, step: &Stepping, element: &Reference) {
         match scene.store.value(element) {
             None => self.keep_element(scene, element),
@@ -118,7 +118,7 @@ impl Following {
         }
     }
 
-    /// A place goes to what waits for it.
+    /// A place is passed to the frame that waits for it.
     fn place_found(&mut self, frame: &PlaceFrame<'_>, scene: &Scene, found: &Reference) {
         match frame {
             PlaceFrame::Reads(_) => {
@@ -133,7 +133,7 @@ impl Following {
         }
     }
 
-    /// A value goes to the operator that waits for it.
+    /// A value is passed to the operator that waits for it.
     fn operand_found(&mut self, frame: &OperandFrame<'_>, scene: &Scene, found: i64) {
         match frame {
             OperandFrame::IndexOf(_, array) => {

@@ -1,4 +1,4 @@
-//! The values with which an act of a program that is interpreted is undefined, and the calls that are active there.
+//! The values with which an operation of an interpreted program is undefined, and the calls that are active there.
 #![tactic(auto)]
 
 mod following;

@@ -1,4 +1,4 @@
-//! Notes of what was found out about an undefined act.
+//! Notes on the cause of undefined behaviour.
 
 use crate::following::{ActiveCall, Following};
 use crate::telling::values_text;
@@ -6,12 +6,12 @@ use explain_findings::{Note, Topic, Undefined};
 use srcset::Names;
 use std::alloc::{AllocError, Global};
 
-/// How many calls are told at most.
+/// The most calls that are reported.
 const MOST: usize = 20;
 
 impl Following {
-    /// Puts a note with the values before all others, and behind them one for each call that is active, the innermost first. The run has
-    /// stopped at this act; `names` are those of the program.
+    /// Adds a note with the values before all others, and after them one for each call that is active, the innermost first. The run has
+    /// stopped at this operation; `names` are those of the program.
     ///
     /// Errors: memory ran out, also during the run.
     pub fn put_notes(
@@ -41,7 +41,7 @@ impl Following {
         Ok(())
     }
 
-    /// The innermost call, which has come to the act itself.
+    /// The innermost call, which has reached the undefined operation itself.
     fn innermost(
         &self,
         alloc: Global,
@@ -74,7 +74,7 @@ impl Following {
     }
 }
 
-/// Puts a text as the first note.
+/// Adds a text as the first note.
 fn put_value(alloc: Global, text: String, undefined: &mut Undefined) -> Result<(), AllocError> {
     undefined.shown.notes.insert(
         0,

@@ -1,4 +1,4 @@
-//! Whether what is found next is undefined.
+//! Whether the next result is undefined.
 
 use ctypes::{BinOp, IntType};
 use interp_store::Reference;
@@ -6,13 +6,13 @@ use interp_store::operators::{operated, sign_of, step_operation};
 use interp_store::scene::Scene;
 use tree::{PrefixOp, StepOp};
 
-/// The values with which an act is undefined.
+/// The values with which an operation is undefined.
 #[derive(Drop)]
 pub(crate) enum Values {
     Operands(Operands),
     /// Of the operand of a minus sign.
     Negated(i64),
-    /// An index outside the array of this name, which has so many elements.
+    /// An index outside the array of this name, which has this number of elements.
     Index(String, i64, usize),
     /// An element of the array of this name.
     Element(String, usize),
@@ -30,7 +30,7 @@ pub(crate) struct Operands {
     pub is_unsigned: bool,
 }
 
-/// The operands of an operation in this type where it refuses them.
+/// The operands of an operation in this type where it is undefined for them.
 pub(crate) fn refused(op: BinOp, ty: IntType, left: i64, right: i64) -> Option<Operands> {
     match operated(op, ty, left, right) {
         Ok(_) => None,
@@ -43,12 +43,12 @@ pub(crate) fn refused(op: BinOp, ty: IntType, left: i64, right: i64) -> Option<O
     }
 }
 
-/// The operands of `++` or `--` in this type where it refuses them.
+/// The operands of `++` or `--` in this type where it is undefined for them.
 pub(crate) fn refused_step(op: StepOp, ty: IntType, old: i64) -> Option<Operands> {
     refused(step_operation(op), ty, old, 1)
 }
 
-/// Whether a sign refuses its operand.
+/// Whether a sign operator is undefined for its operand.
 pub(crate) fn is_refused_sign(op: PrefixOp, ty: IntType, value: i64) -> bool {
     sign_of(op, ty, value).is_err()
 }

@@ -9,7 +9,7 @@ const LEAST: i64 = -2147483648;
 
 const GREATEST: i64 = 2147483647;
 
-/// What the values make undefined about the act of this number; `None` where they do not.
+/// The reason why the values make the operation of this number undefined; `None` where they do not.
 pub(crate) fn values_text(
     alloc: Global,
     act: u32,
@@ -27,7 +27,7 @@ pub(crate) fn values_text(
     }
 }
 
-/// What an operation gives where that is out of range for a signed one (6.5p5); `None` where it is not.
+/// The result of an operation where that is out of range for a signed one (6.5p5); `None` where it is not.
 fn out_of_range(op: BinOp, left: i64, right: i64) -> Option<i64> {
     let value = match op {
         BinOp::Add => left.checked_add(right)?,
@@ -44,7 +44,7 @@ fn out_of_range(op: BinOp, left: i64, right: i64) -> Option<i64> {
     }
 }
 
-/// A number times 2 so many times.
+/// A number times 2 to the power of another.
 fn shifted(left: i64, right: i64) -> Option<i64> {
     let count = u32::try_from(right).ok()?;
     if count > 31 {
@@ -67,7 +67,7 @@ fn shown(op: BinOp) -> &'static str {
     }
 }
 
-/// What two operands make undefined about the act of this number; `None` where they do not.
+/// The reason why two operands make the operation of this number undefined; `None` where they do not.
 fn operands_text(
     alloc: Global,
     act: u32,
@@ -91,7 +91,7 @@ fn operands_text(
     }
 }
 
-/// What a result out of range makes undefined.
+/// The reason why a result out of range is undefined.
 fn range_text(alloc: Global, operands: Operands) -> Result<Option<String>, AllocError> {
     let (a, b, sign) = (operands.left, operands.right, shown(operands.op));
     match out_of_range(operands.op, a, b) {
@@ -102,7 +102,7 @@ fn range_text(alloc: Global, operands: Operands) -> Result<Option<String>, Alloc
     }
 }
 
-/// What a negated operand makes undefined.
+/// The reason why a negated operand is undefined.
 fn negation_text(alloc: Global, value: i64) -> Result<Option<String>, AllocError> {
     if value != LEAST {
         return Ok(None);
@@ -110,7 +110,7 @@ fn negation_text(alloc: Global, value: i64) -> Result<Option<String>, AllocError
     Ok(Some(format!(in alloc; "-({LEAST}) is 2147483648, and an int holds {LEAST} to {GREATEST}")?))
 }
 
-/// What is undefined about an element of the array of this name.
+/// The reason why an access to an element of the array of this name is undefined.
 fn element_text(
     alloc: Global,
     act: u32,
@@ -124,7 +124,7 @@ fn element_text(
     }
 }
 
-/// What is undefined about an object that is no array.
+/// The reason why an access to an object that is no array is undefined.
 fn whole_text(alloc: Global, act: u32, name: &str) -> Result<Option<String>, AllocError> {
     match act {
         6 => Ok(Some(format!(in alloc; "`{name}` has no value")?)),

@@ -15,10 +15,10 @@ use srcset::{Names, Pos};
 use std::alloc::{AllocError, Global};
 use typed_ast::Program;
 
-/// How many bytes stand before the text in a line of a listing: address, word, and the spaces behind them.
+/// How many bytes precede the text in a line of a listing: address, word, and the spaces after them.
 const TEXT_COLUMN: usize = 19;
 
-/// Where the items lie, and what stands there.
+/// The addresses of the items, and their contents.
 #[derive(Drop)]
 struct Placed {
     /// The address of each item.
@@ -33,12 +33,12 @@ struct Placed {
 #[derive(Drop)]
 struct Rows<'a> {
     rows: &'a [CodeRow],
-    /// How many lie before the present item.
+    /// How many precede the present item.
     passed: usize,
 }
 
 impl<'a> Rows<'a> {
-    /// The place of the innermost statement whose code begins at this address, which is not below one that was asked for before.
+    /// The place of the innermost statement whose code begins at this address, which is not below an earlier one.
     fn place_at(&mut self, address: u32) -> Option<Pos> {
         let mut found = None;
         let mut count: usize = 0;
@@ -148,7 +148,7 @@ fn put_items(
     out.end()
 }
 
-/// Begins a function, behind the one before it, where the item marks its first instruction.
+/// Begins a function, after the one before it, where the item marks its first instruction.
 fn begin_function(out: &mut Writer<'_>, program: &Program, item: Item) -> Result<(), AllocError> {
     if let Item::Mark(label) = item {
         if let Some(function) = program.functions.get(label.number()) {
@@ -160,7 +160,7 @@ fn begin_function(out: &mut Writer<'_>, program: &Program, item: Item) -> Result
     Ok(())
 }
 
-/// An item: its address, as a listing has it, its text, and the place of what it begins.
+/// An item: its address, as a listing has it, its text, and the place of the construct that it begins.
 fn put_item(
     alloc: Global,
     out: &mut Writer<'_>,
@@ -183,7 +183,7 @@ fn text_at<'a>(texts: &[&'a str], address: u32) -> &'a str {
     texts.get(word as usize).copied().unwrap_or_default()
 }
 
-/// An item as an assembler for RISC-V reads it. `plain` is the text of the instruction that stands where the item lies.
+/// An item as an assembler for RISC-V reads it. `plain` is the text of the instruction at the item's address.
 fn item_text(
     alloc: Global,
     names: &Names,

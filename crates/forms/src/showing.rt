@@ -29,10 +29,9 @@ pub enum Form {
     Items,
 }
 
-/// A form of the program in the file `main` of the set, as text or as JSON, with a newline behind it.
+/// A form of the program in the file `main` of the set, as text or as JSON, followed by a newline.
 ///
-/// Refuses as `compile_with` does, but as far only as the form needs: tokens with 103, 1xx, 2xx, 7xx of preprocessing, a tree with what is
-/// refused up to it.
+/// Refuses as `compile_with` does, but only as far as the form needs: tokens with 103, 1xx, 2xx, 7xx of preprocessing, a tree with all faults up to it.
 pub fn show(
     alloc: Global,
     set: &FileSet,
@@ -50,7 +49,7 @@ pub fn show(
     }
 }
 
-/// What was written, or the fault 801.
+/// The text written, or the fault 801.
 fn told(alloc: Global, written: Result<String, AllocError>) -> Result<String, Fault> {
     match written {
         Ok(text) => Ok(text),

@@ -6,7 +6,7 @@ use std::alloc::{AllocError, Global};
 use tac::{CodeStart, code_starts, lower_function};
 use typed_ast::{Function, Program};
 
-/// A line of code: the number of the instruction, and what it is.
+/// A line of code: the number of the instruction, and the instruction.
 fn put_line(
     out: &mut Writer<'_>,
     number: usize,
@@ -34,7 +34,7 @@ fn start_at(starts: &[CodeStart], from: usize, number: usize) -> Option<CodeStar
     found
 }
 
-/// How many starts stand at an instruction.
+/// The number of starts at an instruction.
 fn count_at(starts: &[CodeStart], from: usize, number: usize) -> usize {
     let mut count: usize = 0;
     for start in starts.get(from..).unwrap_or_default() {

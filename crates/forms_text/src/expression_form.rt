@@ -89,7 +89,7 @@ fn value_in(is_signed: bool, word: u32) -> i64 {
     }
 }
 
-/// Opens the node of an expression: all that it says before its parts.
+/// Opens the node of an expression: all that it has before its parts.
 fn begin_expression(out: &mut Writer<'_>, e: &Expr) -> Result<(), AllocError> {
     match e {
         Expr::Call(at, name, _) => {

@@ -1,4 +1,4 @@
-//! What the phases make of a program, printed as indented text or as JSON.
+//! The forms of a program after each phase, printed as indented text or as JSON.
 #![tactic(auto)]
 
 mod code_form;

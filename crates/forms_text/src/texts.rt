@@ -1,4 +1,4 @@
-//! Each form as text or as JSON, with a newline behind it.
+//! Each form as text or as JSON, with a newline after it.
 
 use crate::code_form::{put_flat, put_tac};
 use crate::token_form::put_tokens;

@@ -93,7 +93,7 @@ fn put_control(
     put_option(out, program, &control.step)
 }
 
-/// What a statement is called.
+/// The name of the kind of a statement.
 fn node_of(s: &Statement) -> &'static str {
     match s {
         Statement::Empty(_) => "empty",

@@ -7,7 +7,7 @@ use srcset::Pos;
 use std::alloc::AllocError;
 use typed_ast::{Argument, Callee, Moment, Place, Program, Storage, Value};
 
-/// What a number of an object designates.
+/// The object that a storage number designates.
 fn put_storage(
     out: &mut Writer<'_>,
     program: &Program,
@@ -91,7 +91,7 @@ fn moment_word(moment: Moment) -> &'static str {
     }
 }
 
-/// Opens the node of a value: all that it says before its parts.
+/// Opens the node of a value: all that it has before its parts.
 fn begin_value(out: &mut Writer<'_>, program: &Program, e: &Value) -> Result<(), AllocError> {
     match e {
         Value::Constant(ty, value) => {

@@ -12,7 +12,7 @@ pub enum Style {
     Json,
 }
 
-/// What stands in a text without its key, since what it is can be seen.
+/// The keys that the text form omits, since the values show what they are.
 const PLAIN: [&str; 11] = [
     "type",
     "op",
@@ -50,7 +50,7 @@ impl<'n> Writer<'n> {
         }
     }
 
-    /// What was written, with a newline behind it.
+    /// The text written, with a newline after it.
     pub fn into_text(mut self) -> Result<String, AllocError> {
         self.text.push_str("\n")?;
         Ok(self.text)
@@ -104,7 +104,7 @@ impl<'n> Writer<'n> {
         Ok(())
     }
 
-    /// What stands before a part: the begin of the parts, or a comma.
+    /// The text before a part: the begin of the parts, or a comma.
     fn put_comma(&mut self) -> Result<(), AllocError> {
         let Some(last) = self.open.last_mut() else {
             return Ok(());
@@ -148,7 +148,7 @@ impl<'n> Writer<'n> {
         self.put_quoted(bytes)
     }
 
-    /// Where the node stands.
+    /// The place of the node.
     pub fn place(&mut self, at: Pos) -> Result<(), AllocError> {
         let names = self.names;
         let file = names.file_name(at.file);

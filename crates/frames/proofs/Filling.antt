@@ -29,7 +29,7 @@ filled (suc n) m (y ∷ ys) h =
     let same : n - length ys ≡ suc n - length (y ∷ ys) = omega arith in
     ap (λ xs. y ∷ xs) (filled n m ys (omega (arith, h)) ∙ ap (λ k. take n ys ++ replicate k 0) same)
 
--- what is behind the first k is cut to n or filled up
+-- the part after the first k is cut to n or filled up
 pub cut_or_filled : (xs ys : List ℕ) (k n : ℕ) → k ≡ length xs → take (k + n) (xs ++ ys) ++ replicate (k + n - length (xs ++ ys)) 0 ≡ xs ++ filled_up n ys
 cut_or_filled xs ys k n e =
     let cut : take (k + n) (xs ++ ys) ≡ xs ++ take n ys = ap (λ j. take (j + n) (xs ++ ys)) e ∙ take-append-add xs ys n in
@@ -38,7 +38,7 @@ cut_or_filled xs ys k n e =
     ap (λ zs. zs ++ replicate (k + n - length (xs ++ ys)) 0) cut ∙ ap (λ j. (xs ++ take n ys) ++ replicate j 0) more
     ∙ append_assoc xs (take n ys) (replicate (n - length ys) 0) ∙ ap (λ zs. xs ++ zs) (sym whole)
 
--- a call that fills up what was put, or fails
+-- a call that fills up the bytes that were put, or fails
 pub put_filled : {E : Type 0} (r : Result (Unit {0}) E) (old text mid new : List ℕ) (k n m : ℕ) → mid ≡ old ++ text → k ≡ length old → m ≡ length mid → new ≡ (if is_ok r then take (k + n) mid ++ replicate (k + n - m) 0 else mid) → OnOk r (new ≡ old ++ filled_up n text)
 put_filled (Err x) old text mid new k n m a b d e = tt
 put_filled (Ok u) old text mid new k n m a b d e =
@@ -55,7 +55,7 @@ one_low_byte bytes more start c i w lt e done =
 suc_more : (k : ℕ) → suc k ≡ k + 1
 suc_more k = omega arith
 
--- the list of an item and of those behind it
+-- the list of an item and of those after it
 pub one_more_item : {A : Type 0} (made : A → List ℕ) (all : List A → List ℕ) → ((x : A) (xs : List A) → all (x ∷ xs) ≡ made x ++ all xs) → (xs : List A) (i : ℕ) (x : A) (bytes more start : List ℕ) → i < length xs → x ≡ get_or xs i x → more ≡ bytes ++ made x → bytes ++ all (drop i xs) ≡ start → more ++ all (drop (i + 1) xs) ≡ start
 one_more_item made all cons xs i x bytes more start lt e f done =
     let split : drop i xs ≡ x ∷ drop (i + 1) xs = drop-cons xs i x lt ∙ ap (λ y. y ∷ drop (suc i) xs) (sym e) ∙ ap (λ k. x ∷ drop k xs) (suc_more i) in
@@ -77,13 +77,13 @@ put_object r o old mid new k n m t a b c d e =
     ap (λ x. filled_up x values) size ∙ sym (ap (λ x. if_defined x (filled_up (in_words (size_of_object o.type)) values)) t) in
     subst (λ x. OnOk r (new ≡ old ++ x)) whole (put_filled r old values mid new k n m a b d e)
 
--- a count of what is behind
+-- a count of an item and of those after it
 pub one_counted : {A : Type 0} (size : A → ℕ) (all : List A → ℕ) → ((x : A) (xs : List A) → all (x ∷ xs) ≡ size x + all xs) → (xs : List A) (i : ℕ) (x : A) (n more start : ℕ) → i < length xs → x ≡ get_or xs i x → more ≡ n + size x → n + all (drop i xs) ≡ start → more + all (drop (i + 1) xs) ≡ start
 one_counted size all cons xs i x n more start lt e f done =
     let split : drop i xs ≡ x ∷ drop (i + 1) xs = drop-cons xs i x lt ∙ ap (λ y. y ∷ drop (suc i) xs) (sym e) ∙ ap (λ k. x ∷ drop k xs) (suc_more i) in
     let here : all (drop i xs) ≡ size x + all (drop (i + 1) xs) = ap all split ∙ cons x (drop (i + 1) xs) in
     omega (arith, f, here, done)
 
--- what is put has the bytes that it takes
+-- the bytes that were put are as many as their size
 pub longer : (old more new : List ℕ) (n : ℕ) → new ≡ old ++ more → length more ≡ n → length new ≡ length old + n
 longer old more new n e f = ap length e ∙ length-append old more ∙ ap (λ k. length old + k) f

@@ -1,4 +1,4 @@
--- What a sound function names is near enough for sums.
+-- The numbers in a sound function are small enough for sums.
 use Rattle.std.proofs.Common.{◌≡◌, ℕ, ◌+◌, ◌-◌, ◌*◌, ◌/◌, ◌^◌, ◌<◌, ◌≤◌, length, Some, arith}
 use Rattle.std.specs.Prelude.{slice_get}
 use Rattle.typing_spec.specs.Units.{bytes_of_objects}

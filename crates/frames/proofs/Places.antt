@@ -42,7 +42,7 @@ of_objects (t ∷ ts) = two_sums (words_of t) (bytes_of_array t) (words_in ts) (
 in_all : (t w r k a b : ℕ) → 4 * w + a ≡ b → 4 * t + 4 + 4 * (w + r + k) + a + 4 + 15 ≡ 4 * t + (8 + (4 * k + (4 * r + b))) + 15
 in_all t w r k a b e = omega arith
 
--- a frame has the bytes that a call of three-address code is said to take
+-- a frame has the number of bytes that a call of three-address code is defined to take
 pub frame_is_call : (s : Starts) (f : Function) → frame_bytes (flat_function s f) ≡ call_bytes f
 frame_is_call s f =
     ap (λ n. n / 16 * 16) (in_all (f.temporaries - 8) (words_in f.objects) (array_parameters f.parameters) f.kept (bytes_in f.objects) (bytes_of_objects f.objects) (of_objects f.objects))

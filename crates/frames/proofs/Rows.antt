@@ -91,7 +91,7 @@ arrays_flat = record {
   main = 0;
 }
 
--- it is what the first one is translated to
+-- it is the translation of the first one
 is_its_code : flat_program arrays_code ≡ arrays_flat
 is_its_code = refl
 

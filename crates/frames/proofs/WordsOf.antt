@@ -1,4 +1,4 @@
--- What three-address code computes on words is what the operations of the machine compute.
+-- Three-address code computes on words the results of the machine's operations.
 use Rattle.std.proofs.Common.{◌≡◌, ◌⊎◌, inl, inr, ℕ, zero, suc, ◌+◌, ◌-◌, ◌*◌, ◌/◌, ◌%◌, ◌^◌, ◌<◌, ◌≤◌, Bool, true, false, ◌&&◌, ℤ, pos, negsuc, ◌+ℤ◌, ◌-ℤ◌, ◌*ℤ◌, Some, Result, Ok, Err, refl, sym, ap, ◌∙◌, subst, arith}
 use Rattle.std.specs.Prelude.{not, ◌||◌, ◌==◌, nat_lt, nat_le, int_lt, int_le, int_div, int_rem, neg_ℤ, nat_abs, bit_and, bit_or, bit_xor, if◌then◌else◌}
 use Rattle.std.specs.Int.{w32, int_shr}
@@ -136,7 +136,7 @@ shown_below : (q n k : ℕ) → n + q ≡ k * 2 ^ 32 → word_for (neg_ℤ (pos 
 shown_below zero n k e = omega (arith, e)
 shown_below (suc q) n k e = omega (arith, e)
 
--- 2^32 is the sum of a word and what is below zero of its number
+-- 2^32 is the sum of a word and the magnitude of its negative number
 part_of_product : (a b c : ℕ) → suc c + b ≡ 2 ^ 32 → a * b + a * suc c ≡ a * 2 ^ 32
 part_of_product a b c e = let s : b + suc c ≡ 2 ^ 32 = omega (arith, e) in let t : a * (b + suc c) ≡ a * 2 ^ 32 = ap (λ n. a * n) s in omega (arith, t)
 

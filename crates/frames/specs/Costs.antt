@@ -1,4 +1,4 @@
--- How many instructions of RV32IM a run of flat code comes to at most, and how many bytes its code.
+-- An upper bound of the RV32IM instructions that a run of flat code executes, and of the bytes of its code.
 use Rattle.std.specs.Prelude.{ℕ, ◌+◌, ◌*◌, ◌==◌, max, nat_lt, if◌then◌else◌, sum_by}
 use Rattle.frames_code.specs.declared.code.Operand.{Operand}
 use Rattle.frames_code.specs.declared.code.Operand.TheVariants as operand

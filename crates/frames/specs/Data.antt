@@ -17,7 +17,7 @@ abbrev pub zeros : ℕ → List ℕ
 zeros zero = []
 zeros (suc n) = 0 ∷ zeros n
 
--- the first n, with zeros behind those that there are
+-- the first n, with zeros after those that there are
 abbrev pub filled_up : ℕ → List ℕ → List ℕ
 filled_up n bytes = take n (bytes ++ zeros n)
 

@@ -1,4 +1,4 @@
--- What it is for flat code to do what three-address code does: the contract of flattening.
+-- The relation between three-address code and flat code that does the same: the contract of flattening.
 use Rattle.std.specs.Prelude.{◌≡◌, ◌≤◌, ℕ, List, length, slice_get, Some}
 use Rattle.csem.specs.History.{Entry, trace_of}
 use Rattle.frames_code.specs.Code as flat
@@ -18,7 +18,7 @@ before q input n = tac_run.run q n (tac_run.start q input)
 abbrev pub behind : flat.Program → List ℕ → ℕ → flat_run.Progress
 behind f input m = flat_run.run f m (flat_run.start f input)
 
--- the second has done what the first has done, and has its calls
+-- the flat state s has the trace, the input left and the active calls of the three-address state t
 abbrev pub IsAt : flat_run.State → tac_run.State → Type 0
 IsAt s t = (s.trace ≡ trace_of t.history) × (s.input ≡ t.input) × (flat_run.active s ≡ tac_run.open_calls t)
 
@@ -45,7 +45,7 @@ pub record IsCodeOf (g : tac.Function) (h : flat.Function) : Type 0 where
   pub frame : flat.frame_bytes h ≤ tac_costs.call_bytes g
   pub code : flat_costs.function_bytes h ≤ tac_costs.function_bytes g
 
--- what flattening gives
+-- the postcondition of flattening
 pub record IsFlattened (q : tac.Program) (f : flat.Program) : Type 0 where
   pub sound : flat_sound.IsSoundProgram f
   pub in_step : (input : List ℕ) → AreBytes input → InStep q f input

@@ -1,5 +1,5 @@
--- No two things that live at one time lie on one word or byte, so that a store to one leaves the others; and what three-address code
--- computes on words is what flat code computes.
+-- No two objects that live at one time share a word or byte, so that a store to one leaves the others; and three-address code
+-- computes on words the same as flat code.
 use Rattle.std.specs.Prelude.{◌≡◌, ◌<◌, ◌≤◌, ℕ, ◌+◌, ◌^◌, List, length, slice_get, Some, None}
 use Rattle.ctypes.specs.declared.types.IntType.{IntType}
 use Rattle.ctypes.specs.declared.types.IntType.TheVariants as ty
@@ -52,7 +52,7 @@ abbrev pub ArraysAreInside : Type 0
 ArraysAreInside = (f : Function) (n : ℕ) (t : ObjectType) → slice_get f.objects n ≡ Some t → scalar_type (Some t) ≡ None
     → offset f n + size_of_object t ≤ bytes_in f.objects
 
--- of things of these sizes one behind the other, each ends before a later one begins
+-- of objects of these sizes one after the other, each ends before a later one begins
 abbrev pub StartsAreApart : Type 0
 StartsAreApart = (first : ℕ) (sizes : List ℕ) (n m size : ℕ) → n < m → m < length sizes → slice_get sizes n ≡ Some size
     → start_in (slice_get (starts_from first sizes) n) + size ≤ start_in (slice_get (starts_from first sizes) m)

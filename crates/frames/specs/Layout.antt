@@ -1,5 +1,5 @@
--- Where flat code has what a call of three-address code has: an object that is no array in a word of the frame, an array in the
--- bytes of the frame's arrays, a reference and a slot in a word behind those of the objects; a string literal and an object
+-- Where flat code keeps the data of a call of three-address code: an object that is no array in a word of the frame, an array in the
+-- bytes of the frame's arrays, a reference and a slot in a word after those of the objects; a string literal and an object
 -- with static storage in the statics.
 use Rattle.std.specs.Prelude.{ℕ, ◌+◌, Bool, true, false, List, [], ◌∷◌, length, Option, Some, None}
 use Rattle.typing_spec.specs.Types.{ObjectType, size_of_object}
@@ -35,7 +35,7 @@ words_of t = words_for (is_scalar t.lengths)
 abbrev pub bytes_of_array : ObjectType → ℕ
 bytes_of_array t = bytes_for (is_scalar t.lengths) (size_of_object t)
 
--- one behind the other, from a word and a byte on
+-- one after the other, from a word and a byte on
 abbrev pub homes_from : (cell offset : ℕ) → List ObjectType → List Home
 homes_from c o [] = []
 homes_from c o (t ∷ ts) = home_for (is_scalar t.lengths) c o ∷ homes_from (c + words_of t) (o + bytes_of_array t) ts

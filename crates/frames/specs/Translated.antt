@@ -1,4 +1,4 @@
--- The flat code of three-address code: one instruction for each, behind a move of each parameter into its place.
+-- The flat code of three-address code: one instruction for each, after a move of each parameter into its place.
 use Rattle.std.specs.Prelude.{ℕ, ◌+◌, ◌-◌, ◌*◌, nat_lt, min, if◌then◌else◌, List, [], ◌∷◌, ◌++◌, map, slice_get}
 use Rattle.ctypes.specs.declared.types.IntType.{IntType}
 use Rattle.ctypes.specs.declared.types.IntType.TheVariants as ty
@@ -101,7 +101,7 @@ test_of comparison.GreaterEqual r = test_by_sign r test.GreaterEqual test.Greate
 abbrev pub convert : Conversion → flat_target.Target → flat_operand.Operand → flat_instruction.Instruction
 convert c d x = flat.Convert c d x
 
--- a conversion (6.3.1.2, 6.3.1.3): a word stands for every number of 32 bits, with and without sign
+-- a conversion (6.3.1.2, 6.3.1.3): a word represents every number of 32 bits, with and without sign
 abbrev pub conversion_of : IntType → flat_target.Target → flat_operand.Operand → flat_instruction.Instruction
 conversion_of ty.Bool d x = convert conversion.ToTruth d x
 conversion_of ty.Char d x = convert conversion.ToByte d x

@@ -1,2 +1,2 @@
--- What contracts between crates cite; nothing of it has to be believed.
+-- Definitions that contracts between crates cite; nothing of it has to be believed.
 pub mod Alone

@@ -9,11 +9,12 @@ ghost use Rattle.frames_code.specs.Code as flat;
 ghost use Rattle.frames_code.specs.Sound as flat_sound;
 ghost use Rattle.frames.specs.Flattened.{IsCodeOf};
 ghost use Rattle.frames.specs.Translated.{translated, argument, moves_from, flat_function, flat_program};
+ghost use Rattle.frames.specs.Layout.{layout_of};
 ghost use Rattle.frames.specs.layer.Alone.{starts_in};
 ghost use Rattle.frames.specs.inside.Held.{layout_in, InstructionIsNear};
 
 use crate::instructions::translate;
-use crate::layout::Layout;
+use crate::layout::{Home, Layout};
 use crate::starts::Starts;
 use crate::statics::data;
 use frames_code::{FlatProgram, Operand, Target};
@@ -105,6 +106,15 @@ pub fn flatten_function(
     })
 }
 
+/// Where the objects of a function lie: in words of its frame, or among its arrays. It is the layout of `flatten_function`, for debuggers.
+pub fn object_homes(alloc: Global, function: &tac_code::Function) -> Result<Vec<Home>, AllocError>
+    requires fits { (p : three_address.Program) × FunctionFits p (three_address.function_of function.now) }
+    ensures { IfOk result (λ homes. homes.items ≡ (layout_of (three_address.function_of function.now)).homes) }
+{
+    let layout = Layout::new(alloc, function)?;
+    Ok(layout.homes)
+}
+
 fn put_functions(
     list: &mut Vec<frames_code::Function>,
     alloc: Global,
@@ -137,12 +147,12 @@ fn flat_code_of(alloc: Global, program: &TacProgram) -> Result<FlatProgram, Allo
 
 /// The flat code of a program: objects that are no arrays, references and slots in words of the frame, arrays in its bytes.
 ///
-/// Refuses only with 801, where there is no memory.
+/// Fails only with 801, where memory runs out.
 pub fn flatten(alloc: Global, program: &TacProgram) -> Result<FlatProgram, Fault>
     requires sound { IsSoundProgram (three_address.program_of program.now) }
     ensures code { IfOk result (λ f. flat.program_of f ≡ flat_program (three_address.program_of program.now)) }
 
-    // It is such as the next step takes, and no larger than was said.
+    // The result satisfies the precondition of the next step, and is no larger than the bounds.
     ensures sound { IfOk result (λ f. flat_sound.IsSoundProgram (flat.program_of f)) }
     ensures each { IfOk result (λ f. (k : ℕ) (g : three_address.Function) (h : flat.Function) → slice_get (three_address.program_of program.now).functions k ≡ Some g
         → slice_get (flat.program_of f).functions k ≡ Some h → IsCodeOf g h) }

@@ -1,4 +1,4 @@
-//! Laws of where things lie and of what is computed, each the contract of a function without code.
+//! Laws of the layout of data and of the results of operations, each the contract of a function without code.
 
 ghost use Rattle.frames.specs.Laws.{WordsAreApart, WordsComeFirst, ReferencesComeNext, SlotsComeLast, ArraysAreApart, ArraysAreInside, StartsAreApart, OperationsAgree, ComparisonsAgree, ConversionsAgree, DataBytesAre, DataHaveTheirSize};
 
@@ -21,7 +21,7 @@ pub fn starts_are_apart()
     ensures { StartsAreApart }
 {}
 
-/// On words, flat code's operations give what those of three-address code give where these are defined, and its tests hold just
+/// On words, flat code's operations give the results of those of three-address code where these are defined, and its tests hold just
 /// where the comparisons do. Its conversions leave the words of the numbers that conversions give.
 pub fn words_agree()
     ensures operations { OperationsAgree }

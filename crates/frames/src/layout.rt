@@ -1,4 +1,4 @@
-//! What lies where: the objects, references and slots of a function in its frame, the literals and static objects in the statics.
+//! The layout of data: the objects, references and slots of a function in its frame, the literals and static objects in the statics.
 
 ghost use Rattle.std.specs.Prelude.{◌≡◌, ◌≤◌, ◌<◌, ◌+◌, ◌^◌, ◌++◌, map, length, IfOk};
 ghost use Rattle.typed_ast.specs.View.{object_type_of};
@@ -59,7 +59,7 @@ fn array_bytes(object: &ObjectType) -> usize
     }
 }
 
-/// The homes of these objects, one behind the other, with their words and the bytes of their arrays.
+/// The homes of these objects, one after the other, with their words and the bytes of their arrays.
 fn put_homes(homes: &mut Vec<Home>, objects: &[ObjectType]) -> Result<(usize, usize), AllocError>
     requires { words_in (map object_type_of objects.now) + bytes_in (map object_type_of objects.now) < 2 ^ 62 }
     ensures { IfOk result (λ taken. (homes.new.items ≡ homes.old.items ++ homes_from 0 0 (map object_type_of objects.now))

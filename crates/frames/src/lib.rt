@@ -10,9 +10,10 @@ mod sizes;
 mod starts;
 mod statics;
 
-pub use functions::{flatten, flatten_function};
+pub use functions::{flatten, flatten_function, object_homes};
 pub use laws::{
     arrays_are_apart, data_have_their_size, starts_are_apart, words_agree, words_are_apart,
 };
+pub use layout::Home;
 pub use starts::Starts;
 pub use statics::{data, data_alone};

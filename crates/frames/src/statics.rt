@@ -25,7 +25,7 @@ fn word_of(number: i64) -> u32
     (number.cast_unsigned() % 0x1_0000_0000) as u32
 }
 
-/// So many bytes of a word, the lowest first.
+/// The `count` lowest bytes of a word, the lowest first.
 fn put_low_bytes(bytes: &mut Vec<u8>, count: u32, word: u32) -> Result<(), AllocError>
     ensures { OnOk result (bytes.new.items ≡ bytes.old.items ++ low_bytes count word) }
 {
@@ -67,7 +67,7 @@ fn put_literals(bytes: &mut Vec<u8>, literals: &[Vec<u8>]) -> Result<(), AllocEr
     Ok(())
 }
 
-/// An object with its first values, and zeros behind them; nothing where it has no bytes.
+/// An object with its first values, and zeros after them; nothing where it has no bytes.
 fn put_static(bytes: &mut Vec<u8>, object: &Static) -> Result<(), AllocError>
     requires old { length bytes.old.items < 2 ^ 62 }
     requires new { static_bytes object.now.defined (size_of_object (object_type_of object.now.object_type)) < 2 ^ 62 }

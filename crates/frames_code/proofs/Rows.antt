@@ -1,4 +1,4 @@
--- Flat programs, and what their runs come to. Each was written from the C text above it; status and output are what such a
+-- Flat programs, and the results of their runs. Each was written from the C text above it; status and output are what such a
 -- program gives by ISO/IEC 9899:2011, where it is one.
 use Rattle.std.proofs.Common.{◌≡◌, refl}
 use Rattle.std.specs.Prelude.{ℕ, List, [], ◌∷◌}
@@ -61,7 +61,7 @@ bytes_are_got :
 unfolding step
 bytes_are_got = refl
 
--- nothing was put in temporary 0, or in a word of the frame
+-- temporary 0, or a word of the frame, was never set
 temporary_unset : run_of (whole (plain (return ∷ []) ∷ [])) 1 ≡ stuck
 unfolding step
 temporary_unset = refl
@@ -70,7 +70,7 @@ cell_unset : run_of (whole (with_cells 1 (move t0 (cell 0) ∷ return ∷ []) �
 unfolding step
 cell_unset = refl
 
--- a byte that is put takes the temporaries with it
+-- `PutByte` loses the temporaries
 temporary_lost : run_of (whole (plain (move t0 (constant 65) ∷ put_byte ∷ return ∷ []) ∷ [])) 3 ≡ stuck
 unfolding step
 temporary_lost = refl
@@ -113,7 +113,7 @@ ten_arguments :
 unfolding step
 ten_arguments = refl
 
--- they are gone behind the moves that a function begins with
+-- they are lost after the moves that a function begins with
 argument_too_late :
     run_of (whole (
     record { code = (move (to_temporary 8) (constant 8) ∷ call 1 ∷ return ∷ []); cells = 0; resident = 0; area = 0; outgoing = 1 } ∷
@@ -161,8 +161,8 @@ reference_into_a_frame_that_waits :
 unfolding step
 reference_into_a_frame_that_waits = refl
 
--- A reference leads where it leads whichever call is active: here to the word in front of the arrays of a later call, whose frame
--- lies where that of an earlier one lay. There are no arrays.
+-- A reference has the same target whichever call is active: here the word in front of the arrays of a later call, whose frame
+-- is where that of an earlier one was. There are no arrays.
 reference_to_a_frame_that_is_gone :
     run_of (whole (
     plain (call 1 ∷ call 2 ∷ return ∷ []) ∷
@@ -198,12 +198,12 @@ reference_is_no_word : run_of (whole (with_area 0 4 (address t0 (in_frame 0) ∷
 unfolding step
 reference_is_no_word = refl
 
--- behind the last instruction
+-- after the last instruction
 past_the_code : run_of (whole (plain (nothing ∷ []) ∷ [])) 2 ≡ stuck
 unfolding step
 past_the_code = refl
 
--- the frame's bytes: a word to put bytes from and one to return by, in a multiple of 16
+-- the frame's bytes: a word to put bytes from and one for the return address, in a multiple of 16
 frame_of_nothing : frame_bytes (plain []) ≡ 16
 frame_of_nothing = refl
 

@@ -1,4 +1,4 @@
--- Flat code: what the last step before the machine's instructions works on. A function has temporaries, which a call may lose, and
+-- Flat code: the input of the last step before the machine's instructions. A function has temporaries, which a call may lose, and
 -- a frame of words and bytes, which it keeps. Its instructions are those of `src/code.rt`.
 use Rattle.std.specs.Prelude.{ℕ, ◌+◌, ◌*◌, ◌/◌, List, map}
 use Rattle.frames_code.specs.declared.code.Instruction.{Instruction}
@@ -28,8 +28,8 @@ program_of p = record { functions = map function_of p.functions.items; statics =
 
 -- ---- frames
 
--- From the frame's start: the temporaries from the ninth on, a word for a byte that is put or got, the cells, the arrays; the
--- last word is for the address to return to.
+-- From the frame's start: the temporaries from the ninth on, a word for a byte that is written or read, the cells, the arrays; the
+-- last word is for the return address.
 abbrev pub cell_home : Function → ℕ → ℕ
 cell_home f c = 4 * f.outgoing + 4 + 4 * c
 

@@ -1,4 +1,4 @@
--- How many instructions of RV32IM each instruction of flat code comes to at most, and a run by steps.
+-- The most instructions of RV32IM that each instruction of flat code takes, and a run by steps.
 use Rattle.std.specs.Prelude.{ℕ, zero, suc, ◌+◌, slice_get, Option, Some, None}
 use Rattle.frames_code.specs.declared.code.Instruction.{Instruction}
 use Rattle.frames_code.specs.declared.code.Instruction.TheVariants as instruction
@@ -40,7 +40,7 @@ cost_on (running s) go = go s
 cost_on (ended status input trace) go = 0
 cost_on stuck go = 0
 
--- what n steps cost
+-- the cost of n steps
 abbrev pub spent : Program → ℕ → State → ℕ
 spent p zero s = 0
 spent p (suc n) s = cost_if (next_of p s) + cost_on (step p s) (spent p n)

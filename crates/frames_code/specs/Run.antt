@@ -1,4 +1,4 @@
--- What flat code does, by a count of steps. Reading what was never set is stuck, and a stuck run promises nothing.
+-- The semantics of flat code, by a count of steps. A read of a value that was never set is stuck, and a stuck run promises nothing.
 use Rattle.std.specs.Prelude.{ℕ, zero, suc, ◌+◌, ◌-◌, ◌*◌, ◌/◌, ◌%◌, ◌^◌, ◌==◌, ◌&&◌, nat_le, nat_lt, Bool, not, if◌then◌else◌, List, [], ◌∷◌, map, length, slice_get, Option, Some, None}
 use Rattle.rv32.specs.Words.{sign_extended}
 use Rattle.rv32.specs.Arithmetic.{compare_of, operate_of, one_if}
@@ -20,8 +20,8 @@ use Rattle.frames_code.specs.declared.code.Instruction.TheVariants as instructio
 use Rattle.frames_code.specs.Code.{Function, Program, area_home, frame_bytes}
 
 -- a word below 2^32; or a reference: the statics by the number 0, a frame by how many bytes of the stack lie from its
--- start on; and how many bytes lie from the start of the statics or of the frame up to what it names. So where a reference
--- leads does not depend on which calls are active.
+-- start on; and the number of bytes from the start of the statics or of the frame up to its target. So the target of a
+-- reference does not depend on which calls are active.
 pub data Value : Type 0 where
   word : (w : ℕ) → Value
   reference : (list offset : ℕ) → Value
@@ -39,7 +39,7 @@ unset k = None
 abbrev pub with_at : {A : Type 0} → (ℕ → Option A) → ℕ → A → ℕ → Option A
 with_at m k x j = if j == k then Some x else m j
 
--- a call: its function, the number of the instruction where it goes on, its words, and the bytes of its arrays, by how many
+-- a call: its function, the number of the instruction where it continues, its words, and the bytes of its arrays, by how many
 -- bytes lie from the frame's start up to them
 pub record Frame : Type 0 where
   pub function : ℕ
@@ -48,7 +48,7 @@ pub record Frame : Type 0 where
   pub area : Bytes
 
 -- the call that runs, its temporaries and its arguments from the ninth on; the calls that wait, the newest first; the
--- statics, the input left, and what was done, the newest first
+-- statics, the input left, and the history of events, the newest first
 pub record State : Type 0 where
   pub frame : Frame
   pub temporaries : Values

@@ -1,4 +1,4 @@
--- Which flat programs are sound: each instruction names what its function has. What `select` takes.
+-- Which flat programs are sound: each instruction names only parts that its function has. The precondition of `select`.
 use Rattle.std.specs.Prelude.{◌≡◌, ◌≤◌, ◌<◌, ℕ, ◌+◌, ◌*◌, ◌-◌, ◌^◌, List, length, slice_get, sum_by, Some}
 use Rattle.frames_code.specs.declared.code.Operand.{Operand}
 use Rattle.frames_code.specs.declared.code.Operand.TheVariants as operand
@@ -10,7 +10,7 @@ use Rattle.frames_code.specs.declared.code.Instruction.{Instruction}
 use Rattle.frames_code.specs.declared.code.Instruction.TheVariants as instruction
 use Rattle.frames_code.specs.Code.{Function, Program, frame_bytes}
 
--- the most bytes of a frame, and of arguments from the ninth on: what the greatest stack has
+-- the most bytes of a frame, and of arguments from the ninth on: the size of the greatest stack
 abbrev pub most_bytes : ℕ
 most_bytes = 2 ^ 24
 
@@ -30,7 +30,7 @@ LocationFits f (location.Statics o) = o < 0x10000000
 LocationFits f (location.Frame o) = o < f.area
 LocationFits f (location.At x) = OperandFits f x
 
--- in function f of a program of so many functions
+-- in function f of a program of n functions
 abbrev pub InstructionFits : ℕ → Function → Instruction → Type 0
 InstructionFits n f instruction.Nothing = Unit {0}
 InstructionFits n f (instruction.Move d x) = TargetFits f d × OperandFits f x

@@ -7,7 +7,7 @@ ghost use Rattle.frames_code.specs.Sound.{most_bytes};
 
 use rv32::{RegisterOp, Test};
 
-/// What an instruction reads.
+/// An operand that an instruction reads.
 #[derive(Clone, Copy, Debug, PartialEq, Eq)]
 pub enum Operand {
     /// A temporary, which a call loses.
@@ -40,11 +40,11 @@ pub enum Width {
 /// Where an element lies.
 #[derive(Clone, Copy, Debug, PartialEq, Eq)]
 pub enum Location {
-    /// So many bytes from the start of the statics.
+    /// This number of bytes from the start of the statics.
     Statics(usize),
-    /// So many bytes from the start of the arrays of the frame.
+    /// This number of bytes from the start of the arrays of the frame.
     Frame(usize),
-    /// Where a reference leads.
+    /// The target of a reference.
     At(Operand),
 }
 
@@ -72,7 +72,7 @@ pub enum Conversion {
 
 /// An instruction. Jumps lead to an instruction of the same function, counted from 0.
 ///
-/// The arguments of a call are in the temporaries from 0 on; its result, a byte that is put or got, and the status of `Exit` are in
+/// The arguments of a call are in the temporaries from 0 on; its result, a byte that is written or read, and the status of `Exit` are in
 /// temporary 0.
 #[derive(Clone, Copy, Debug)]
 pub enum Instruction {
@@ -107,7 +107,7 @@ pub enum Instruction {
         target: Target,
         of: Location,
     },
-    /// The reference so many elements of `size` bytes on.
+    /// The reference a number of elements of `size` bytes further on.
     Element {
         target: Target,
         array: Operand,

@@ -1,4 +1,4 @@
-//! Flat code: functions over frames of words and bytes. Today its types, and what it does as a definition.
+//! Flat code: functions over frames of words and bytes. The crate has its types, and its semantics as a definition.
 #![tactic(auto)]
 
 mod code;

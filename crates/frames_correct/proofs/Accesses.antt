@@ -51,7 +51,7 @@ same_type_is a b e = let same : place_of a ≡ place_of b = grind (arith, nat_te
 pub type_known : (t u : IntType) (o : Option IntType) → o ≡ Some u → is_type t o ≡ true → t ≡ u
 type_known t u o e h = same_type_is t u (ap (is_type t) (sym e) ∙ h)
 
--- ---- where elements lie in a list
+-- ---- places of elements in a list
 
 data_sizes : (t : IntType) → (bytes_of t ≡ 1) ⊎ ((bytes_of t ≡ 2) ⊎ (bytes_of t ≡ 4))
 data_sizes ty.Bool = inl refl
@@ -117,7 +117,7 @@ put_read tree path old new e = written_is_read (tree ∷ []) (record { object = 
 pub put_apart : (lengths path path2 : List ℕ) (tree new : Tree) → AreApart lengths path path2 → at_path (Some (put_at path new tree)) path2 ≡ at_path (Some tree) path2
 put_apart lengths path path2 tree new a = other_part_stays (tree ∷ []) (record { object = 0; path = path }) (record { object = 0; path = path2 }) new a.part
 
--- where two elements lie
+-- the places of two elements
 apart_bytes : (o b m n : ℕ) → (m < n) ⊎ (n < m) → (o + b * n + b ≤ o + b * m) ⊎ (o + b * m + b ≤ o + b * n)
 apart_bytes o b m n (inl lt) = inr (let h : b * m + b ≤ b * n = times m n lt in omega (arith, h))
   where

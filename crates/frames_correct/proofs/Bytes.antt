@@ -1,4 +1,4 @@
--- Elements of a list of bytes behind a write.
+-- Elements of a list of bytes after a write.
 use Rattle.std.proofs.Common.{◌≡◌, ◌≢◌, ◌⊎◌, inl, inr, ⊎_elim, ℕ, ◌+◌, ◌*◌, ◌/◌, ◌%◌, ◌^◌, ◌<◌, ◌≤◌, Option, Some, None, true, false, refl, sym, ap, ◌∙◌, arith, eqb}
 use Rattle.std.proofs.lemmas.Bool.Decides.{nat_tests}
 use Rattle.std.specs.Prelude.{pos, ℤ, nat_lt}
@@ -33,7 +33,7 @@ size_is ty.UInt = refl
 size_is ty.Long = refl
 size_is ty.ULong = refl
 
--- ---- what stays
+-- ---- what is unchanged
 
 -- the same bytes over a size
 abbrev pub SameOver : ℕ → Bytes → Bytes → ℕ → Type 0
@@ -66,12 +66,12 @@ put_off width.Word b o v k h =
     half_off (with_half b o v) (o + 2) (v / 2 ^ 16) k (⊎_elim (λ p. inl (omega (arith, p))) (λ p. inr (omega (arith, p))) h)
     ∙ half_off b o v k (⊎_elim (λ p. inl p) (λ p. inr (omega (arith, p))) h)
 
--- an element that lies apart from what is written
+-- an element that is disjoint from the written one
 pub element_off : (w u : Width) (b : Bytes) (o v p : ℕ) → (p + size_of u ≤ o) ⊎ (o + size_of w ≤ p) → element_in u (with_element w b o v) p ≡ element_in u b p
 element_off w u b o v p h =
     element_same u b (with_element w b o v) p (λ k lo hi. put_off w b o v k (⊎_elim (λ x. inl (omega (arith, x, hi))) (λ x. inr (omega (arith, x, lo))) h))
 
--- ---- what was written
+-- ---- the element that was written
 
 half_back : (b : Bytes) (o v : ℕ) → half_in (with_half b o v) o ≡ Some (v % 2 ^ 16)
 half_back b o v =
@@ -100,7 +100,7 @@ held_truth w v e = by_case (nat_cases w)
     by_case (inl lt) = let t : nat_lt w 2 ≡ true = lt-ltb w 2 lt in let same : Some (pos w) ≡ Some v = rw t at e in ((let x : pos w ≡ v = cc in sym x), lt)
     by_case (inr ge) = let t : nat_lt w 2 ≡ false = le-ltb w 2 ge in let none : None ≡ Some v = rw t at e in absurd (let x : ⊥ = cc in x)
 
--- what is written is read as the word of the number that the element then holds
+-- a written element is read as the word of the number that it then holds
 pub element_back : (agree : ConversionsAgree) (t : IntType) (b : Bytes) (o w : ℕ) (v : ℤ) → w < 2 ^ 32 → held_by t w ≡ Some v → element_in (width_of t) (with_element (width_of t) b o w) o ≡ Some (word_for v)
 element_back agree ty.Bool b o w v small e =
     let h = held_truth w v e in

@@ -1,4 +1,4 @@
--- String literals and objects with static storage lie in the data.
+-- String literals and objects with static storage are in the data.
 use Rattle.std.proofs.Common.{◌≡◌, ◌⊎◌, inl, inr, ℕ, zero, suc, ◌+◌, ◌*◌, ◌<◌, ◌≤◌, List, [], ◌∷◌, ◌++◌, length, map, Option, Some, None, true, append_assoc, refl, sym, ap, ◌∙◌, subst, arith}
 use Rattle.std.specs.Prelude.{slice_get, ℤ, pos}
 use Rattle.ctypes.specs.declared.types.IntType.TheVariants as ty
@@ -32,7 +32,7 @@ pub record InData (x : Spot) (o : Option Tree) (stored : List ℕ) : Type 0 wher
   pub past : x.offset + size_of_object x.type ≤ length stored
   pub elements : ElementsInPlace x tree (slice_get stored)
 
--- what stands in bytes between others
+-- the elements of bytes between others
 pub get_between : (before bytes after : List ℕ) (k x : ℕ) → slice_get bytes k ≡ Some x → slice_get (before ++ (bytes ++ after)) (length before + k) ≡ Some x
 get_between before bytes after k x e = get_right before (bytes ++ after) k ∙ get_left bytes after k x e
 
@@ -179,7 +179,7 @@ bytes_of_pieces : (ls : List (List ℕ)) → all_bytes (map literal_piece ls) �
 bytes_of_pieces [] = refl
 bytes_of_pieces (text ∷ ls) = ap (λ k. in_words (length text) + k) (bytes_of_pieces ls)
 
--- each object before the run lies in the data
+-- each object before the run is in the data
 pub first_lies : (q : Program) → IsSoundProgram q → (n : ℕ) (x : Spot) → slice_get (spots q []) n ≡ Some x → x.in_bytes ≡ true → InData x (slice_get (first_store q) n) (data_of q)
 first_lies q sound n x e b = by_kind (get_in_both (spots_from 0 16 (map literal_piece q.literals)) (spots_from 0 (16 + all_bytes (map literal_piece q.literals)) (map static_piece q.statics)) n x (ap (λ z. slice_get z n) (sym (spots_both 0 16 (map literal_piece q.literals) (map static_piece q.statics))) ∙ e))
   where

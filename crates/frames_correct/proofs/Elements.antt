@@ -1,4 +1,4 @@
--- Elements by their numbers: the paths that lead to them, and where they lie.
+-- Elements by their numbers: the paths that lead to them, and their places.
 use Rattle.std.proofs.Common.{◌≡◌, ℕ, zero, suc, ◌+◌, ◌-◌, ◌*◌, ◌<◌, ◌≤◌, List, [], ◌∷◌, Bool, true, false, Option, Some, None, refl, sym, ap, ◌∙◌, subst, arith}
 use Rattle.std.specs.Prelude.{option_map, nat_lt, if◌then◌else◌}
 use Rattle.std.proofs.lemmas.Bool.Decides.{nat_tests}
@@ -47,7 +47,7 @@ one_later k p rest = ap (λ j. j ∷ rest) (let e : k + suc p ≡ suc k + p = om
 from_zero : (p : ℕ) (rest : List ℕ) → p ∷ rest ≡ (0 + p) ∷ rest
 from_zero p rest = ap (λ j. j ∷ rest) (let e : p ≡ 0 + p = omega arith in e)
 
--- in the first part, or behind it
+-- in the first part, or after it
 one_of_row : (lengths : List ℕ) (t : Tree) (row : Row) (k i : ℕ) (path : List ℕ) → Shaped lengths t → Finds lengths
     → ((j : ℕ) → path_in row (suc k) j ≡ Some path → FoundIn lengths path (suc k) (parts row) j) → path_in (and_part t row) k i ≡ Some path
     → FoundIn lengths path k (suc (parts row)) i

@@ -25,7 +25,7 @@ pub no_value : (ls : List ℕ) (z : ℤ) → value_of (Some (filled None ls)) �
 no_value [] z e = cc
 no_value (n ∷ ls) z e = cc
 
--- an object of that type that lies there, with no values
+-- an object of that type at that place, with no values
 pub fresh_lies : (x : Spot) (t : ObjectType) (o : Option Tree) (m : Option flat.Memory) → x.type ≡ t → InPlace x o m → InPlace x (Some (indeterminate t)) m
 fresh_lies x t o m e h = record {
   tree = indeterminate t;

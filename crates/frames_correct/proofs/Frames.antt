@@ -1,4 +1,4 @@
--- The frames of the calls that are open, behind a change of the store or of bytes.
+-- The frames of the open calls, after a change of the store or of bytes.
 use Rattle.std.proofs.Common.{◌≡◌, ℕ, ◌+◌, List, [], ◌∷◌, ◌++◌, length, map, Option, Some, None, Bool, true, false, refl, sym, ap, ◌∙◌, subst, eqb}
 use Rattle.std.specs.Prelude.{slice_get, not}
 use Rattle.ctypes.specs.declared.types.IntType.{IntType}
@@ -109,7 +109,7 @@ functions_same q [] (f ∷ fs) store h = absurd h
 functions_same q (c ∷ cs) [] store h = absurd h
 functions_same q (c ∷ cs) (f ∷ fs) store h = ap (λ g. g ∷ map (λ f. f.function) fs) h.0.function ∙ ap (λ gs. c.function ∷ gs) (functions_same q cs fs store h.1)
 
--- ---- what lies in bytes, where stores and lists agree
+-- ---- objects in bytes, where stores and lists agree
 
 pub lies_by : (x : Spot) (o o2 : Option Tree) (m m2 : Option Memory) → o2 ≡ o → m2 ≡ m → InPlace x o m → InPlace x o2 m2
 lies_by x o o2 m m2 eo em h = record { tree = h.tree; tree_is = eo ∙ h.tree_is; shaped = h.shaped; list = h.list; list_is = em ∙ h.list_is; first = h.first; past = h.past; elements = h.elements }

@@ -1,4 +1,4 @@
--- The lists of bytes of a flat state behind a write to one of them.
+-- The lists of bytes of a flat state after a write to one of them.
 use Rattle.std.proofs.Common.{◌≡◌, ◌≢◌, ℕ, zero, suc, ◌+◌, List, [], ◌∷◌, Some, true, false, refl, sym, ap, ◌∙◌, subst, arith, eqb}
 use Rattle.std.proofs.lemmas.Bool.Decides.{nat_tests}
 use Rattle.frames_code.specs.Code.{Program, frame_bytes}

@@ -30,7 +30,7 @@ pub step_is : (p : Program) (s : State) (x : Instruction) → slice_get (functio
 unfolding step
 step_is p s x e = ap (λ o. o >>= act p s) e
 
--- a call of g that has made so many moves
+-- a call of g that has made `at` moves
 abbrev pub moving : State → ℕ → ℕ → flat.Values → State
 moving s g at cells = record (entered s g) { frame = record { function = g; at = at; cells = cells; area = flat.unset } }
 
@@ -172,7 +172,7 @@ module _ (p : Program) (s : State) (xs : List Spot) (g : ℕ) (l : Layout) (boun
       by_place kept old (suc i) r2 e = subst (λ j. Shows xs (reference r2) (h.cells2 (l.references + j))) (let sum : m + 1 + i ≡ m + suc i = omega arith in sum) (old i r2 e)
 
   module _ (values : Values) (shows : AllShow xs values s.temporaries) where
-    -- the code of the moves stands from k on
+    -- the code of the moves is placed from k on
     abbrev Stand : (k n m : ℕ) → List Parameter → Type 0
     Stand k n m ps = (i : ℕ) (x : Instruction) → slice_get (moves_from l k n m ps) i ≡ Some x → slice_get (function_at p g).code (k + i) ≡ Some x
 

@@ -39,7 +39,7 @@ module _ (q : Program) (f : flat_code.Program) (t : State) (s : flat.State) (m :
   abbrev the : Function
   the = function_at q t.call.function
 
-  -- the states behind, with other temporaries, input and history
+  -- the states after it, with other temporaries, input and history
   further : (temporaries : Values) (places : flat.Values) (input input2 : List ℕ) (history : List Entry) (trace : List Event) → AllShow (xs q f t s m) temporaries places → AreBytes input → input2 ≡ input → trace ≡ trace_of history
       → Matched q f (record (tac.next t) { temporaries = temporaries; input = input; history = history }) (record (flat.next s) { temporaries = places; input = input2; trace = trace })
   further temporaries places input input2 history trace shows bytes same_input same = record {

@@ -1,4 +1,4 @@
--- Where places lie, and the types of what lies there.
+-- The addresses of places, and the types of the objects there.
 use Rattle.std.proofs.Common.{◌≡◌, ℕ, zero, suc, ◌+◌, ◌*◌, List, [], ◌∷◌, ◌++◌, length, map, Bool, Option, Some, None, true, false, refl, sym, ap, ◌∙◌, subst, arith}
 use Rattle.std.specs.Prelude.{slice_get, not, option_map, if◌then◌else◌}
 use Rattle.ctypes.specs.declared.types.IntType.{IntType}

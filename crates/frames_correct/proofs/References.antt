@@ -27,7 +27,7 @@ use Rattle.frames_correct.proofs.Targets.{bound, tested, found, given}
 use Rattle.frames_correct.proofs.Places.{xs, the, place_there, type_is}
 use Rattle.frames_correct.proofs.Ground.{IsMadeOf}
 
--- what is found where the reference leads
+-- the part found at the target of the reference
 pub record PartThere (xs : List Spot) (r : Reference) (i : ℕ) (t : Tree) : Type 0 where
   pub leads : Leads xs (into r i)
   pub offset : offset_in (slice_get xs r.object) (into r i).path ≡ offset_in (slice_get xs r.object) r.path + i * (bytes_of leads.spot.type.element * elements_of t)
@@ -93,7 +93,7 @@ module _ (q : Program) (f : flat_code.Program) (g : IsMadeOf q f) (t : State) (s
           subst (λ k. Alike q f (gives q d t (reference (into r i))) (flat.gives (target_of lay d) s (flat.reference (list_in (slice_get here r.object)) k))) offset
           (given q f t s m d (reference (into r i)) flat.unset fd h.leads))))
 
-  -- the number of an element behind a reference, in bytes
+  -- the number of an element after a reference, in bytes
   on_by : (o b e n i : ℕ) → n ≡ e + i → o + b * n ≡ o + b * e + i * b
   on_by o b e n i h = let d : b * (e + i) ≡ b * e + i * b = grind arith in let c : b * n ≡ b * (e + i) = ap (λ z. b * z) h in omega (arith, d, c)
 

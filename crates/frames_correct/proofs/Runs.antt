@@ -17,7 +17,7 @@ use Rattle.frames_correct.proofs.Calling.{as_sum}
 use Rattle.frames_correct.specs.Laws.{Comes, Follows, FlatRunsCompose}
 use Rattle.frames_correct.proofs.Steps.{same_running, step_follows}
 
--- ---- flat runs, one behind the other
+-- ---- consecutive flat runs
 
 assoc : (p : flat_code.Program) (r : flat.Progress) (go more : flat.State → flat.Progress) → flat.goes_on (flat.goes_on r go) more ≡ flat.goes_on r (λ s. flat.goes_on (go s) more)
 assoc p (flat.running s) go more = refl

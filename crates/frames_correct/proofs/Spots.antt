@@ -1,4 +1,4 @@
--- Where objects lie: apart from each other, and at multiples of 4.
+-- The places of objects: apart from each other, and at multiples of 4.
 use Rattle.std.proofs.Common.{◌≡◌, ◌⊎◌, inl, inr, ⊎_elim, ℕ, zero, suc, ◌+◌, ◌%◌, ◌<◌, ◌≤◌, List, [], ◌∷◌, ◌++◌, length, map, Option, Some, Bool, true, false, refl, sym, ap, ◌∙◌, subst, arith}
 use Rattle.std.specs.Prelude.{slice_get, not}
 use Rattle.typing_spec.specs.Types.{ObjectType, size_of_object}
@@ -11,7 +11,7 @@ use Rattle.frames.specs.Layout as layout
 use Rattle.frames_correct.specs.Matched.{Spot, Piece, spot_of, spots_from, literal_piece, static_piece, own_piece, function_for, stack_bytes, spots}
 use Rattle.frames_correct.proofs.Lists.{same_some, get_right, IsBehind, get_in_both, some_below, from_map}
 
--- ---- pieces one behind the other
+-- ---- consecutive pieces
 
 abbrev pub all_bytes : List Piece → ℕ
 all_bytes [] = 0

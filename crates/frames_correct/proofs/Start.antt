@@ -30,7 +30,7 @@ first_count q =
     omega (arith, length_map literal_object q.literals, length_map static_object q.statics, length_map literal_piece q.literals, length_map static_piece q.statics, length_both (map literal_piece q.literals) (map static_piece q.statics)) in e)
     ∙ sym (length_spots 0 16 (map literal_piece q.literals ++ map static_piece q.statics))
 
--- a list that objects before the run lie in is that of the statics
+-- a list that contains objects before the run is that of the statics
 first_list : (q : Program) (n : ℕ) (x : Spot) → slice_get (spots q []) n ≡ Some x → 0 ≡ x.list
 first_list q n x e = in_list 0 16 (map literal_piece q.literals ++ map static_piece q.statics) n x e
 

@@ -88,7 +88,7 @@ costs_no_more q u l instruction.GetByte h = omega arith
 costs_no_more q u l instruction.Exit h = omega arith
 costs_no_more q u l instruction.Return h = omega arith
 
--- ---- what a step comes to
+-- ---- the outcome of a step
 
 pub follows_bound : {A : Type 0} (q : Program) (f : flat_code.Program) (t : State) (s : flat.State) (cost : ℕ) (o : Option A) (go : A → Progress) → ((x : A) → o ≡ Some x → Follows q f t s cost (go x)) → Follows q f t s cost (o >>= go)
 follows_bound q f t s cost None go each = tt

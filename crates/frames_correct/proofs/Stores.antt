@@ -1,4 +1,4 @@
--- The store behind a write.
+-- The store after a write.
 use Rattle.std.proofs.Common.{◌≡◌, ◌≢◌, ℕ, zero, suc, List, [], ◌∷◌, length, Some, refl, ap}
 use Rattle.std.specs.Prelude.{slice_get}
 use Rattle.csem.specs.Store.{Tree, Store, put_at, put_in}

@@ -25,7 +25,7 @@ use Rattle.frames_correct.proofs.Stores.{put_other, put_same, put_length}
 use Rattle.frames_correct.proofs.Frames.{functions_of, WordsStay, frames_stay, scalar_spot, all_lie_by}
 use Rattle.frames_correct.proofs.Values.{show_set, show_off, word_known}
 
--- ---- what hangs on a value that may be absent, or on a test
+-- ---- continuations of a value that may be absent, or of a test
 
 pub bound : {A : Type 0} (q : Program) (f : flat_code.Program) (o : Option A) (go : A → Progress) (r : flat.Progress) → ((x : A) → o ≡ Some x → Alike q f (go x) r) → Alike q f (o >>= go) r
 bound q f None go r each = tt

@@ -14,7 +14,7 @@ pub at_none : (path : List ℕ) → at_path None path ≡ None
 at_none [] = refl
 at_none (i ∷ path) = at_none path
 
--- what is left of the lengths behind a path
+-- the rest of the lengths after a path
 abbrev pub behind : (lengths path : List ℕ) → List ℕ
 behind lengths [] = lengths
 behind [] (i ∷ path) = []
@@ -113,7 +113,7 @@ rows_apart i j n a b lt small =
     let f : suc i * n ≡ n + i * n = grind arith in
     omega (arith, e, f, small)
 
--- paths part, and the elements lie apart
+-- paths part, and the elements are disjoint
 pub record AreApart (lengths path path2 : List ℕ) : Type 0 where
   pub part : Parts path path2
   pub apart : (elements_before lengths path < elements_before lengths path2) ⊎ (elements_before lengths path2 < elements_before lengths path)

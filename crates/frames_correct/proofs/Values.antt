@@ -1,4 +1,4 @@
--- What operands are read from has their values.
+-- The sources of operands have their values.
 use Rattle.std.proofs.Common.{◌≡◌, ◌≢◌, ℕ, ◌^◌, ◌<◌, List, Option, Some, None, refl, ap, ◌∙◌, subst, arith, eqb}
 use Rattle.std.specs.Prelude.{slice_get, ℤ, pos, negsuc, option_map}
 use Rattle.std.proofs.lemmas.Bool.Decides.{nat_tests}

@@ -1,4 +1,4 @@
--- What flat code does in step with the three-address code that it was made of.
+-- Flat code in step with the three-address code that it was made of.
 use Rattle.std.specs.Prelude.{◌≡◌, ◌⊎◌, ◌≤◌, ◌<◌, ℕ, List, ◌+◌}
 use Rattle.tac_code.specs.Code.{Program}
 use Rattle.tac_code.specs.Costs.{cost_if}
@@ -13,13 +13,13 @@ use Rattle.frames.specs.Translated.{flat_program}
 use Rattle.frames.specs.Flattened.{InStep, IsFlattened}
 use Rattle.frames_correct.specs.Matched.{Matched, Alike}
 
--- these are the calls that are open behind a step
+-- these are the calls that are open after a step
 abbrev pub AreCallsOf : List ℕ → Progress → Type 0
 AreCallsOf fs (running t) = fs ≡ open_calls t
 AreCallsOf fs (ended status input history) = ⊥
 AreCallsOf fs stuck = ⊥
 
--- flat code comes, in at least one step and within a cost, to what is alike, and has the calls of the one state or of the other
+-- flat code reaches, in at least one step and within a cost, a state that is alike, and has the calls of the one state or of the other
 pub record Comes (q : Program) (f : flat.Program) (t : State) (s : flat_run.State) (cost : ℕ) (r : Progress) : Type 0 where
   pub count : ℕ
   pub some : 0 < count
@@ -38,7 +38,7 @@ abbrev pub StepFollows : Type 0
 StepFollows = (q : Program) → IsSoundProgram q → (t : State) (s : flat_run.State) → Matched q (flat_program q) t s
     → Follows q (flat_program q) t s (cost_if q (instruction_at q t)) (step q t)
 
--- as they begin, both stand at the same
+-- at their starts, the two states match
 abbrev pub StartsMatched : Type 0
 StartsMatched = (q : Program) → IsSoundProgram q → (input : List ℕ) → AreBytes input → Matched q (flat_program q) (tac_run.start q input) (flat_run.start (flat_program q) input)
 
@@ -46,10 +46,10 @@ StartsMatched = (q : Program) → IsSoundProgram q → (input : List ℕ) → Ar
 abbrev pub FlatIsInStep : Type 0
 FlatIsInStep = (q : Program) → IsSoundProgram q → (input : List ℕ) → AreBytes input → InStep q (flat_program q) input
 
--- and is what flattening is to give
+-- and is the flattening that is specified
 abbrev pub FlatIsFlattened : Type 0
 FlatIsFlattened = (q : Program) → IsSoundProgram q → IsFlattened q (flat_program q)
 
--- so many steps of flat code and then so many are a run of both
+-- k steps of flat code and then n are one run of k + n
 abbrev pub FlatRunsCompose : Type 0
 FlatRunsCompose = (p : flat.Program) (k n : ℕ) (s : flat_run.State) → flat_run.run p (k + n) s ≡ flat_run.goes_on (flat_run.run p k s) (flat_run.run p n)

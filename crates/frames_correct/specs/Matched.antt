@@ -1,4 +1,4 @@
--- What it is for flat code to stand where three-address code stands.
+-- The relation of a state of flat code to one of three-address code.
 use Rattle.std.specs.Prelude.{◌≡◌, ◌≤◌, ◌<◌, ℕ, ◌+◌, ◌*◌, ◌^◌, Bool, true, not, List, [], ◌∷◌, ◌++◌, map, length, slice_get, Option, Some, None, ℤ}
 use Rattle.ctypes.specs.declared.types.IntType.{IntType}
 use Rattle.ctypes.specs.declared.types.IntType.TheVariants as ty
@@ -22,16 +22,16 @@ use Rattle.frames.specs.Layout.{is_scalar, bytes_of_array, layout_of, starts_of}
 use Rattle.frames.specs.Translated.{width_of, flat_function}
 use Rattle.frames.specs.Laws.{cell}
 
--- ---- where objects lie
+-- ---- places of objects
 
--- an object: whether it lies in bytes; the list of these, how many of them lie before it; its type
+-- an object: whether it is in bytes; the list of these, how many of them precede it; its type
 pub record Spot : Type 0 where
   pub in_bytes : Bool
   pub list : ℕ
   pub offset : ℕ
   pub type : ObjectType
 
--- what lies one behind the other in a list, and how many bytes each takes
+-- the objects that are consecutive in a list, and how many bytes each takes
 pub record Piece : Type 0 where
   pub in_bytes : Bool
   pub size : ℕ
@@ -63,16 +63,15 @@ abbrev pub stack_bytes : tac.Program → List ℕ → ℕ
 stack_bytes q [] = 0
 stack_bytes q (f ∷ fs) = frame_bytes (function_for q f) + stack_bytes q fs
 
--- of the objects that live where these functions' calls are open, the innermost first: the literals and the statics behind 16 bytes, then
--- those of the calls
+-- of the objects that live where these functions' calls are open, the innermost first: the literals and the statics after 16 bytes, then those of the calls
 abbrev pub spots : tac.Program → List ℕ → List Spot
 spots q [] = spots_from 0 16 (map literal_piece q.literals ++ map static_piece q.statics)
 spots q (f ∷ fs) =
     spots q fs ++ spots_from (stack_bytes q (f ∷ fs)) (area_home (function_for q f)) (map own_piece (tac.function_at q f).objects)
 
--- ---- what references lead to
+-- ---- the targets of references
 
--- how many elements lie before the part that the subscripts name
+-- how many elements precede the part that the subscripts name
 abbrev pub elements_before : (lengths path : List ℕ) → ℕ
 elements_before [] path = 0
 elements_before (n ∷ lengths) [] = 0
@@ -162,7 +161,7 @@ abbrev pub ElementsInPlace : Spot → Tree → Bytes → Type 0
 ElementsInPlace x tree bytes = (path : List ℕ) (v : ℤ) → at_path (Some tree) path ≡ Some (Element (Some v))
     → element_in (width_of x.type.element) bytes (offset_at x path) ≡ Some (word_for v)
 
--- an object in the list that it lies in
+-- an object in the list that contains it
 pub record InPlace (x : Spot) (o : Option Tree) (m : Option Memory) : Type 0 where
   pub tree : Tree
   pub tree_is : o ≡ Some tree
@@ -178,7 +177,7 @@ AllInPlace xs store lists = (n : ℕ) (x : Spot) → slice_get xs n ≡ Some x �
 
 -- ---- states
 
--- What flat code finds of its arguments is no part: only the moves at a function's beginning read it.
+-- The arguments of flat code are no part of the match: only the moves at a function's beginning read them.
 pub record Matched (q : tac.Program) (f : flat.Program) (t : tac_run.State) (s : flat_run.State) : Type 0 where
   pub frames : FramesHold q (t.call ∷ t.waiting) (s.frame ∷ s.waiting) t.store
   pub temporaries : AllShow (spots q (open_calls t)) t.temporaries s.temporaries

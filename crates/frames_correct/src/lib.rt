@@ -3,12 +3,12 @@
 
 ghost use Rattle.frames_correct.specs.Laws.{StepFollows, StartsMatched, FlatIsInStep, FlatIsFlattened, FlatRunsCompose};
 
-/// One step of three-address code, whatever stands there, is the steps of its translation, at no more cost.
+/// One step of three-address code, whatever the instruction, is the steps of its translation, at no more cost.
 pub fn step_follows()
     ensures { StepFollows }
 {}
 
-/// As a program begins, both stand at the same.
+/// At the start of a program, the two states match.
 pub fn starts_matched()
     ensures { StartsMatched }
 {}
@@ -23,7 +23,7 @@ pub fn flat_is_flattened()
     ensures { FlatIsFlattened }
 {}
 
-/// So many steps of flat code and then so many are a run of both.
+/// k steps of flat code and then n are one run of k + n.
 pub fn flat_runs_compose()
     ensures { FlatRunsCompose }
 {}

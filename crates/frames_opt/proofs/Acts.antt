@@ -1,4 +1,4 @@
--- An instruction that is made simpler does the same where what is known holds.
+-- A simplified instruction does the same where the known facts hold.
 use Rattle.std.proofs.Common.{◌≡◌, ◌<◌, ℕ, zero, suc, ◌+◌, ◌*◌, ◌%◌, ◌^◌, List, [], ◌∷◌, Option, Some, None, Bool, true, false, refl, sym, ap, ◌∙◌, subst, arith}
 use Rattle.std.specs.Prelude.{◌==◌, ◌&&◌, nat_lt, not, bit_and, bit_or, bit_xor, if◌then◌else◌}
 use Rattle.std.specs.Int.{w32, trailing_zeros}
@@ -24,7 +24,7 @@ use Rattle.frames_opt.specs.declared.facts.Known.TheVariants as known
 use Rattle.frames_opt.specs.inside.Facts.{held, known_of}
 use Rattle.frames_opt.specs.inside.Rules.{constant_or, simpler_operand, location_or, simpler_location, is_constant, commutes, is_product, product, shift, is_power, scaled, multiplied, arranged, compute, within, statics_or, frame_or, numbered, simpler_element, simpler}
 
--- ---- what is known holds of a value, where the frame has a name and its arrays begin so many bytes above its start
+-- ---- known facts hold of a value, where the frame has a name and its arrays begin `home` bytes above its start
 
 abbrev pub Knows : (name home : ℕ) → Known → Option Value → Type 0
 Knows name home known.Unknown v = Unit {0}
@@ -148,7 +148,7 @@ module _ (p : Program) (s : State) where
   compute_same o d (operand.Constant v) (operand.Constant w) = arranged_same o d (operand.Constant v) (operand.Constant w)
   compute_same o d (operand.Constant v) (operand.Argument k) = swapped_same o d v (operand.Argument k) (commutes o) refl
 
-  -- ---- what is known
+  -- ---- the known facts
 
   abbrev name : ℕ
   name = name_in p s

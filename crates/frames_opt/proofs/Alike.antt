@@ -102,7 +102,7 @@ IsNo false = Unit {0}
 not_both : (b : Bool) → b ≡ true → b ≡ false → ⊥
 not_both b e g = subst IsNo (sym g ∙ e) tt
 
--- temporary k is written before it is read: so instruction x does not read it, and if it does not write it, what comes behind does
+-- temporary k is dead before x: so instruction x does not read it, and if it does not write it, it is dead after x
 unread_reads : (k : ℕ) (x : Instruction) (xs : List Instruction) → is_unread k (x ∷ xs) ≡ true → reads k x ≡ false
 unread_reads k x xs e = on (reads k x) refl
   where
@@ -115,13 +115,13 @@ unread_behind k x xs e w =
     let first : reads k x ≡ false = unread_reads k x xs e in
     ap (λ t. if t then true else is_unread k xs) (sym w) ∙ (ap (λ t. if t then false else (if is_written k x then true else is_unread k xs)) (sym first) ∙ e)
 
--- ---- states that differ in what is not read
+-- ---- states that differ in temporaries that are not read
 
 pub record Agree (rest : List Instruction) (s : State) (u a : Values) : Type 0 where
   pub temporaries : (k : ℕ) → (u k ≡ s.temporaries k) ⊎ (is_unread k rest ≡ true)
   pub arguments : (k : ℕ) (v : Value) → s.arguments k ≡ Some v → a k ≡ Some v
 
--- the second has gone on from the first, where it goes on; rest of the code is that behind the state reached
+-- the second has gone on from the first, where it goes on; rest of the code is that after the state reached
 pub record Goes (rest : List Instruction) (s : State) (z : Progress) : Type 0 where
   pub others : Values
   pub given : Values
@@ -290,7 +290,7 @@ module _ (p q : Program) (r : Sized p q) (rest : State → List Instruction) (s 
         (λ m. match_if rest (fits w v.offset m) (running (with_memory p (next s) v.list (with_element w m.bytes v.offset n))) (running (with_memory q (next t2) v.list (with_element w m.bytes v.offset n)))
         (memory_match v.list (with_element w m.bytes v.offset n) wr))
 
-    -- ---- an instruction that is left out, where what it writes is not read
+    -- ---- an instruction that is left out, where the temporary that it writes is not read
 
     dropped_agrees : (j : ℕ) (v : Value) → written y ≡ Some j → is_unread j xs ≡ true → (k : ℕ) → (u k ≡ with_at s.temporaries j v k) ⊎ (is_unread k xs ≡ true)
     dropped_agrees j v w dead k = on (k == j) refl

@@ -260,7 +260,7 @@ code_length area old new (improved c) = ap length c.is ∙ (swept_length (forwar
 
 -- ---- functions
 
--- what an instruction needs of its function but for its count of instructions
+-- the needs of an instruction of its function, apart from its count of instructions
 module _ (n : ℕ) (f : Function) (code : List Instruction) (count : length code ≡ length f.code) where
   abbrev g : Function
   g = with_code f code

@@ -20,7 +20,7 @@ use Rattle.frames_opt.proofs.Acts.{not_true}
 use Rattle.frames_opt.proofs.Stands.{Flow}
 use Rattle.frames_opt.proofs.Runs.{Dropped, Position}
 
--- ---- what holds of each form that an operation or an element may get
+-- ---- properties of each form that an operation or an element may get
 
 module _ (P : Instruction → Type 0) where
   either : (t : Bool) (x y : Instruction) → P x → P y → P (if t then x else y)
@@ -132,7 +132,7 @@ module _ (area : ℕ) (marks : List Bool) where
   abbrev further : List Known → ℕ → Instruction → List Known
   further facts i x = behind (fresh (is_marked marks i) facts) (simpler area (fresh (is_marked marks i) facts) x)
 
-  -- what is known before instruction k of these, the first of which has the number i
+  -- the facts known before instruction k of these, the first of which has the number i
   abbrev pub known_from : ℕ → List Known → List Instruction → ℕ → List Known
   known_from i facts [] k = nothing
   known_from i facts (x ∷ xs) zero = fresh (is_marked marks i) facts
@@ -169,7 +169,7 @@ module _ (area : ℕ) (marks : List Bool) where
   pub start_known : (xs : List Instruction) → known_from 0 nothing xs 0 ≡ nothing
   start_known xs = ⊎_elim (λ e. e) (λ e. e) (first_known 0 nothing xs)
 
--- ---- without what nobody reads
+-- ---- without dead stores
 
 unread_take : (n k : ℕ) (xs : List Instruction) → is_unread k (take n xs) ≡ true → is_unread k xs ≡ true
 unread_take zero k xs e = absurd (not_true e)

@@ -1,4 +1,4 @@
--- What the functions give, where there is memory.
+-- The results of the functions, where there is memory.
 use Rattle.std.proofs.Common.{◌≡◌, ◌≤◌, ℕ, zero, suc, Bool, true, List, [], ◌∷◌, ◌++◌, length, take, drop, Option, Some, None, Ok, refl, sym, ap, ◌∙◌, subst, arith}
 use Rattle.std.specs.Prelude.{Result, Err, IfOk, sum_by}
 use Rattle.std.proofs.lemmas.List.{length-set}

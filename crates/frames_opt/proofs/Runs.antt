@@ -22,7 +22,7 @@ pub record Dropped (y z : Instruction) (xs : List Instruction) : Type 0 where
   pub writes : written y ≡ Some number
   pub dead : is_unread number xs ≡ true
 
--- instruction i, which is x in the program, by what is known and in the end
+-- instruction i, which is x in the program: simplified by the known facts, and in the end
 pub record Position (area : ℕ) (kn : ℕ → List Known) (middle new : List Instruction) (i : ℕ) (x : Instruction) : Type 0 where
   pub half : Instruction
   pub done : Instruction

@@ -1,4 +1,4 @@
--- What is known holds all along a run.
+-- The known facts are an invariant of a run.
 use Rattle.std.proofs.Common.{◌≡◌, ◌⊎◌, inl, inr, ⊎_elim, ℕ, zero, suc, ◌+◌, ◌*◌, ◌%◌, ◌^◌, List, [], ◌∷◌, Option, Some, None, Bool, true, false, refl, sym, ap, ◌∙◌, subst}
 use Rattle.std.specs.Prelude.{◌==◌, if◌then◌else◌, get_or, set, replicate}
 use Rattle.std.proofs.lemmas.Bool.{eqb-true, eqb-false}
@@ -49,7 +49,7 @@ sat_either : (P : State → Type 0) (t : Bool) (x y : State) → P x → P y →
 sat_either P true x y a b = a
 sat_either P false x y a b = b
 
--- ---- lists of what is known
+-- ---- lists of known facts
 
 pub held_in : (n k : ℕ) → held (replicate n known.Unknown) k ≡ known.Unknown
 held_in zero k = refl
@@ -115,9 +115,9 @@ module _ (name home : ℕ) where
       let right : Knows name home (result_on o v w) (Some (word (operate o v b))) = subst (λ m. Knows name home (result_on o v w) (Some (word (operate o v m)))) two (result_knows o v w) in
       subst (λ m. Knows name home (result_on o v w) (Some (word (operate o m b)))) one right
 
--- ---- what is known before each instruction of each function
+-- ---- the facts known before each instruction of each function
 
--- behind instruction i, which is y
+-- after instruction i, which is y
 pub record Flow (kn : ℕ → List Known) (i : ℕ) (y : Instruction) : Type 0 where
   pub next : (kn (i + 1) ≡ nothing) ⊎ (kn (i + 1) ≡ behind (kn i) y)
   pub jumps : (to : ℕ) → jump_of y ≡ Some to → kn to ≡ nothing
@@ -126,7 +126,7 @@ abbrev pub Waits : (ℕ → ℕ → List Known) → List Frame → Type 0
 Waits kn [] = Unit {0}
 Waits kn (f ∷ fs) = (kn f.function f.at ≡ nothing) × Waits kn fs
 
--- what is known holds; nothing is known where calls that wait go on
+-- the known facts hold; nothing is known where waiting calls continue
 abbrev pub Stands : Program → (ℕ → ℕ → List Known) → State → Type 0
 Stands p kn s = Holds (name_in p s) (home_in p s) (kn s.frame.function s.frame.at) s.temporaries × Waits kn s.waiting
 

@@ -1,4 +1,4 @@
--- A program of simpler functions does what the program does, at no more cost, and is as sound.
+-- A program of simplified functions does what the program does, at no more cost, and is as sound.
 use Rattle.std.proofs.Common.{◌≡◌, ◌≤◌, ◌<◌, ℕ, zero, suc, ◌+◌, List, [], ◌∷◌, length, map, Option, Some, None, refl, sym, ap, ◌∙◌, subst, arith}
 use Rattle.std.specs.Prelude.{slice_get, sum_by}
 use Rattle.std.proofs.lemmas.List.Sums.{sum_by-cons}

@@ -1,4 +1,4 @@
--- What it is for a flat program to do what another does, at no more cost.
+-- The relation of a flat program to another that it simulates, at no more cost.
 use Rattle.std.specs.Prelude.{◌≡◌, ◌≤◌, ℕ, List, map, slice_get, sum_by, Some}
 use Rattle.frames_code.specs.Code.{Function, Program, frame_bytes}
 use Rattle.frames_code.specs.Run.{State, Progress, running, ended, stuck, run, start, active}
@@ -6,7 +6,7 @@ use Rattle.frames_code.specs.Costs.{spent}
 use Rattle.frames_code.specs.Sound.{IsSoundProgram}
 use Rattle.frames.specs.Costs.{code_bytes}
 
--- the second stands with the first, which promises nothing where it is stuck
+-- the second matches the first, which promises nothing where it is stuck
 abbrev pub DoesTheSame : Progress → Progress → Type 0
 DoesTheSame (running s) (running t) = (t.trace ≡ s.trace) × (t.input ≡ s.input) × (active t ≡ active s)
 DoesTheSame (running s) (ended status input trace) = ⊥

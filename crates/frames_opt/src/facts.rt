@@ -1,4 +1,4 @@
-//! What the temporaries hold, as far as the code itself tells it.
+//! The contents of the temporaries, as far as the code itself determines them.
 
 ghost use Rattle.std.specs.Prelude.{◌≡◌, replicate};
 ghost use Rattle.frames_opt.specs.inside.Facts as facts_in;
@@ -6,19 +6,19 @@ ghost use Rattle.frames_opt.specs.inside.Facts as facts_in;
 use crate::operations::computed;
 use frames_code::{Instruction, Location, Operand, Target};
 
-/// What a temporary holds.
+/// The abstract value of a temporary.
 #[derive(Clone, Copy, Debug)]
 pub enum Known {
     /// Anything, or nothing yet.
     Unknown,
     Word(u32),
-    /// A reference to so many bytes from the start of the statics.
+    /// A reference at this offset in bytes from the start of the statics.
     Statics(usize),
-    /// A reference to so many bytes from the start of the arrays of the frame.
+    /// A reference at this offset in bytes from the start of the arrays of the frame.
     Frame(usize),
 }
 
-/// What is known of the first eight temporaries, which live in registers.
+/// The facts known of the first eight temporaries, which live in registers.
 pub type Facts = [Known; 8];
 
 /// Nothing is known.
@@ -38,7 +38,7 @@ fn held(facts: &Facts, number: usize) -> Known
     }
 }
 
-/// What an operand is known to be.
+/// The abstract value of an operand.
 pub fn known_of(facts: &Facts, operand: Operand) -> Known
     ensures { result ≡ facts_in.known_of facts.now operand }
 {
@@ -79,7 +79,7 @@ fn forget(facts: &mut Facts)
     *facts = nothing();
 }
 
-/// What is known behind an instruction.
+/// The facts known after an instruction.
 pub fn pass(facts: &mut Facts, instruction: Instruction)
     ensures { facts.new ≡ facts_in.behind facts.old instruction }
 {

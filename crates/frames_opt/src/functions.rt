@@ -13,7 +13,7 @@ use crate::passes::{forward, swept};
 use frames_code::{FlatProgram, Function, Instruction};
 use std::alloc::{AllocError, Global};
 
-/// The code of a function whose arrays have so many bytes, by both passes.
+/// The code of a function whose arrays have `area` bytes, by both passes.
 fn improved(
     alloc: Global,
     area: usize,
@@ -67,7 +67,7 @@ fn simplify_functions(alloc: Global, functions: Vec<Function>) -> Result<Vec<Fun
     Ok(list)
 }
 
-/// The program with what is known at an instruction put into it, and without what nobody reads.
+/// The program with the facts known at an instruction put into it, and without dead stores.
 pub fn simplify(alloc: Global, program: FlatProgram) -> Result<FlatProgram, AllocError>
     ensures { IfOk result (λ q. IsSimplified (flat.program_of program) (flat.program_of q)) }
 {

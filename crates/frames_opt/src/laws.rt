@@ -2,7 +2,7 @@
 
 ghost use Rattle.frames_opt.specs.layer.Functions.{FunctionsAreSimplified};
 
-/// A program whose functions were made simpler, one by one, is made simpler.
+/// A program whose functions were simplified, one by one, is simplified.
 pub fn functions_are_simplified()
     ensures { FunctionsAreSimplified }
 {}

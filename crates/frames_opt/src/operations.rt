@@ -55,7 +55,7 @@ fn result_with(operation: Operation, left: u32, right: Operand) -> Known
     }
 }
 
-/// What an operation gives, where it is known.
+/// The result of an operation, where it is known.
 pub fn computed(operation: Operation, left: Operand, right: Operand) -> Known
     ensures { result ≡ facts_in.computed operation left right }
 {
@@ -196,7 +196,7 @@ fn arranged(operation: Operation, target: Target, left: Operand, right: Operand)
     }
 }
 
-/// An operation with a constant behind the other operand, where they may change places, and with a shift in place of a product.
+/// An operation with a constant after the other operand, where they may change places, and with a shift in place of a product.
 pub fn compute(operation: Operation, target: Target, left: Operand, right: Operand) -> Instruction
     ensures { result ≡ rules.compute operation target left right }
 {

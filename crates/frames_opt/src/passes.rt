@@ -11,10 +11,10 @@ use crate::unread::kept;
 use frames_code::Instruction;
 use std::alloc::{AllocError, Global};
 
-/// How many instructions are looked at for the next use of a temporary.
+/// How many instructions are searched for the next use of a temporary.
 const WINDOW: usize = 16;
 
-/// The code by what is known before each instruction; jumps lead to marked ones alone.
+/// The code by the facts known before each instruction; jumps lead to marked ones alone.
 pub fn forward(
     alloc: Global,
     area: usize,
@@ -36,7 +36,7 @@ pub fn forward(
     Ok(made)
 }
 
-/// The code without what nobody reads.
+/// The code without dead stores.
 pub fn swept(alloc: Global, code: &[Instruction]) -> Result<Vec<Instruction>, AllocError>
     ensures { IfOk result (λ made. made.items ≡ passes.swept code.now) }
 {

@@ -1,4 +1,4 @@
-//! What stands in the place of an instruction, by what is known before it.
+//! The replacement of an instruction, by the facts known before it.
 
 ghost use Rattle.std.specs.Prelude.{◌≡◌};
 ghost use Rattle.frames_opt.specs.inside.Rules as rules;
@@ -48,7 +48,7 @@ fn simpler_location(facts: &Facts, location: Location) -> Location
     }
 }
 
-/// So many elements on, where that is below `most`.
+/// The offset `index` elements further, where that is below `most`.
 fn within(offset: usize, index: u32, size: usize, most: usize) -> Option<usize>
     ensures { result ≡ rules.within offset index size most }
 {
@@ -171,7 +171,7 @@ fn simpler_element(
     }
 }
 
-/// The instruction by what is known before it, in a function whose arrays have so many bytes.
+/// The instruction by the facts known before it, in a function whose arrays have `area` bytes.
 pub fn simpler(area: usize, facts: &Facts, instruction: Instruction) -> Instruction
     ensures { result ≡ rules.simpler area facts.now instruction }
 {

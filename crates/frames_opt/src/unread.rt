@@ -26,7 +26,7 @@ fn is_through(number: usize, location: Location) -> bool
     }
 }
 
-/// Whether an instruction reads a temporary, or what comes behind it is not known.
+/// Whether an instruction reads a temporary, or its continuation is not known.
 fn reads(number: usize, instruction: Instruction) -> bool
     ensures { result ≡ unread.reads number instruction }
 {
@@ -105,7 +105,7 @@ fn is_unread(number: usize, code: &[Instruction]) -> bool
     false
 }
 
-/// An instruction, but `Nothing` where it writes a temporary that the instructions behind it do not read.
+/// An instruction, but `Nothing` where it writes a temporary that the instructions after it do not read.
 pub fn kept(instruction: Instruction, behind: &[Instruction]) -> Instruction
     ensures { result ≡ unread.kept instruction behind.now }
 {

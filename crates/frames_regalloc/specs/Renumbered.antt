@@ -1,4 +1,4 @@
--- Words of frames under other numbers: what a program is that differs from another in these alone.
+-- Words of frames under other numbers: the relation between programs that differ in these alone.
 use Rattle.std.specs.Prelude.{◌≡◌, ◌<◌, ◌≤◌, ℕ, List, [], ◌∷◌, map}
 use Rattle.frames_code.specs.declared.code.Operand.{Operand}
 use Rattle.frames_code.specs.declared.code.Operand.TheVariants as operand

@@ -1,2 +1,2 @@
--- What only proofs and private functions need: nothing here has to be believed.
+-- Definitions that only proofs and private functions need: nothing here has to be believed.
 pub mod Pairs

@@ -9,12 +9,12 @@ ghost use Rattle.frames_regalloc.specs.inside.Pairs as swaps_in;
 ghost use Rattle.frames_regalloc.specs.inside.Pairs.{AreInside};
 
 use crate::instructions::renumbered;
-use crate::swaps::Swap;
+use crate::swaps::{Swap, through};
 use crate::weights::word_weights;
 use frames_code::{FlatProgram, Function, Instruction};
 use std::alloc::{AllocError, Global};
 
-/// What a word must weigh to live in a register, since the caller's is put in the frame and taken back for it.
+/// The least weight of a word that lives in a register, since the caller's value is saved to the frame and restored for it.
 const ENOUGH: u64 = 3;
 
 /// The first of the heaviest words from this one on.
@@ -76,6 +76,18 @@ pub fn renumber_function(alloc: Global, function: &Function) -> Result<Function,
         area: function.area,
         outgoing: function.outgoing,
     })
+}
+
+/// For each word of a function's frame, by its number, the number that `renumber_function` gives it. It is for debuggers.
+pub fn word_numbers(alloc: Global, function: &Function) -> Result<Vec<usize>, AllocError>
+    ensures { IfOk result (λ numbers. length numbers.items ≡ function.now.cells) }
+{
+    let swaps = choose(alloc, function)?;
+    let mut numbers = Vec::with_capacity(alloc, function.cells)?;
+    for word in 0..function.cells {
+        numbers.push(through(&swaps, word))?;
+    }
+    Ok(numbers)
 }
 
 fn renumber_functions(alloc: Global, functions: Vec<Function>) -> Result<Vec<Function>, AllocError>

@@ -7,5 +7,5 @@ mod laws;
 mod swaps;
 mod weights;
 
-pub use functions::{renumber, renumber_function};
+pub use functions::{renumber, renumber_function, word_numbers};
 pub use laws::{costs_alike, frames_alike, runs_alike, stays_sound};

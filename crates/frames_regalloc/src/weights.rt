@@ -5,7 +5,7 @@ ghost use Rattle.std.specs.Prelude.{◌≡◌, ◌<◌, length, IfOk, OnOk};
 use frames_code::{Function, Instruction, Location, Operand, Target};
 use std::alloc::{AllocError, Global};
 
-/// What a use counts within so many loops.
+/// The weight of a use within `loops` loops.
 fn weight_within(loops: u64) -> u64 {
     match loops {
         0 => 1,
@@ -125,7 +125,7 @@ fn jump_target(instruction: Instruction) -> usize {
 }
 
 /// The weight of each word of a function's frame: its uses, of which one counts ten times as much in each further loop, up to six. A loop goes
-/// from an instruction to the last jump back to it, so that one pass from the end tells how many there are around each instruction.
+/// from an instruction to the last jump back to it, so that one pass from the end gives how many there are around each instruction.
 pub fn word_weights(alloc: Global, function: &Function) -> Result<Vec<u64>, AllocError>
     ensures { IfOk result (λ weights. length weights.items ≡ function.now.cells) }
 {

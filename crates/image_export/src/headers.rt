@@ -1,4 +1,4 @@
-//! What the program headers of a file load from its bytes.
+//! The pieces of a file's bytes that its program headers load.
 
 use loader::{LoadFault, load};
 use std::alloc::{AllocError, Global};
@@ -10,13 +10,13 @@ const LOAD: u32 = 1;
 #[derive(Clone, Copy, Debug)]
 pub struct Piece {
     pub address: u32,
-    /// How many bytes of the file stand before them.
+    /// The number of bytes of the file before them.
     pub start: usize,
     /// How many bytes of the file there are up to their end.
     pub end: usize,
 }
 
-/// The bytes that a file loads, by rising addresses; what it loads as zeros alone is left out. Refuses as `load` does.
+/// The bytes that a file loads, by rising addresses; pieces that are loaded as zeros alone are left out. Refuses as `load` does.
 pub fn pieces(alloc: Global, file: &[u8]) -> Result<Vec<Piece>, LoadFault> {
     match load(alloc, file) {
         Ok(_) => match loaded_pieces(alloc, file) {
@@ -64,7 +64,7 @@ fn put(found: &mut Vec<Piece>, piece: Piece) -> Result<(), AllocError> {
     Ok(())
 }
 
-/// The number in `size` bytes from `at` on, at most four, the lowest first; what lies behind the file's end is zero.
+/// The number in `size` bytes from `at` on, at most four, the lowest first; bytes past the file's end are zero.
 fn number(file: &[u8], at: usize, size: usize) -> u32 {
     let mut sum: u32 = 0;
     for place in (0..size).rev() {
@@ -80,13 +80,13 @@ fn number(file: &[u8], at: usize, size: usize) -> u32 {
 /// How many bytes the parts of a file have in memory.
 #[derive(Clone, Copy, Debug)]
 pub struct Sizes {
-    /// What can be executed.
+    /// The bytes that can be executed.
     pub text: u32,
-    /// What is loaded from the file, and cannot be executed.
+    /// The bytes that are loaded from the file, and cannot be executed.
     pub data: u32,
-    /// What is loaded as zeros behind such data.
+    /// The bytes that are loaded as zeros after such data.
     pub zeros: u32,
-    /// What is loaded as zeros alone.
+    /// The bytes that are loaded as zeros alone.
     pub stack: u32,
 }
 

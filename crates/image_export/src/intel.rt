@@ -7,7 +7,7 @@ use std::alloc::{AllocError, Global};
 /// Bytes of a record of data.
 const WIDTH: usize = 16;
 
-/// The pieces as records of data (00), each behind a record of the upper half of its address (04) where that changes, then the
+/// The pieces as records of data (00), each after a record of the upper half of its address (04) where that changes, then the
 /// address of the first instruction (05) and the end (01). Lines end in a newline.
 pub fn intel_hex(
     alloc: Global,
@@ -26,7 +26,7 @@ pub fn intel_hex(
     Ok(out)
 }
 
-/// Puts the bytes at an address, where the last record of an upper half had this one; answers that of the last byte.
+/// Puts the bytes at an address, where the last record of an upper half had this one; returns that of the last byte.
 fn put_piece(out: &mut Vec<u8>, address: u32, bytes: &[u8], upper: u32) -> Result<u32, AllocError> {
     let mut upper = upper;
     let mut at = address;

@@ -6,8 +6,8 @@ use std::alloc::{AllocError, Global};
 /// The most bytes of an image: those that the segments of a file may have together.
 const MAX_IMAGE: usize = 134_217_728;
 
-/// The bytes from the first that a file loads to the last, with zeros between its pieces; the stack and what is loaded as
-/// zeros at the end are left out. `None` where they are more than 134,217,728.
+/// The bytes from the first that a file loads to the last, with zeros between its pieces; the stack and the zeros loaded
+/// at the end are left out. `None` where they are more than 134,217,728.
 pub fn binary(alloc: Global, file: &[u8], pieces: &[Piece]) -> Result<Option<Vec<u8>>, AllocError> {
     let mut image = Vec::new(alloc);
     let Some(first) = pieces.first() else {

@@ -7,7 +7,7 @@ use std::alloc::{AllocError, Global};
 /// Bytes of a line.
 const WIDTH: usize = 16;
 
-/// Each piece behind a line `@ADDRESS`, its bytes as two digits each, 16 a line.
+/// Each piece after a line `@ADDRESS`, its bytes as two digits each, 16 a line.
 pub fn verilog_memory(alloc: Global, file: &[u8], pieces: &[Piece]) -> Result<Vec<u8>, AllocError> {
     let mut out = Vec::new(alloc);
     for piece in pieces {

@@ -1,4 +1,4 @@
--- What comes of a part that is done.
+-- The result of a part that is done.
 use Rattle.std.proofs.Common.{◌≡◌, ℕ, suc, ◌+◌, Option, Some, None, refl, sym, ap, subst, ◌∙◌, arith}
 use Rattle.std.specs.Prelude.{Bool, true, false, Result, Ok, Err}
 use Rattle.std.specs.Bool.{OnTrue, OnFalse}
@@ -52,11 +52,11 @@ no_tick c limit k new scene part rest b off i e h =
 
 -- ---- a part
 
--- what is next, and then the rest
+-- the next part, and then the rest
 abbrev then_rest : {A B : Type 0} → (A → State → Run B) → (B → State → Run Found) → A → State → Run Found
 then_rest next rest a s = then_do (next a s) rest
 
--- gave what the next one takes
+-- the part gave the value that the next one takes
 pub gone_on : {A B C : Type 0} (view : A → B) (c : Course) (limit k : ℕ) (scene : Scene) (part : State → Run B) (next : B → State → Run C) (rest : C → State → Run Found)
     (r : Option A) (a : A) (new : Clock) (later : Scene) → r ≡ Some a →
     ((rest2 : B → State → Run Found) → Leads c k scene part rest2 → Comes view c rest2 limit r new later) →
@@ -112,7 +112,7 @@ module _ {A B : Type 0} (view : A → B) (c : Course) (limit k : ℕ) (before la
   gave (Err (stop.Undefined act at)) r runs g = as_none r g.0 (stops_with (why.Undefined act at) g.1
       (λ n. sym (left_at n) ∙ ap (λ x. then_do x rest) (runs (record { clock = n; input = c.input; history = c.history }))))
 
--- ---- what is found
+-- ---- the value found
 
 given_then : {A : Type 0} (f : A → Found) (r : Run A) (rest : Found → State → Run Found) → then_do (given f r) rest ≡ then_do r (λ a s. rest (f a) s)
 given_then f (Goes a s) rest = refl
@@ -126,7 +126,7 @@ pub came : {A B : Type 0} (view : A → B) (c : Course) (limit : ℕ) (rest : B 
     Comes view c rest limit r new later → Comes view c rest limit s new later
 came view c limit rest r s new later e h = let P : Option _ → Type 0 = λ r. Comes view c rest limit r new later in subst P e h
 
--- nothing is said where the part is left out
+-- the postcondition holds trivially where the part is left out
 pub left_out : {A B : Type 0} (view : A → B) (c : Course) (limit : ℕ) (rest : B → State → Run Found) (r : Option A) (new : Clock) (later : Scene) → r ≡ None → new.why ≡ why.Elsewhere →
     Comes view c rest limit r new later
 left_out view c limit rest r new later e w =

@@ -1,4 +1,4 @@
--- What comes of statements.
+-- The results of statements.
 use Rattle.std.proofs.Common.{◌≡◌, rules, ◌≤◌, ℕ, ℤ, List, ◌∷◌, map, Option, Some, None, refl, sym, ap, ◌∙◌, subst, arith, ◌+◌}
 use Rattle.typing_spec.specs.Types.{ObjectType}
 use Rattle.typing_spec.specs.Program as typed
@@ -74,7 +74,7 @@ fewer xs x more n e h =
 
 -- ---- definitions
 
--- the same where it stands
+-- the same at its place
 pub leads_there : {A : Type 0} (c : Course) (k : ℕ) (scene : Scene) (part part2 : State → Run A) (rest : A → State → Run Found) → ((o : Outside) → part (state_in scene o) ≡ part2 (state_in scene o)) →
     Leads c k scene part rest → Leads c k scene part2 rest
 leads_there c k scene part part2 rest e h = record {

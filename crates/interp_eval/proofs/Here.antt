@@ -1,4 +1,4 @@
--- What is quick, so that it is not left to be evaluated elsewhere.
+-- Quick parts, which are therefore not left to be evaluated elsewhere.
 use Rattle.std.proofs.Common.{◌≡◌, List, ◌∷◌, map, refl, subst}
 use Rattle.std.specs.Prelude.{Bool, true, ◌&&◌}
 use Rattle.std.proofs.lemmas.Bool.{and_from, and_parts}

@@ -1,4 +1,4 @@
--- Leaves whose numbers went through a machine word, and what a test chooses.
+-- Leaves whose numbers went through a machine word, and the part that a test chooses.
 use Rattle.std.proofs.Common.{◌≡◌, ℕ, Option, ap, subst, ◌∙◌}
 use Rattle.std.specs.Prelude.{Bool, Result}
 use Rattle.csem.specs.Machine.{State, Run, then_do, choose}
@@ -30,12 +30,12 @@ gave_with_both view c limit k before later part rest new same d d2 e e2 is is2 h
     (λ o. runs_as view (part d e (state_in before o)) (part d2 e2 (state_in before o)) x (state_in later o)
     (ap (λ d. part d e (state_in before o)) is ∙ ap (λ e. part d2 e (state_in before o)) is2) (runs o)) g
 
--- what a test chooses
+-- the part that a test chooses
 pub chose : {A : Type 0} (c : Course) (k : ℕ) (scene : Scene) (b d : Bool) (f g : State → Run A) (rest : A → State → Run Found) → b ≡ d →
     Leads c k scene (λ s. choose b (f s) (g s)) rest → Leads c k scene (λ s. choose d (f s) (g s)) rest
 chose c k scene b d f g rest e h = leads_as c k scene (λ s. choose b (f s) (g s)) (λ s. choose d (f s) (g s)) rest (λ s. ap (λ b. choose b (f s) (g s)) e) h
 
--- what a test chooses, and then
+-- the part that a test chooses, and then the next one
 pub leads_chosen : {A B : Type 0} (c : Course) (k : ℕ) (scene : Scene) (b d : Bool) (f g : State → Run A) (next : A → State → Run B) (rest : B → State → Run Found) → b ≡ d →
     Leads c k scene (λ s. then_do (choose b (f s) (g s)) next) rest → Leads c k scene (λ s. then_do (choose d (f s) (g s)) next) rest
 leads_chosen c k scene b d f g next rest e h =

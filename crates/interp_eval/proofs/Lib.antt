@@ -2,5 +2,6 @@ pub mod Comings
 pub mod Flows
 pub mod Here
 pub mod Leaves
+pub mod Jumps
 pub mod Work
 pub mod Wholes

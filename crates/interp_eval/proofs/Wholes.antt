@@ -54,7 +54,7 @@ is_whole p scene a at what x e h o =
     let P : typed.Place → Type 0 = λ a. IsWhole x (found a p (state_in scene o)) (state_in scene o) in
     subst P (sym (ap place_of e ∙ named_is at what)) (named_whole p scene at (storage_of what) x h o)
 
--- what follows a place that is a whole object
+-- the part that follows a place that is a whole object
 pub leads_whole : {A : Type 0} (c : Course) (k : ℕ) (scene : Scene) (part : State → Run Reference) (next : Reference → State → Run A)
     (rest : A → State → Run Found) (x : Option ℕ) (n : ℕ) → x ≡ Some n →
     ((o : Outside) → IsWhole x (part (state_in scene o)) (state_in scene o)) → Leads c k scene (λ s. then_do (part s) next) rest → Leads c k scene (λ s. tick s (λ s. next (whole n) s)) rest
@@ -85,7 +85,7 @@ module _ (at : Pos) (array : State → Run Reference) (index : State → Run ℤ
   ticked_then zero s = refl
   ticked_then (suc m) s = part_then (array (record s { clock = m }))
 
-  -- the value of an element, behind the tick of the element
+  -- the value of an element, after the tick of the element
   pub reads_element : (c : Course) (k : ℕ) (scene : Scene) (rest : ℤ → State → Run Found) →
       Leads c k scene (λ s. then_do (tick s (λ s. then_do (array s) (λ r s. then_do (index s) (λ v s. subscripted at r v s)))) (λ r s. read at r s)) rest →
       Leads c k scene (λ s. tick s (λ s. then_do (array s) (λ r s. then_do (index s) (λ v s. then_do (subscripted at r v s) (λ r s. read at r s))))) rest

@@ -33,7 +33,7 @@ abbrev mutual
   work_statement (typed.block first count all) = work_all all + 3
   work_statement (typed.branch e a) = work_statement a + 3
   work_statement (typed.branches e a b) = work_statement a + work_statement b + 3
-  work_statement (typed.switch t e first count all) = 1
+  work_statement (typed.switch t e first count all) = work_all all + 4
   work_statement (typed.case v) = 1
   work_statement typed.default = 1
   work_statement (typed.while e a) = work_statement a + 4

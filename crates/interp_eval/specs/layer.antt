@@ -1,3 +1,3 @@
--- What the contracts between the crates of this layer cite; nothing of it has to be believed.
+-- Definitions that the contracts between the crates of this layer cite; none of them has to be believed.
 pub mod Comes
 pub mod Quick

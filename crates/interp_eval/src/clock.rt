@@ -17,7 +17,7 @@ use typed_ast::{ObjectType, Program};
 pub enum Why {
     /// All ticks that were allowed are taken.
     Ticks,
-    /// An act that is undefined, at its place (3.4.3).
+    /// Undefined behaviour, at its place (3.4.3).
     Undefined(Undef, Pos),
     /// The host's memory ran out.
     Memory,
@@ -32,7 +32,7 @@ pub struct Clock {
     pub why: Why,
 }
 
-/// What stays the same while a part of a call is evaluated: the program, the objects of the function, and how many ticks are allowed.
+/// The context that stays the same while a part of a call is evaluated: the program, the objects of the function, and the maximum number of ticks.
 #[derive(Clone, Copy)]
 pub struct Scope<'p> {
     pub alloc: Global,
@@ -72,7 +72,7 @@ impl Clock {
         }
     }
 
-    /// What a leaf gave.
+    /// The value of a leaf.
     #[inline(always)]
     pub fn given(&mut self, value: Result<i64, Stop>) -> Option<i64>
         ensures gives { Gives value result self.new.why }

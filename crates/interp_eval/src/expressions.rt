@@ -353,7 +353,7 @@ fn object_assigned(
     clock.given(scene.write(scope.program, *at, &Reference::whole(n), ty, v))
 }
 
-/// Assignment to what is no whole object.
+/// Assignment to a place that is no whole object.
 #[cycle(evaluate)]
 #[inline(never)]
 fn part_assigned(
@@ -445,7 +445,7 @@ fn object_combined(
     clock.given(scene.combine(scope.program, *c, &Reference::whole(n), v))
 }
 
-/// A compound assignment to what is no whole object.
+/// A compound assignment to a place that is no whole object.
 #[cycle(evaluate)]
 #[inline(never)]
 fn part_combined(
@@ -469,7 +469,7 @@ fn part_combined(
     clock.given(scene.combine(scope.program, *c, &r, v))
 }
 
-/// `++` and `--` of what is no whole object.
+/// `++` and `--` of a place that is no whole object.
 #[cycle(evaluate)]
 #[inline(never)]
 fn part_stepped(

@@ -8,3 +8,4 @@ pub mod objects;
 pub mod parts;
 pub mod quick;
 pub mod statements;
+pub mod switches;

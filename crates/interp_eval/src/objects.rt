@@ -43,7 +43,7 @@ pub fn whole_object(scope: &Scope<'_>, scene: &Scene, a: &Place) -> Option<usize
     }
 }
 
-/// The value of a whole object, behind the tick of its name (6.3.2.1p2).
+/// The value of a whole object, after the tick of its name (6.3.2.1p2).
 #[inline(always)]
 pub fn read_object(
     scope: &Scope<'_>,

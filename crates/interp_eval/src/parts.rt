@@ -1,4 +1,4 @@
-//! What takes the next tick, done as a whole where it calls nothing.
+//! The part that takes the next tick, done as a whole where it calls nothing.
 
 ghost use Rattle.std.specs.Prelude.{◌≡◌, None};
 ghost use Rattle.typed_ast.specs.View.{program_of, statement_of, value_of};
@@ -17,7 +17,7 @@ use interp_store::scene::Scene;
 use std::alloc::Global;
 use typed_ast::{Program, Statement, Value};
 
-/// An expression, with what is found.
+/// An expression, with its value as found.
 fn value_found(scope: &Scope<'_>, scene: &mut Scene, clock: &mut Clock, e: &Value) -> Option<Found>
     ensures does { Does found_of scope.now (λ p s. given on.a_value (valued (value_of e.now) p s)) clock.old scene.old result clock.new scene.new }
     ensures here { StaysHere (quick (value_of e.now)) result clock.new.why }
@@ -53,7 +53,7 @@ fn left_out(clock: &mut Clock) -> Option<Found>
     None
 }
 
-/// What takes the next tick, from its tick on.
+/// The part that takes the next tick, from its tick on.
 pub fn done(
     alloc: Global,
     program: &Program,

@@ -52,7 +52,7 @@ fn is_quick_or(e: &Option<Value>) -> bool
     }
 }
 
-/// Whether what controls a `for` calls nothing.
+/// Whether the expressions that control a `for` call nothing.
 fn is_quick_control(start: &Option<Value>, test: &Option<Value>, step: &Option<Value>) -> bool
     ensures { result ≡ quick_control (option_value start.now) (option_value test.now) (option_value step.now) }
 {
@@ -86,7 +86,7 @@ fn are_quick(all: &[Statement]) -> bool
     true
 }
 
-/// Whether a statement is done here: it calls nothing, and it has no `switch` and no initialiser but single values.
+/// Whether a statement is done here: it calls nothing, and it has no initialiser but single values.
 #[cycle(quick_statements)]
 pub fn is_quick_statement(a: &Statement) -> bool
     ensures { result ≡ quick_statement (statement_of a.now) }
@@ -101,7 +101,7 @@ pub fn is_quick_statement(a: &Statement) -> bool
         Statement::IfElse(_, e, a, b) => is_quick(e)
             && is_quick_statement(a)
             && is_quick_statement(b),
-        Statement::Switch(_, _, _, _, _, _) => false,
+        Statement::Switch(_, _, e, _, _, all) => is_quick(e) && are_quick(all),
         Statement::Case(_, _) => true,
         Statement::Default(_) => true,
         Statement::While(_, e, a) => is_quick(e) && is_quick_statement(a),
@@ -118,7 +118,7 @@ pub fn is_quick_statement(a: &Statement) -> bool
     }
 }
 
-/// Whether what takes the next tick is done here.
+/// Whether the part that takes the next tick is done here.
 pub fn is_quick_node(node: &Node<'_>) -> bool
     ensures { result ≡ quick_node (node_of node.now) }
 {

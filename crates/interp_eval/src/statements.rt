@@ -1,4 +1,4 @@
-//! Statements that call nothing (6.8). A `switch` is not among them yet, nor an initialiser that is no single value.
+//! Statements that call nothing (6.8). An initialiser that is no single value is not among them yet.
 
 ghost use Rattle.std.specs.Prelude.{◌≡◌, ◌&&◌, true, map, option_map};
 ghost use Rattle.typing_spec.specs.Program as typed;
@@ -8,12 +8,13 @@ ghost use Rattle.csem.specs.Expressions.{evaluate_or};
 ghost use Rattle.interp_store.specs.layer.Agrees.{number};
 ghost use Rattle.interp_store.specs.layer.Presents.{call_in, loop};
 ghost use Rattle.interp_store.specs.layer.Views.{flow_of};
-ghost use Rattle.interp_eval.specs.layer.Comes.{Does, StaysHere, all_executed, executed, objects_in, way_out};
+ghost use Rattle.interp_eval.specs.layer.Comes.{Does, StaysHere, all_executed, executed, jumped, objects_in, way_out};
 ghost use Rattle.interp_eval.specs.layer.Quick.{quick, quick_all, quick_control, quick_initialiser, quick_or, quick_statement};
 
 use crate::clock::{Clock, Scope};
-use crate::definitions::{definition, left_out, out_of_memory};
+use crate::definitions::{definition, out_of_memory};
 use crate::expressions::{operand, value};
+use crate::switches::{left_switch, selected};
 use ctypes::{IntType, convert};
 use interp_steps::objects::renew_all;
 use interp_store::frames::Flow;
@@ -42,7 +43,9 @@ pub fn statement(
         Statement::Block(_, first, count, all) => block(scope, scene, clock, *first, *count, all),
         Statement::If(_, e, a) => branch(scope, scene, clock, e, a),
         Statement::IfElse(_, e, a, b) => branches(scope, scene, clock, e, a, b),
-        Statement::Switch(_, _, _, _, _, _) => left_out(clock),
+        Statement::Switch(_, ty, e, first, count, all) => {
+            switch(scope, scene, clock, *ty, e, *first, *count, all)
+        }
         Statement::While(_, e, a) => while_loop(scope, scene, clock, e, a),
         Statement::DoWhile(_, a, e) => do_loop(scope, scene, clock, a, e),
         Statement::For(_, declared, control, a) => {
@@ -193,6 +196,57 @@ fn branches(
         statement(scope, scene, clock, a)
     } else {
         statement(scope, scene, clock, b)
+    }
+}
+
+/// `switch` (6.8.4.2): the objects of its block begin, and its value jumps into the block.
+#[cycle(execute)]
+fn switch(
+    scope: &Scope<'_>,
+    scene: &mut Scene,
+    clock: &mut Clock,
+    ty: IntType,
+    e: &Value,
+    first: usize,
+    count: usize,
+    all: &[Statement],
+) -> Option<Flow>
+    ensures does { Does flow_of scope.now (executed (objects_in scope.now) (typed.switch ty (value_of e.now) first count (statements_of (map statement_of all.now)))) clock.old scene.old result clock.new scene.new }
+    ensures here { StaysHere (quick (value_of e.now) && quick_all (statements_of (map statement_of all.now))) result clock.new.why }
+{
+    if !clock.tick(scope.limit) {
+        return None;
+    }
+    let Some(v) = operand(scope, scene, clock, e) else {
+        return None;
+    };
+    if !clock.tick(scope.limit) {
+        return None;
+    }
+    match renew_all(scene, scope.alloc, scope.objects, first, count) {
+        Ok(()) => jump(scope, scene, clock, convert(ty, v), all),
+        Err(_) => out_of_memory(clock),
+    }
+}
+
+/// The block of a `switch` from the label on to which this value jumps (6.8.4.2p4, p5).
+#[cycle(execute)]
+fn jump(
+    scope: &Scope<'_>,
+    scene: &mut Scene,
+    clock: &mut Clock,
+    value: i64,
+    all: &[Statement],
+) -> Option<Flow>
+    ensures does { Does flow_of scope.now (jumped (objects_in scope.now) value (statements_of (map statement_of all.now))) clock.old scene.old result clock.new scene.new }
+    ensures here { StaysHere (quick_all (statements_of (map statement_of all.now))) result clock.new.why }
+{
+    let Some(rest) = selected(scope, clock, value, all) else {
+        return None;
+    };
+    match all_of(scope, scene, clock, rest) {
+        None => None,
+        Some(flow) => Some(left_switch(flow)),
     }
 }
 

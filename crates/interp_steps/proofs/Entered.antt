@@ -9,7 +9,7 @@ use Rattle.interp_store.specs.layer.Steps.{entered}
 use Rattle.interp_store.specs.layer.Agrees.{Takes}
 use Rattle.interp_store.proofs.Taken.{takes_as}
 
--- a node is the one that it is
+-- equal nodes take the same steps
 pub node_as : (whole n : on.Node) (old new : Machine) (r : Result Step Stop) → whole ≡ n →
     Takes (λ p s. entered p n s) old r new → Takes (λ p s. entered p whole s) old r new
 node_as whole n old new r e h =

@@ -21,13 +21,13 @@ use Rattle.interp_store.specs.layer.Views.{initialiser_frame, late_of}
 use Rattle.interp_store.specs.layer.Agrees.{Takes}
 use Rattle.interp_store.proofs.Taken.{takes_as}
 
--- what was to be done is what it is
+-- equal deferred operations take the same steps
 pub late_as : (late l : Late) (old new : Machine) (r : Result Step Stop) → late ≡ l →
     Takes (λ p s. came_late p (late_of l) s) old r new → Takes (λ p s. came_late p (late_of late) s) old r new
 late_as late l old new r e h =
     takes_as old new r (λ p s. came_late p (late_of late) s) (λ p s. came_late p (late_of l) s) (λ p s. ap (λ l. came_late p (late_of l) s) (sym e)) h
 
--- so many ticks are so many
+-- equal numbers of ticks take the same steps
 pub counted_as : (n k : ℕ) (late : on.Late) (old new : Machine) (r : Result Step Stop) → n ≡ k →
     Takes (λ p s. counted p k late s) old r new → Takes (λ p s. counted p n late s) old r new
 counted_as n k late old new r e h =
@@ -97,7 +97,7 @@ module _ (old new : Machine) (r : Result Step Stop) (t : IntType) where
   list_ends [] k i lengths to e h = h
   list_ends (x ∷ all) k i lengths to e h = absurd (omega (arith, e))
 
--- a frame is what it is
+-- equal frames take the same steps
 pub initialised_as : (frame f : InitialiserFrame) (old new : Machine) (r : Result Step Stop) → frame ≡ f →
     Takes (λ p s. left_initialised p (initialiser_frame f) s) old r new → Takes (λ p s. left_initialised p (initialiser_frame frame) s) old r new
 initialised_as frame f old new r e h =

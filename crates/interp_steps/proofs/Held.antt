@@ -49,7 +49,7 @@ lent_value (Some e) = refl
 lent : (o : Option (Bor Value)) (v : Option Value) → option_copied o ≡ v → option_value v ≡ option_map (λ (e : Bor Value). value_of e.now) o
 lent o v e = ap option_value (sym e) ∙ lent_value o
 
--- what is lent of a `for`
+-- the borrowed parts of a `for`
 pub lends_for : (x : Statement) (at : Pos) (declared : Vec Statement Global) (control : Box ForControl Global) (a : Box Statement Global) (all : List Statement) (o p q : Option (Bor Value)) →
     x ≡ S.For at declared control a → all ≡ declared.items → option_copied o ≡ control.value.start → option_copied p ≡ control.value.test → option_copied q ≡ control.value.step →
     statement_of x ≡ typed.for (statements_of (map statement_of all)) (option_map (λ (e : Bor Value). value_of e.now) o) (option_map (λ (e : Bor Value). value_of e.now) p)

@@ -38,20 +38,20 @@ one_renewed objects a i count n s t whole h at e all =
 pub all_done : (objects : List ObjectType) (a i count : ℕ) (s whole : State) → count ≡ i → all_renewed objects (a + i) (count - i) s ≡ whole → s ≡ whole
 all_done objects a i count s whole e all = let none : count - i ≡ 0 = omega arith in sym (ap (λ k. all_renewed objects (a + i) k s) none) ∙ all
 
--- what is found without further steps
+-- a result without further steps
 pub leaves_as : (fs : List on.Frame) (x : Found) (r : Result Step Stop) (s t : State) → r ≡ Ok (step.Leaves x) → t ≡ s → Agrees (onto fs (goes (found_of x) s)) r fs t
 leaves_as fs x r s t e same =
     let P : Result Step Stop → Type 0 = λ r. Agrees (onto fs (goes (found_of x) s)) r fs t in
     subst P (sym e) (ap (λ l. moves l (on.leaves (found_of x)) s) (append-nil fs) ∙ ap (moves fs (on.leaves (found_of x))) (sym same))
 
--- a frame that gets a value takes the step of the frame that it is
+-- equal frames and values take the same step
 pub control_left_as : (frame f : ControlFrame) (v v2 : ℤ) (old new : Machine) (r : Result Step Stop) → frame ≡ f → v2 ≡ v →
     Takes (λ p s. left_by_value p (control_frame f) v2 s) old r new → Takes (λ p s. left_by_value p (control_frame frame) v s) old r new
 control_left_as frame f v v2 old new r e same h =
     takes_as old new r (λ p s. left_by_value p (control_frame frame) v s) (λ p s. left_by_value p (control_frame f) v2 s)
     (λ p s. ap (λ v. left_by_value p (control_frame f) v s) same ∙ ap (λ f. left_by_value p (control_frame f) v s) (sym e)) h
 
--- and one that gets the way in which a statement is left
+-- and so do equal ways in which a statement is left
 pub flow_left_as : (frame : FlowFrame) (flow f : Flow) (old new : Machine) (r : Result Step Stop) → flow ≡ f →
     Takes (λ p s. left_by_flow p (flow_frame frame) (flow_of f) s) old r new → Takes (λ p s. left_by_flow p (flow_frame frame) (flow_of flow) s) old r new
 flow_left_as frame flow f old new r e h =

@@ -1,4 +1,4 @@
--- What the code finds of the labels of a switch (6.8.4.2).
+-- The result of the code's search for the labels of a switch (6.8.4.2).
 use Rattle.std.specs.Prelude.{ℤ, List, [], ◌∷◌, map, Option, Some, None}
 use Rattle.std.specs.Borrow.{Bor}
 use Rattle.typing_spec.specs.Types as type

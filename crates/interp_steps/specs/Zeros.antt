@@ -1,4 +1,4 @@
--- What one element of an array becomes.
+-- The new value of one element of an array.
 use Rattle.std.specs.Prelude.{ℕ, ℤ, List, Option, Some, None, pos}
 use Rattle.ctypes.specs.declared.types.IntType.{IntType}
 use Rattle.ctypes.specs.Types.{converted}
@@ -8,7 +8,7 @@ use Rattle.csem.specs.Machine.{State}
 abbrev pub one_zero : ℕ → List ℕ → Reference → State → State
 one_zero i lengths r s = record s { store = put s.store (into r i) (filled (Some (pos 0)) lengths) }
 
--- a character of a text, or what stands past its end
+-- a character of a text, or the zero past its end
 abbrev pub character_at : IntType → Option ℕ → ℤ
 character_at t None = pos 0
 character_at t (Some c) = converted t (pos c)

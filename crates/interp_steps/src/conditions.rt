@@ -1,4 +1,4 @@
-//! What a statement does with the value that it waited for (6.8).
+//! The step of a statement with the value that it waited for (6.8).
 
 ghost use Rattle.std.specs.Prelude.{◌≡◌, map, option_map};
 ghost use Rattle.ctypes.specs.Types.{converted};
@@ -64,7 +64,7 @@ fn turn_if<'p>(machine: &mut Machine<'p>, l: Loop<'p>, v: i64) -> Result<Step<'p
     }
 }
 
-/// What a frame does with a value.
+/// The step of a frame with a value.
 ///
 /// Errors: memory ran out.
 pub fn leave_control<'p>(

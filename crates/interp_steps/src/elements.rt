@@ -20,7 +20,7 @@ use interp_store::scene::Scene;
 use interp_store::stop::Stop;
 use std::alloc::Global;
 
-/// An element gets its first value, behind its tick.
+/// An element gets its first value, after its tick.
 pub fn enter_element<'p>(machine: &mut Machine<'p>, r: Reference, v: i64) -> Result<Step<'p>, Stop>
     ensures takes { Takes (λ p s. entered p (node_of (node.Element r v)) s) machine.old result machine.new }
     ensures program { machine.new.program ≡ machine.old.program }
@@ -70,7 +70,7 @@ fn clear_part(
     }
 }
 
-/// So many elements or rows of the array at `r`, from a number on, become zero (6.7.9p10, p21).
+/// `count` elements or rows of the array at `r`, from `first` on, become zero (6.7.9p10, p21).
 ///
 /// Errors: memory ran out.
 pub fn clear(
@@ -122,7 +122,7 @@ fn set_part(scene: &mut Scene, alloc: Global, r: &Reference, i: usize, v: i64) -
     }
 }
 
-/// So many elements of the array at `r` become the characters of a text (6.7.9p14, p21).
+/// The first `count` elements of the array at `r` become the characters of a text (6.7.9p14, p21).
 ///
 /// Errors: memory ran out.
 pub fn put_text(

@@ -1,4 +1,4 @@
-//! What a statement does when a part of it is left (6.8.6).
+//! The step of a statement when a part of it is left (6.8.6).
 
 ghost use Rattle.std.specs.Prelude.{◌≡◌, map};
 ghost use Rattle.typed_ast.specs.View.{object_type_of, statement_of, statements_of};
@@ -14,7 +14,7 @@ use interp_store::machine::Machine;
 use interp_store::stop::Stop;
 use typed_ast::{ObjectType, Statement};
 
-/// What stands next is executed where the statement before it was left normally (6.8p2).
+/// The next statement is executed where the statement before it was left normally (6.8p2).
 ///
 /// Errors: memory ran out.
 pub fn next<'p>(

@@ -32,7 +32,7 @@ use interp_store::machine::Machine;
 use interp_store::stop::Stop;
 use typed_ast::{Initialiser, Value};
 
-/// How many elements so many rows of these lengths have.
+/// How many elements `count` rows of these lengths have.
 ///
 /// Errors: memory ran out, where they are more than it has numbers.
 pub fn element_count(count: usize, lengths: &[u32]) -> Result<usize, Stop>
@@ -79,7 +79,7 @@ fn text_of<'p>(literals: &'p [Vec<u8>], n: usize) -> &'p [u8]
     }
 }
 
-/// Characters of string literal `n` are put (6.7.9p14).
+/// Stores characters of string literal `n` (6.7.9p14).
 ///
 /// Errors: memory ran out.
 fn fill_text<'p>(
@@ -119,7 +119,7 @@ fn fill_zeros<'p>(
     }
 }
 
-/// What was to be done once so many ticks are spent.
+/// The operation that was deferred until a number of ticks was spent.
 ///
 /// Errors: memory ran out.
 pub fn come_late<'p>(machine: &mut Machine<'p>, late: Late<'p>) -> Result<Step<'p>, Stop>
@@ -133,7 +133,7 @@ pub fn come_late<'p>(machine: &mut Machine<'p>, late: Late<'p>) -> Result<Step<'
     }
 }
 
-/// So many ticks are to be spent first.
+/// Spends a number of ticks before a deferred operation.
 ///
 /// Errors: memory ran out.
 pub fn spend<'p>(machine: &mut Machine<'p>, ticks: usize, late: Late<'p>) -> Result<Step<'p>, Stop>
@@ -146,7 +146,7 @@ pub fn spend<'p>(machine: &mut Machine<'p>, ticks: usize, late: Late<'p>) -> Res
     }
 }
 
-/// The elements or rows behind the last part of a braced list (6.7.9p21).
+/// The elements or rows after the last part of a braced list (6.7.9p21).
 ///
 /// Errors: memory ran out.
 fn end_list<'p>(
@@ -223,7 +223,7 @@ fn enter_one<'p>(
     }
 }
 
-/// An initialiser, behind its tick: of the object, row or element at `r`, whose elements have this type (6.7.9).
+/// An initialiser, after its tick: of the object, row or element at `r`, whose elements have this type (6.7.9).
 ///
 /// Errors: memory ran out.
 pub fn enter_initialiser<'p>(
@@ -282,7 +282,7 @@ fn next_part<'p>(machine: &mut Machine<'p>, l: Listed<'p>) -> Result<Step<'p>, S
     }
 }
 
-/// What a frame does once a first value is given.
+/// The step of a frame once a first value is given.
 ///
 /// Errors: memory ran out.
 pub fn leave_initialiser<'p>(

@@ -13,7 +13,7 @@ ghost use Rattle.interp_steps.specs.Labels.{label_kind, begins_at, comes_to};
 use interp_store::stop::Stop;
 use typed_ast::Statement;
 
-/// What label a statement is.
+/// The kind of label that a statement is.
 #[derive(Clone, Copy)]
 pub enum Label {
     Case(i64),
@@ -21,7 +21,7 @@ pub enum Label {
     None,
 }
 
-/// What the labels of a `switch` come to: a case whose value is to be tested, with what stands behind it, its number and that of
+/// The result of a search for the labels of a `switch`: a case whose value is to be tested, with the statements after it, its number and that of
 /// `default`, if it was passed; or the number of the label that is jumped to.
 #[derive(Clone, Copy)]
 pub enum Sought<'p> {
@@ -29,7 +29,7 @@ pub enum Sought<'p> {
     Jump(Option<usize>),
 }
 
-/// What label a statement is (6.8.1).
+/// The kind of label that a statement is (6.8.1).
 pub fn label_of(a: &Statement) -> Label
     ensures { labels_at (statement_of a.now) ≡ label_kind result }
 {
@@ -57,7 +57,7 @@ fn label_count(a: &Statement) -> usize
     }
 }
 
-/// The statement that the label of this number is, and those behind it.
+/// The statement that is the label of this number, and those after it.
 pub fn find_label<'p>(
     label: usize,
     all: &'p [Statement],

@@ -1,4 +1,4 @@
-//! Nodes behind their tick.
+//! Nodes after their tick.
 
 ghost use Rattle.std.specs.Prelude.{◌≡◌};
 ghost use Rattle.interp_store.specs.layer.Agrees.{Takes};
@@ -14,7 +14,7 @@ use interp_store::frames::{Node, Step};
 use interp_store::machine::Machine;
 use interp_store::stop::Stop;
 
-/// A node, behind its tick (6.5, 6.7.9, 6.8).
+/// A node, after its tick (6.5, 6.7.9, 6.8).
 ///
 /// Errors: why there is no next step.
 pub fn enter<'p>(machine: &mut Machine<'p>, node: Node<'p>) -> Result<Step<'p>, Stop>

@@ -11,7 +11,7 @@ use interp_store::stop::Stop;
 use std::alloc::Global;
 use typed_ast::ObjectType;
 
-/// So many objects of the present call, from a number on, become indeterminate (6.2.4p6).
+/// `count` objects of the present call, from `first` on, become indeterminate (6.2.4p6).
 ///
 /// Errors: memory ran out.
 pub fn renew_all(

@@ -1,4 +1,4 @@
-//! Statements behind their tick (6.8).
+//! Statements after their tick (6.8).
 
 ghost use Rattle.std.specs.Prelude.{◌≡◌, Ok, map, option_map, slice_get};
 ghost use Rattle.typed_ast.specs.View.{object_type_of, initialiser_of, statement_of, statements_of, value_of};
@@ -146,7 +146,7 @@ fn define<'p>(
     }
 }
 
-/// A statement, behind its tick (6.8). `objects` are those of its function.
+/// A statement, after its tick (6.8). `objects` are those of its function.
 ///
 /// Errors: memory ran out.
 pub fn enter_statement<'p>(

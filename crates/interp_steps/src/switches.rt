@@ -93,7 +93,7 @@ fn go_on<'p>(
     }
 }
 
-/// The block of a `switch`, behind its tick (6.8.4.2, 6.2.4p6).
+/// The block of a `switch`, after its tick (6.8.4.2, 6.2.4p6).
 ///
 /// Errors: memory ran out.
 pub fn enter_block<'p>(
@@ -124,7 +124,7 @@ pub fn enter_block<'p>(
     }
 }
 
-/// A case, behind the tick of its test (6.8.4.2p5).
+/// A case, after the tick of its test (6.8.4.2p5).
 ///
 /// Errors: memory ran out.
 pub fn enter_case<'p>(machine: &mut Machine<'p>, t: CaseTest<'p>) -> Result<Step<'p>, Stop>

@@ -1,4 +1,4 @@
--- What is left of a run is the same behind each step.
+-- The remainder of a run is the same after each step.
 use Rattle.std.proofs.Common.{◌≡◌, ℕ, zero, suc, ◌-◌, ◌*◌, ℤ, pos, List, [], ◌∷◌, ◌++◌, length, Option, Some, None, Bool, true, false, refl, sym, ap, ◌∙◌, append_assoc}
 use Rattle.std.specs.Prelude.{nat_lt, nat_eq, slice_get}
 use Rattle.srcset.specs.declared.refusal.Pos.{Pos}
@@ -17,7 +17,7 @@ use Rattle.interp_store.specs.layer.Frames.{Found, a_value, a_place, a_flow, ini
 use Rattle.interp_store.specs.layer.Presents.{given, done, back_at, loop, stepped, tested, late, asked, jumped, looked_for, presented, present, goes_back, with_place, with_value, with_flow, when_initialised, after, resume, resumed, Real, call_in}
 use Rattle.interp_store.specs.layer.Steps.{at_once, goes, waits, behind, started, asked_for, turned, looped, looped_after, turned_on, started_after, from_label, jumps, sought, came_late, counted, entered_place, entered_value, defines, entered_statement, listed, entered_initialiser, entered, left_by_place, left_by_value, went_back, left_by_flow, left_initialised, left, entered_call, called}
 
--- what is given, and then
+-- composition of `given` and `then_do`
 given_then : {A B : Type 0} (f : A → Found) (h : B → Found) (x : Run A) (k : A → State → Run B) (g : Found → State → Run Found) →
     ((a : A) (s : State) → given h (k a s) ≡ g (f a) s) → given h (then_do x k) ≡ then_do (given f x) g
 given_then f h (Goes a s) k g e = e a s
@@ -150,7 +150,7 @@ module _ (p : Program) (call : Calling) where
   test_resumes objects true v labels n default all s = jump_resumes objects (Some n) all s
   test_resumes objects false v labels n default all s = sought_resumes objects v labels (suc n) default all s
 
-  -- ---- what waits for ticks alone
+  -- ---- operations that wait for ticks alone
 
   late_resumes : (what : Late) (s : State) → late p call what s ≡ resumed p call (came_late p what s)
   late_resumes (puts_text t count n r) s = refl

@@ -1,4 +1,4 @@
--- What the objects of a run come to.
+-- The results of the operations on the objects of a run.
 use Rattle.std.proofs.Common.{◌≡◌, ℕ, zero, suc, ◌<◌, ◌≤◌, List, [], ◌∷◌, map, get_or, Some, None, arith, ℤ, pos, length, refl, sym, ap, subst, ◌∙◌, false}
 use Rattle.std.specs.Prelude.{nat_lt, Result, Ok, Err, slice_get, option_map}
 use Rattle.std.proofs.lemmas.Option.{slice_get-map}
@@ -44,7 +44,7 @@ writes p at r v w s t n e h same new =
     let goes : Run ℤ = undefined U7 at s in
     ap (λ b. choose b goes (Goes v (stored r v s))) test ∙ ap (λ v2. Goes v2 (stored r v s)) (sym same) ∙ ap (Goes w) (sym new)
 
--- what is done and then another thing, where the first stopped
+-- one operation and then another, where the first stopped
 pub runs_as : {A B : Type 0} (view : A → B) (x y : Run B) (r : Result A Stop) (s : State) → x ≡ y → Runs view x r s → Runs view y r s
 runs_as view x y r s e h = let P : Run _ → Type 0 = λ x. Runs view x r s in subst P e h
 

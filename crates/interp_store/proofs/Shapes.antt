@@ -1,4 +1,4 @@
--- Arrays as their cells: what stands at a path, and what a change of cells comes to.
+-- Arrays as their cells: the part at a path, and the result of a change of cells.
 use Rattle.std.proofs.Common.{◌≡◌, ℕ, zero, suc, ◌+◌, ◌*◌, ◌<◌, ◌≤◌, ◌⊎◌, inl, inr, List, [], ◌∷◌, length, drop, replicate, get_or}
 use Rattle.std.proofs.Common.{Option, Some, None, ℤ, refl, sym, ap, ◌∙◌, arith, add-one, drop-cons}
 use Rattle.std.proofs.lemmas.Bool.{lt-ltb, le-ltb, cases_lt}
@@ -148,7 +148,7 @@ filled_cells (n ∷ ls) cs k v each =
     let on : k + (i * size + j) ≡ k + i * size + j = omega arith in
     sym (ap (cell cs) on) ∙ each (i * size + j) (omega arith))))
 
--- ---- what stands behind subscripts
+-- ---- parts after subscripts
 
 in_range : (path : List ℕ) (i n : ℕ) (ls : List ℕ) → i < n → behind (i ∷ path) (n ∷ ls) ≡ behind path ls
 in_range path i n ls h = ap (λ b. choose b (behind path ls) None) (lt-ltb i n h)
@@ -178,7 +178,7 @@ stands (i ∷ path) (n ∷ ls) cs k = by_range (cases_lt i n) (stands path ls cs
         ap (λ o. at_path o path) (no_part n size (shaped ls cs) (k * (n * size)) i h) ∙ none_behind path
         ∙ ap (option_map (part_from cs path ls (k * n + i))) (sym (out_of_range path i n ls h))
 
--- where something stands, its subscripts are in range
+-- where there is a part, its subscripts are in range
 ranged : (path ls rest : List ℕ) (i n : ℕ) → behind (i ∷ path) (n ∷ ls) ≡ Some rest → i < n
 ranged path ls rest i n e = by_range (cases_lt i n)
   where
@@ -318,7 +318,7 @@ all_counted ls i product h all =
     let last : product * elements_in (drop i ls) ≡ product * 1 = ap (λ l. product * elements_in l) none in
     omega (arith, last, all)
 
--- ---- what is read
+-- ---- reads
 
 there : (path ls : List ℕ) (cs : List ℤ) (o : Option (List ℕ)) → behind path ls ≡ o → at_path (Some (shaped ls cs 0)) path ≡ option_map (part_from cs path ls 0) o
 there path ls cs o e =
@@ -356,7 +356,7 @@ pub emptied : (rest : List ℕ) (o : Option (List ℕ)) → Some rest ≡ o → 
 emptied [] o e none = sym e
 emptied (n ∷ rest) o e none = absurd (omega (arith, none))
 
--- ---- what is written
+-- ---- writes
 
 pub puts_element : (path ls : List ℕ) (cs : List ℤ) (k : ℕ) (v : ℤ) → behind path ls ≡ Some [] → k ≡ number path ls 0 → k < length cs → value_in v ≡ Some v →
     shaped ls (slice_set cs k v) 0 ≡ put_at path (machine.Element (Some v)) (shaped ls cs 0)

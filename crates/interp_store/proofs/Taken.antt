@@ -22,7 +22,7 @@ use Rattle.interp_store.specs.layer.Agrees.{state_in, onto, Agrees, Takes, frame
 pub agrees_as : (m m2 : Moved) (fs gs : List on.Frame) (r : Result Step Stop) (t : State) → m2 ≡ m → Agrees (onto fs m2) r gs t → Agrees (onto fs m) r gs t
 agrees_as m m2 fs gs r t e h = let P : Moved → Type 0 = λ m. Agrees (onto fs m) r gs t in subst P e h
 
--- a frame that was pushed before waits behind it
+-- a frame that was pushed before waits after it
 pub onto_behind : (fs : List on.Frame) (f : on.Frame) (m : Moved) → onto (fs ++ f ∷ []) m ≡ onto fs (behind f m)
 onto_behind fs f (moves pushed step s) = ap (λ l. moves l step s) (append_assoc fs (f ∷ []) pushed)
 onto_behind fs f (halts e s) = refl
@@ -44,16 +44,16 @@ takes_as old new r step step2 e h = λ o.
     agrees_as (step (program_of old.program.now) (state_in old.scene o)) (step2 (program_of old.program.now) (state_in old.scene o)) (frames_of old) (frames_of new) r
     (state_in new.scene o) (e (program_of old.program.now) (state_in old.scene o)) (h o)
 
--- ---- what frames do
+-- ---- the steps of frames
 
--- a frame that gets a value takes the step of the frame that it is
+-- equal frames and values take the same step
 pub left_as : (frame f : OperandFrame) (v v2 : ℤ) (old new : Machine) (r : Result Step Stop) → frame ≡ f → v2 ≡ v →
     Takes (λ p s. left_by_value p (operand_frame f) v2 s) old r new → Takes (λ p s. left_by_value p (operand_frame frame) v s) old r new
 left_as frame f v v2 old new r e same h =
     takes_as old new r (λ p s. left_by_value p (operand_frame frame) v s) (λ p s. left_by_value p (operand_frame f) v2 s)
     (λ p s. ap (λ v. left_by_value p (operand_frame f) v s) same ∙ ap (λ f. left_by_value p (operand_frame f) v s) (sym e)) h
 
--- one that gets a place
+-- and so do equal places
 pub place_left_as : (frame f : PlaceFrame) (at : Reference) (old new : Machine) (r : Result Step Stop) → frame ≡ f →
     Takes (λ p s. left_by_place p (place_frame f) at s) old r new → Takes (λ p s. left_by_place p (place_frame frame) at s) old r new
 place_left_as frame f at old new r e h =

@@ -1,4 +1,4 @@
--- The objects that live, and what they stand for.
+-- The live objects, and the model that represents them.
 use Rattle.std.proofs.Common.{◌≡◌, ℕ, ℤ, zero, suc, ◌+◌, ◌<◌, ◌≤◌, List, [], ◌∷◌, length, map, take, get_or, replicate, Option, Some, None, refl, sym, ap, subst, ◌∙◌, arith}
 use Rattle.std.specs.Prelude.{slice_get, slice_set, option_map, Result, Ok, Err, IfOk, OnOk}
 use Rattle.typing_spec.specs.Types.{elements_in}
@@ -56,7 +56,7 @@ no_object ts i path h = sym (ap (λ o. at_path o path) (get_map ts i ∙ ap (opt
 pub some_object : (ts : List Tree) (i : ℕ) (t : Tree) (path : List ℕ) → i < length ts → t ≡ get_or ts i t → at_path (Some (tree_of t)) path ≡ at_path (slice_get (map tree_of ts) i) path
 some_object ts i t path h e = sym (ap (λ o. at_path o path) (get_map ts i ∙ ap (option_map tree_of) (got ts i t h e)))
 
--- an object that is put through the place that is lent
+-- an object that is written through the borrowed place
 pub object_put : {A E : Type 0} (r : Result A E) (ts : List Tree) (i : ℕ) (now new : Tree) (path p : List ℕ) (tree u : machine.Tree) → i < length ts → now ≡ get_or ts i now → p ≡ path → u ≡ tree →
     OnOk r (tree_of new ≡ machine.put_at p u (tree_of now)) → OnOk r (map tree_of (slice_set ts i new) ≡ machine.put_in (map tree_of ts) i path tree)
 object_put (Ok x) ts i now new path p tree u h e a b put =

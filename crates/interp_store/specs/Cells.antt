@@ -18,7 +18,7 @@ cell [] k = None
 cell (c ∷ cells) zero = value_in c
 cell (c ∷ cells) (suc k) = cell cells k
 
--- n parts of so many elements each, from element k on
+-- n parts of `size` elements each, from element k on
 abbrev pub rows : ℕ → ℕ → (ℕ → machine.Tree) → ℕ → machine.Row
 rows zero size part k = machine.no_parts
 rows (suc n) size part k = machine.and_part (part k) (rows n size part (k + size))
@@ -28,13 +28,13 @@ abbrev pub shaped : List ℕ → List ℤ → ℕ → machine.Tree
 shaped [] cells k = machine.Element (cell cells k)
 shaped (n ∷ lengths) cells k = machine.Array (rows n (elements_in lengths) (shaped lengths cells) k)
 
--- the lengths of what stands behind these subscripts, if something does
+-- the lengths of the part at these subscripts, if there is one
 abbrev pub behind : List ℕ → List ℕ → Option (List ℕ)
 behind [] lengths = Some lengths
 behind (i ∷ path) [] = None
 behind (i ∷ path) (n ∷ lengths) = choose (nat_lt i n) (behind path lengths) None
 
--- how many parts of its lengths stand before it, where k parts of all lengths stand before the whole
+-- the number of parts of its lengths that precede it, where k parts of all lengths precede the whole
 abbrev pub number : List ℕ → List ℕ → ℕ → ℕ
 number [] lengths k = k
 number (i ∷ path) [] k = k

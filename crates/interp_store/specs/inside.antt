@@ -1,2 +1,2 @@
--- The abstract machine with a stack of its own. Nothing here has to be believed: laws tie it to the definition.
+-- The abstract machine with an explicit stack. Nothing here has to be trusted: laws relate it to the definition.
 pub mod Laws

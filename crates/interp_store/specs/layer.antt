@@ -1,4 +1,4 @@
--- What the contracts between the crates of this layer cite; nothing of it has to be believed.
+-- Definitions that the contracts between the crates of this layer cite; none of them has to be trusted.
 pub mod Agrees
 pub mod Frames
 pub mod Presents

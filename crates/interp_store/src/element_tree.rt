@@ -19,7 +19,7 @@ pub enum Tree {
 }
 
 impl Tree {
-    /// The value of the element behind these subscripts, none where it is indeterminate or none stands there.
+    /// The value of the element at these subscripts, none where it is indeterminate or there is no element.
     #[inline(always)]
     pub fn value(&self, path: &[usize]) -> Option<i64>
         ensures { result ≡ value_of (at_path (Some (tree_of self.now)) path.now) }
@@ -30,7 +30,7 @@ impl Tree {
         }
     }
 
-    /// How many elements or rows stand behind these subscripts, 0 where no array does.
+    /// The number of elements or rows at these subscripts, 0 where there is no array.
     pub fn len(&self, path: &[usize]) -> usize
         ensures { result ≡ length_of (at_path (Some (tree_of self.now)) path.now) }
     {
@@ -51,9 +51,9 @@ impl Tree {
         }
     }
 
-    /// The element behind these subscripts, if something stands there, becomes `v`.
+    /// The element at these subscripts, if there is one, becomes `v`.
     ///
-    /// Errors: an array stands there, or `v` is the least number, neither of which is of a typed program.
+    /// Errors: an array is there, or `v` is the least number, neither of which is of a typed program.
     pub fn set(&mut self, path: &[usize], v: i64) -> Result<(), AllocError>
         ensures { OnOk result (tree_of self.new ≡ put_at path.now (machine.Element (Some v)) (tree_of self.old)) }
     {
@@ -67,9 +67,9 @@ impl Tree {
         Ok(())
     }
 
-    /// Each element of what stands behind these subscripts, which has these lengths, becomes `v`.
+    /// Each element of the part at these subscripts, which has these lengths, becomes `v`.
     ///
-    /// Errors: what stands there has other lengths, or `v` is the least number, neither of which is of a typed program.
+    /// Errors: the part there has other lengths, or `v` is the least number, neither of which is of a typed program.
     pub fn fill(&mut self, path: &[usize], lengths: &[u32], v: i64) -> Result<(), AllocError>
         ensures { OnOk result (tree_of self.new ≡ put_at path.now (filled (Some v) lengths.now) (tree_of self.old)) }
     {

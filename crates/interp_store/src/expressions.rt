@@ -1,4 +1,4 @@
-//! Expressions behind their tick, and what waits for their parts (6.5).
+//! Expressions after their tick, and the frames that wait for their parts (6.5).
 
 ghost use Rattle.std.specs.Prelude.{◌≡◌, List, map};
 ghost use Rattle.typed_ast.specs.View.{place_of, value_of, callee_of, argument_of, arguments_of};
@@ -26,7 +26,7 @@ fn position_of(place: &Place) -> Pos
     }
 }
 
-/// A place, behind its tick (6.3.2.1, 6.5.1, 6.5.2.1).
+/// A place, after its tick (6.3.2.1, 6.5.1, 6.5.2.1).
 pub fn enter_place<'p>(machine: &mut Machine<'p>, place: &'p Place) -> Result<Step<'p>, Stop>
     ensures takes { Takes (λ p s. entered_place p (place_of place.now) s) machine.old result machine.new }
     ensures program { machine.new.program ≡ machine.old.program }
@@ -110,7 +110,7 @@ fn assignment<'p>(
     machine.wait(Frame::Place(frame), Node::Place(part))
 }
 
-/// The value of an element, behind its tick (6.3.2.1p2).
+/// The value of an element, after its tick (6.3.2.1p2).
 fn enter_read<'p>(machine: &mut Machine<'p>, place: &'p Place) -> Result<Step<'p>, Stop>
     ensures takes { Takes (λ p s. behind (on.reads (meaning.position_of (place_of place.now))) (entered_place p (place_of place.now) s)) machine.old result machine.new }
     ensures program { machine.new.program ≡ machine.old.program }
@@ -121,7 +121,7 @@ fn enter_read<'p>(machine: &mut Machine<'p>, place: &'p Place) -> Result<Step<'p
     }
 }
 
-/// An expression, behind its tick (6.5).
+/// An expression, after its tick (6.5).
 pub fn enter_value<'p>(machine: &mut Machine<'p>, e: &'p Value) -> Result<Step<'p>, Stop>
     ensures takes { Takes (λ p s. entered_value p (value_of e.now) s) machine.old result machine.new }
     ensures program { machine.new.program ≡ machine.old.program }

@@ -1,6 +1,6 @@
-//! What waits on the machine's stack, what takes the next tick, and what is found.
+//! The frames on the machine's stack, the nodes that take the next tick, and the results.
 //!
-//! Statements are lent in their boxes and vectors where they can be: a type that reaches too many fields is refused.
+//! Statements are borrowed in their boxes and vectors where they can be: a type that reaches too many fields is rejected.
 
 use crate::reference::Reference;
 use ctypes::{BinOp, IntType};
@@ -17,7 +17,7 @@ pub enum Flow {
     Returned(Option<i64>),
 }
 
-/// What a part of the program gives to what waits for it.
+/// The result that a part of the program passes to the frame that waits for it.
 #[derive(Drop)]
 pub enum Found {
     Value(i64),
@@ -26,7 +26,7 @@ pub enum Found {
     Initialised,
 }
 
-/// What a call passes for a parameter (6.5.2.2p4).
+/// The argument that a call passes for a parameter (6.5.2.2p4).
 #[derive(Drop)]
 pub enum Passed {
     Number(i64),
@@ -82,7 +82,7 @@ pub struct SwitchBlock<'p> {
     pub all: &'p Vec<Statement>,
 }
 
-/// A label of a `switch` whose value is tested: its number, the statements behind it, and the number of `default`, if that was
+/// A label of a `switch` whose value is tested: its number, the statements after it, and the number of `default`, if that was
 /// passed.
 #[derive(Clone, Copy)]
 pub struct CaseTest<'p> {
@@ -95,17 +95,17 @@ pub struct CaseTest<'p> {
     pub all: &'p Vec<Statement>,
 }
 
-/// What is done once so many ticks are spent.
+/// The operation that follows once a number of ticks is spent.
 #[derive(Drop)]
 pub enum Late<'p> {
-    /// So many characters of a string literal are put.
+    /// A number of characters of a string literal are stored.
     PutsText(IntType, usize, usize, Reference),
-    /// So many elements or rows, from a number on, become zero.
+    /// A number of elements or rows, from a given one on, become zero.
     PutsZeros(usize, usize, &'p [u32], Reference),
     EntersBody(&'p [ObjectType], &'p Statement),
 }
 
-/// What takes the next tick.
+/// The node that takes the next tick.
 #[derive(Drop)]
 pub enum Node<'p> {
     Place(&'p Place),
@@ -118,7 +118,7 @@ pub enum Node<'p> {
     CaseTest(CaseTest<'p>),
 }
 
-/// What comes next: a node, what one gave, or a call.
+/// The next step: a node, the result of one, or a call.
 #[derive(Drop)]
 pub enum Step<'p> {
     Enters(Node<'p>),
@@ -126,7 +126,7 @@ pub enum Step<'p> {
     Calls(Pos, Callee, bool, Vec<Passed>),
 }
 
-/// What waits for a place.
+/// A frame that waits for a place.
 #[derive(Drop)]
 pub enum PlaceFrame<'p> {
     Indexes(Pos, &'p Value),
@@ -137,7 +137,7 @@ pub enum PlaceFrame<'p> {
     ArrayPassed(Asked<'p>),
 }
 
-/// What waits for the value of an operand.
+/// A frame that waits for the value of an operand.
 #[derive(Drop)]
 pub enum OperandFrame<'p> {
     IndexOf(Pos, Reference),
@@ -155,7 +155,7 @@ pub enum OperandFrame<'p> {
     NumberPassed(IntType, Asked<'p>),
 }
 
-/// What waits for the value of a whole expression.
+/// A frame that waits for the value of a whole expression.
 #[derive(Drop)]
 pub enum ControlFrame<'p> {
     Gives(IntType, Reference),
@@ -168,7 +168,7 @@ pub enum ControlFrame<'p> {
     GivesBack(IntType),
 }
 
-/// What a call's end goes back to.
+/// The return target of a call.
 #[derive(Clone, Copy)]
 pub enum Back {
     /// An expression, which may use the value.
@@ -176,7 +176,7 @@ pub enum Back {
     ToEnd,
 }
 
-/// A call, with what its caller had: how many objects lived, the number of its own first one, and its arrays.
+/// A call, with its caller's state: how many objects lived, the number of its own first one, and its arrays.
 #[derive(Drop)]
 pub struct Return {
     pub back: Back,
@@ -186,7 +186,7 @@ pub struct Return {
     pub arrays: Vec<Reference>,
 }
 
-/// What waits for a statement to be left.
+/// A frame that waits for a statement to be left.
 #[derive(Drop)]
 pub enum FlowFrame<'p> {
     Returns(Return),
@@ -196,7 +196,7 @@ pub enum FlowFrame<'p> {
     ForStarts(Option<&'p Value>, Loop<'p>),
 }
 
-/// A braced list: what is left of it, the type of its elements, how many elements or rows are left and the number of the first of
+/// A braced list: the rest of it, the type of its elements, how many elements or rows are left and the number of the first of
 /// these, and where they lie (6.7.9p17).
 #[derive(Drop)]
 pub struct Listed<'p> {
@@ -208,14 +208,14 @@ pub struct Listed<'p> {
     pub array: Reference,
 }
 
-/// What waits for a first value to be given.
+/// A frame that waits for a first value.
 #[derive(Drop)]
 pub enum InitialiserFrame<'p> {
     NextPart(Listed<'p>),
     Defined,
 }
 
-/// What waits.
+/// A waiting frame.
 #[derive(Drop)]
 pub enum Frame<'p> {
     Place(PlaceFrame<'p>),

@@ -16,7 +16,7 @@ pub struct Grid {
     pub cells: Vec<i64>,
 }
 
-/// Whether a number stands for no value.
+/// Whether a number represents no value.
 #[inline(always)]
 fn is_no_value(number: i64) -> bool
     ensures { result ≡ same_value number cells.no_value }
@@ -24,7 +24,7 @@ fn is_no_value(number: i64) -> bool
     number <= i64::MIN && i64::MIN <= number
 }
 
-/// The value that a number stands for.
+/// The value that a number represents.
 #[inline(always)]
 fn value_in(number: i64) -> Option<i64>
     ensures { result ≡ cells.value_in number }
@@ -46,7 +46,7 @@ pub fn number_for(value: Option<i64>) -> Option<i64>
     }
 }
 
-/// The lengths of what stands behind these subscripts, if something does.
+/// The lengths of the part at these subscripts, if there is one.
 #[inline(always)]
 fn behind<'l>(lengths: &'l [u32], path: &[usize]) -> Option<&'l [u32]>
     ensures { option_map (λ rest. rest.now) result ≡ cells.behind path.now lengths.now }
@@ -66,7 +66,7 @@ fn behind<'l>(lengths: &'l [u32], path: &[usize]) -> Option<&'l [u32]>
     Some(rest)
 }
 
-/// How many parts of its lengths stand before what these subscripts name, if that is a number that memory has.
+/// The number of parts of its lengths that precede the one at these subscripts, if memory has that number.
 #[inline(always)]
 fn number(lengths: &[u32], path: &[usize]) -> Option<usize>
     ensures exact { IfSome result (λ k. k ≡ cells.number path.now lengths.now 0) }
@@ -104,7 +104,7 @@ pub fn count(lengths: &[u32]) -> Option<usize>
     Some(product)
 }
 
-/// So many numbers, from one on, become this one.
+/// Sets `count` numbers, from `first` on, to `v`.
 fn fill_numbers(numbers: &mut Vec<i64>, first: usize, count: usize, v: i64)
     requires { first + count ≤ length numbers.old.items }
     ensures inside { (j : ℕ) → j < count → cells.cell numbers.new.items (first + j) ≡ cells.value_in v }
@@ -138,7 +138,7 @@ impl Grid {
         }
     }
 
-    /// The value of the element behind these subscripts, none where it is indeterminate or none stands there.
+    /// The value of the element at these subscripts, none where it is indeterminate or there is no element.
     #[inline(always)]
     pub fn value(&self, path: &[usize]) -> Option<i64>
         ensures { result ≡ machine.value_of (machine.at_path (Some (grid_of self.now)) path.now) }
@@ -155,7 +155,7 @@ impl Grid {
         }
     }
 
-    /// How many elements or rows stand behind these subscripts, 0 where no array does.
+    /// The number of elements or rows at these subscripts, 0 where there is no array.
     pub fn count(&self, path: &[usize]) -> usize
         ensures { result ≡ machine.length_of (machine.at_path (Some (grid_of self.now)) path.now) }
     {
@@ -168,7 +168,7 @@ impl Grid {
         }
     }
 
-    /// The number of the element behind these subscripts, if one stands there.
+    /// The number of the element at these subscripts, if there is one.
     #[inline(always)]
     fn place(&self, path: &[usize]) -> Option<usize>
         ensures stands { IfSome result (λ k. cells.behind path.now self.now.lengths.items ≡ Some []) }
@@ -189,9 +189,9 @@ impl Grid {
         }
     }
 
-    /// The element behind these subscripts becomes `v`.
+    /// The element at these subscripts becomes `v`.
     ///
-    /// Errors: none stands there, or `v` is the least number, neither of which is of a typed program.
+    /// Errors: there is none, or `v` is the least number, neither of which is of a typed program.
     pub fn set(&mut self, path: &[usize], v: i64) -> Result<(), AllocError>
         ensures { OnOk result (grid_of self.new ≡ machine.put_at path.now (machine.Element (Some v)) (grid_of self.old)) }
     {
@@ -205,8 +205,8 @@ impl Grid {
         Ok(())
     }
 
-    /// The numbers of the first one of the elements behind these subscripts, and how many these are, if a part of these lengths
-    /// stands there.
+    /// The number of the first of the elements at these subscripts, and their count, if there is a part of these lengths
+    /// there.
     fn range(&self, path: &[usize], lengths: &[u32]) -> Option<(usize, usize)>
         ensures stands { IfSome result (λ r. cells.behind path.now self.now.lengths.items ≡ Some lengths.now) }
         ensures first { IfSome result (λ r. r.0 ≡ cells.number path.now self.now.lengths.items 0 * elements_in lengths.now) }
@@ -237,9 +237,9 @@ impl Grid {
         Some((first, count))
     }
 
-    /// Each element of the part of these lengths behind these subscripts becomes `v`.
+    /// Each element of the part of these lengths at these subscripts becomes `v`.
     ///
-    /// Errors: no such part stands there, or `v` is the least number, neither of which is of a typed program.
+    /// Errors: there is no such part, or `v` is the least number, neither of which is of a typed program.
     pub fn fill(&mut self, path: &[usize], lengths: &[u32], v: i64) -> Result<(), AllocError>
         ensures { OnOk result (grid_of self.new ≡ machine.put_at path.now (machine.filled (Some v) lengths.now) (grid_of self.old)) }
     {

@@ -1,5 +1,5 @@
-//! Frames as the stack keeps them: what waits for most parts of an expression, for a turn of a loop or for a call, in 48 bytes, and
-//! the others in memory of their own. A loop is kept with the parts that it has: what may be left out would take a word more each.
+//! Frames as the stack stores them: those for most parts of an expression, for a turn of a loop or for a call, in 48 bytes, and
+//! the others in an allocation of their own. A loop is stored with the parts that it has: an optional part would take a word more each.
 
 ghost use Rattle.std.specs.Prelude.{◌≡◌, IfErr, IfOk, Some, map, option_map};
 ghost use Rattle.typed_ast.specs.View.{object_type_of, statement_of, value_of};
@@ -23,8 +23,8 @@ use std::alloc::Global;
 use tree::PrefixOp;
 use typed_ast::{ObjectType, Statement, Value};
 
-/// A call of an expression, whose caller has no arrays as parameters: where it stands, whether its value is used, and what its
-/// caller had.
+/// A call of an expression, whose caller has no arrays as parameters: its place, whether its value is used, and the state of its
+/// caller.
 #[derive(Clone, Copy)]
 pub struct Call {
     pub file: usize,
@@ -44,7 +44,7 @@ pub enum Kept<'p> {
     Steps(Stepping),
     /// The subscript of a whole object.
     IndexOf(Pos, usize),
-    /// What is stored in a whole object.
+    /// A store to a whole object.
     Stores(Pos, IntType, usize),
     Signs(Pos, PrefixOp, IntType),
     Right(Pos, BinOp, IntType, &'p Value),
@@ -82,7 +82,7 @@ pub enum Kept<'p> {
 
 const _: () = prove!(size_of::<Kept<'static>>() == 48);
 
-/// A frame in memory of its own.
+/// A frame in an allocation of its own.
 ///
 /// Errors: memory ran out.
 fn apart<'p>(alloc: Global, frame: Frame<'p>) -> Result<Kept<'p>, Stop>
@@ -112,7 +112,7 @@ fn keep_place<'p>(alloc: Global, frame: PlaceFrame<'p>) -> Result<Kept<'p>, Stop
     }
 }
 
-/// The subscript of what stands at a reference.
+/// The subscript of the part at a reference.
 fn keep_subscript<'p>(alloc: Global, at: Pos, r: Reference) -> Result<Kept<'p>, Stop>
     ensures ok { IfOk result (λ kept. kept_of kept ≡ operand_frame (operands.IndexOf at r)) }
     ensures err { IfErr result (λ e. e ≡ Memory) }
@@ -123,7 +123,7 @@ fn keep_subscript<'p>(alloc: Global, at: Pos, r: Reference) -> Result<Kept<'p>, 
     apart(alloc, Frame::Operand(OperandFrame::IndexOf(at, r)))
 }
 
-/// What is stored at a reference.
+/// A store at a reference.
 fn keep_store<'p>(alloc: Global, at: Pos, ty: IntType, r: Reference) -> Result<Kept<'p>, Stop>
     ensures ok { IfOk result (λ kept. kept_of kept ≡ operand_frame (operands.Stores at ty r)) }
     ensures err { IfErr result (λ e. e ≡ Memory) }
@@ -158,7 +158,7 @@ fn keep_operand<'p>(alloc: Global, frame: OperandFrame<'p>) -> Result<Kept<'p>, 
     }
 }
 
-/// The test of a loop. One that has none waits for none, and is kept apart.
+/// The frame of a loop's test. A loop without a test waits for none; its frame is stored apart.
 fn keep_test<'p>(alloc: Global, l: Loop<'p>) -> Result<Kept<'p>, Stop>
     ensures ok { IfOk result (λ kept. kept_of kept ≡ control_frame (controls.Tests l.entry)) }
     ensures err { IfErr result (λ e. e ≡ Memory) }
@@ -172,7 +172,7 @@ fn keep_test<'p>(alloc: Global, l: Loop<'p>) -> Result<Kept<'p>, Stop>
     }
 }
 
-/// The step of a loop. One that has none waits for none, and is kept apart.
+/// The frame of a loop's step. A loop without a step waits for none; its frame is stored apart.
 fn keep_step<'p>(alloc: Global, l: Loop<'p>) -> Result<Kept<'p>, Stop>
     ensures ok { IfOk result (λ kept. kept_of kept ≡ control_frame (controls.Loops l.entry)) }
     ensures err { IfErr result (λ e. e ≡ Memory) }
@@ -268,7 +268,7 @@ fn keep_initialiser<'p>(alloc: Global, frame: InitialiserFrame<'p>) -> Result<Ke
     }
 }
 
-/// A frame as the stack keeps it.
+/// A frame in the form in which the stack stores it.
 ///
 /// Errors: memory ran out.
 pub fn keep<'p>(alloc: Global, frame: Frame<'p>) -> Result<Kept<'p>, Stop>
@@ -284,35 +284,35 @@ pub fn keep<'p>(alloc: Global, frame: Frame<'p>) -> Result<Kept<'p>, Stop>
     }
 }
 
-/// What waits for a place.
+/// A frame that waits for a place.
 fn place<'p>(frame: PlaceFrame<'p>) -> Frame<'p>
     ensures { frame_of result ≡ place_frame frame.entry }
 {
     Frame::Place(frame)
 }
 
-/// What waits for an operand.
+/// A frame that waits for an operand.
 fn operand<'p>(frame: OperandFrame<'p>) -> Frame<'p>
     ensures { frame_of result ≡ operand_frame frame.entry }
 {
     Frame::Operand(frame)
 }
 
-/// What waits for the value of a whole expression.
+/// A frame that waits for the value of a whole expression.
 fn control<'p>(frame: ControlFrame<'p>) -> Frame<'p>
     ensures { frame_of result ≡ control_frame frame.entry }
 {
     Frame::Control(frame)
 }
 
-/// What waits for a statement to be left.
+/// A frame that waits for a statement to be left.
 fn flow<'p>(frame: FlowFrame<'p>) -> Frame<'p>
     ensures { frame_of result ≡ flow_frame frame.entry }
 {
     Frame::Flow(frame)
 }
 
-/// What a call's end does.
+/// The frame of a call's end.
 fn return_of<'p>(alloc: Global, c: Call) -> Frame<'p>
     ensures { frame_of result ≡ kept_of (kept.Returns c) }
 {
@@ -329,7 +329,7 @@ fn return_of<'p>(alloc: Global, c: Call) -> Frame<'p>
     }))
 }
 
-/// What waits for the test of a loop.
+/// The frame that waits for the test of a loop.
 fn test_of<'p>(
     objects: &'p [ObjectType],
     test: &'p Value,
@@ -348,7 +348,7 @@ fn test_of<'p>(
     }))
 }
 
-/// What waits for the step of a loop.
+/// The frame that waits for the step of a loop.
 fn step_of<'p>(
     objects: &'p [ObjectType],
     test: Option<&'p Value>,
@@ -367,7 +367,7 @@ fn step_of<'p>(
     }))
 }
 
-/// What waits for the body of a loop.
+/// The frame that waits for the body of a loop.
 fn turn_of<'p>(
     objects: &'p [ObjectType],
     test: Option<&'p Value>,
@@ -385,7 +385,7 @@ fn turn_of<'p>(
     }))
 }
 
-/// The frame that the stack kept.
+/// The frame that the stack stored.
 pub fn taken<'p>(alloc: Global, kept: Kept<'p>) -> Frame<'p>
     ensures { frame_of result ≡ kept_of kept.entry }
 {

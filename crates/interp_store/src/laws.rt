@@ -1,19 +1,19 @@
-//! Laws of the machine with a stack of its own, which the interpreter is built on. The functions do nothing: each has a contract so
+//! Laws of the machine with an explicit stack, the base of the interpreter. The functions do nothing: each has a contract so
 //! that its law is proved.
 
 ghost use Rattle.interp_store.specs.inside.Laws.{NodeEnters, FrameLeaves, CallActs, StackResumes, CallIsReal, RunBegins};
 
-/// What a node comes to, behind its one tick, is what is left of it (5.1.2.3).
+/// The result of a node, after its one tick, is its remainder (5.1.2.3).
 pub fn node_enters()
     ensures { NodeEnters }
 {}
 
-/// What a frame does with what it waited for is what is left behind it.
+/// The result of a frame with the value it waited for is the remainder after it.
 pub fn frame_leaves()
     ensures { FrameLeaves }
 {}
 
-/// What a call comes to is what is left of it (6.5.2.2).
+/// The result of a call is its remainder (6.5.2.2).
 pub fn call_acts()
     ensures { CallActs }
 {}
@@ -23,12 +23,12 @@ pub fn stack_resumes()
     ensures { StackResumes }
 {}
 
-/// Calls nested as deep, and loops with as many turns, as the ticks allow are what the laws ask for.
+/// Calls nested as deep, and loops with as many turns, as the ticks allow satisfy the assumptions of the laws.
 pub fn call_is_real()
     ensures { CallIsReal }
 {}
 
-/// The run of a program is what is left when `main` is called from nothing (5.1.2.2.1).
+/// The run of a program is the remainder when `main` is called from nothing (5.1.2.2.1).
 pub fn run_begins()
     ensures { RunBegins }
 {}

@@ -18,7 +18,7 @@ use crate::stop::Stop;
 use std::alloc::Global;
 use typed_ast::Program;
 
-/// The machine: what waits, and the objects of the run.
+/// The machine: the waiting frames, and the objects of the run.
 #[derive(Drop)]
 pub struct Machine<'p> {
     pub alloc: Global,
@@ -28,7 +28,7 @@ pub struct Machine<'p> {
 }
 
 impl<'p> Machine<'p> {
-    /// One more frame waits.
+    /// Pushes a frame.
     ///
     /// Errors: memory ran out.
     #[inline(always)]
@@ -48,7 +48,7 @@ impl<'p> Machine<'p> {
         }
     }
 
-    /// The innermost frame waits no longer.
+    /// Pops the innermost frame.
     #[inline(always)]
     pub fn pop(&mut self) -> Option<Frame<'p>>
         ensures empty { IfNone result (frames_of self.old ≡ []) }
@@ -62,7 +62,7 @@ impl<'p> Machine<'p> {
         }
     }
 
-    /// A frame waits for what a node gives.
+    /// Pushes a frame that waits for the result of a node.
     ///
     /// Errors: memory ran out.
     #[inline(always)]

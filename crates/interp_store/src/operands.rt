@@ -1,4 +1,4 @@
-//! What an expression does with the part that it waited for (6.5).
+//! The step of an expression with the part that it waited for (6.5).
 
 ghost use Rattle.std.specs.Prelude.{◌≡◌, ◌++◌, ◌∷◌, [], List, map, Ok};
 ghost use Rattle.typed_ast.specs.View.{callee_of, argument_of, arguments_of, value_of};
@@ -35,7 +35,7 @@ fn pass<'p>(
     }
 }
 
-/// What a frame does with a place.
+/// The step of a frame with a place.
 pub fn leave_place<'p>(
     machine: &mut Machine<'p>,
     frame: PlaceFrame<'p>,
@@ -103,7 +103,7 @@ fn choose<'p>(
     }
 }
 
-/// What a frame does with a value.
+/// The step of a frame with a value.
 pub fn leave_operand<'p>(
     machine: &mut Machine<'p>,
     frame: OperandFrame<'p>,

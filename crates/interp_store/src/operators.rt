@@ -47,7 +47,7 @@ pub fn low_byte(value: i64) -> u8
     (value.cast_unsigned() % 0x100) as u8
 }
 
-/// What a sign makes of a value (6.5.3.3).
+/// The value of a sign operator on an operand (6.5.3.3).
 ///
 /// Errors: `U1` out of range of a signed type.
 pub fn sign_of(op: PrefixOp, ty: IntType, value: i64) -> Result<i64, Undef>
@@ -97,7 +97,7 @@ pub fn operated_at(at: Pos, op: BinOp, ty: IntType, a: i64, b: i64) -> Result<i6
     }
 }
 
-/// What a sign makes of a value, or the undefined behaviour that this is, at its operator.
+/// The value of a sign operator on an operand, or its undefined behaviour, at its operator.
 ///
 /// Errors: `U1` out of range of a signed type.
 pub fn sign_at(at: Pos, op: PrefixOp, ty: IntType, value: i64) -> Result<i64, Stop>
@@ -120,7 +120,7 @@ pub fn step_operation(op: StepOp) -> BinOp
     }
 }
 
-/// What a step gives: the old value after it, else the new one.
+/// The value of a step: the old value after it, else the new one.
 #[inline(always)]
 pub fn step_value(moment: Moment, old: i64, new: i64) -> i64
     ensures { result ≡ meaning.step_value (moment_of moment) old new }

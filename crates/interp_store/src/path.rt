@@ -5,7 +5,7 @@ ghost use Rattle.interp_store.specs.View.{path_of};
 
 use std::alloc::{AllocError, Global};
 
-/// The subscripts of a row or an element in its object, the outermost first. Up to two take no memory of their own.
+/// The subscripts of a row or an element in its object, the outermost first. Up to two need no allocation.
 #[derive(Drop)]
 pub enum Path {
     Whole,
@@ -38,7 +38,7 @@ impl Path {
         }
     }
 
-    /// The same subscripts again.
+    /// A copy of the subscripts.
     ///
     /// Errors: memory ran out.
     pub fn copied(&self, alloc: Global) -> Result<Path, AllocError>

@@ -27,7 +27,7 @@ impl Reference {
         }
     }
 
-    /// The same reference again.
+    /// A copy of the reference.
     ///
     /// Errors: memory ran out.
     pub fn copied(&self, alloc: Global) -> Result<Reference, Stop>

@@ -30,7 +30,7 @@ pub struct Scene {
 }
 
 impl Scene {
-    /// What a name or a string literal designates (6.5.1p2, p4).
+    /// The object that a name or a string literal designates (6.5.1p2, p4).
     ///
     /// Errors: memory ran out.
     #[inline(always)]
@@ -118,7 +118,7 @@ impl Scene {
 
     /// The element at `r` becomes `v`.
     ///
-    /// Errors: `Memory` where an array stands there, or `v` is the least number, neither of which is of a typed program.
+    /// Errors: `Memory` where an array is there, or `v` is the least number, neither of which is of a typed program.
     #[inline(always)]
     pub fn set(&mut self, r: &Reference, v: i64) -> Result<(), Stop>
         ensures ok { (o : Outside) → OnOk result (state_in self.new o ≡ stored (reference_of r.now) v (state_in self.old o)) }
@@ -234,7 +234,7 @@ fn new_object(alloc: Global, objects: &[ObjectType], n: usize) -> Result<Tree, S
     }
 }
 
-/// The object `n` numbers behind `first`. One past the last number that memory has is out of memory.
+/// The object `n` numbers after `first`. One past the last number that memory has is out of memory.
 #[inline(always)]
 fn object_behind(first: usize, n: usize) -> Result<Reference, Stop>
     ensures ok { IfOk result (λ r. reference_of r ≡ record { object = first + n; path = [] }) }

@@ -12,7 +12,7 @@ use std::alloc::{AllocError, AllocFailed};
 pub enum Stop {
     /// The program ended with this status (5.1.2.2.3).
     Ended(u8),
-    /// An act that is undefined, at its place (3.4.3).
+    /// Undefined behaviour, at its place (3.4.3).
     Undefined(Undef, Pos),
     /// The host's memory ran out.
     Memory,

@@ -53,9 +53,9 @@ impl Store {
         }
     }
 
-    /// The element at a reference, if something stands there, becomes `v`.
+    /// The element at a reference, if there is one, becomes `v`.
     ///
-    /// Errors: an array stands there, or `v` is the least number, neither of which is of a typed program.
+    /// Errors: an array is there, or `v` is the least number, neither of which is of a typed program.
     #[inline(always)]
     pub fn set(&mut self, r: &Reference, v: i64) -> Result<(), AllocError>
         ensures { OnOk result (store_of self.new ≡ put (store_of self.old) (reference_of r.now) (Element (Some v))) }
@@ -70,9 +70,9 @@ impl Store {
         self.objects[r.object].set(r.path.subscripts(), v)
     }
 
-    /// Each element of what stands at a reference, which has these lengths, becomes `v`.
+    /// Each element of the part at a reference, which has these lengths, becomes `v`.
     ///
-    /// Errors: what stands there has other lengths, or `v` is the least number, neither of which is of a typed program.
+    /// Errors: the part there has other lengths, or `v` is the least number, neither of which is of a typed program.
     pub fn fill(&mut self, r: &Reference, lengths: &[u32], v: i64) -> Result<(), AllocError>
         ensures { OnOk result (store_of self.new ≡ put (store_of self.old) (reference_of r.now) (filled (Some v) lengths.now)) }
     {
@@ -102,7 +102,7 @@ impl Store {
         Ok(())
     }
 
-    /// The first `count` objects live on (6.2.4p6).
+    /// The first `count` objects stay alive (6.2.4p6).
     pub fn truncate(&mut self, count: usize)
         ensures { store_of self.new ≡ take count (store_of self.old) }
     {

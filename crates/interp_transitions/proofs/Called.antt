@@ -26,7 +26,7 @@ use Rattle.interp_transitions.proofs.Left.{at_scene}
 
 -- ---- parameters
 
--- the objects behind the parameters
+-- the objects after the parameters
 pub objects_done : (types : List held.ObjectType) (ps : List meaning.Passed) (n : ℕ) (s s1 s2 : Store) → s1 ≡ s ++ numbers_of ps → n ≡ length s1 - length s →
     s2 ≡ s1 ++ map indeterminate (map object_type_of (drop n types)) → s2 ≡ s ++ objects_of (map object_type_of types) ps
 objects_done types ps n s s1 s2 e f g =
@@ -51,7 +51,7 @@ begin_as p back f g passed s t is_main count base arrays n objects a b c d e h i
     ∙ ap (λ x. waits (on.returns back (nat_eq f p.main) (length s.store) s.base s.arrays) (on.ticking (length g.type.parameters) (on.enters_body x g.body)) t) h
     ∙ ap (λ x. waits (on.returns back (nat_eq f p.main) (length s.store) s.base s.arrays) (on.ticking (length g.type.parameters) (on.enters_body g.objects g.body)) x) i
 
--- ---- what a call's end goes back to
+-- ---- where a call's end returns to
 
 back_outside : (p : typed.Program) (b : on.Back) (v : Option ℤ) (s : State) → outside_behind (went_back p b v s) ≡ outside_of s
 back_outside p (on.to_caller at used) (Some v) s = refl

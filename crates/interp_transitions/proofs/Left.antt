@@ -1,4 +1,4 @@
--- Steps of nodes and frames, and what is outside.
+-- Steps of nodes and frames, and the outside.
 use Rattle.std.proofs.Common.{◌≡◌, ℤ, List, refl, sym, ap, subst, ◌∙◌}
 use Rattle.std.specs.Prelude.{Result, Ok, Err}
 use Rattle.typing_spec.specs.Program as typed
@@ -19,7 +19,7 @@ use Rattle.interp_store.specs.layer.Agrees.{Outside, state_in, onto, Agrees, Tak
 use Rattle.interp_store.proofs.Taken.{takes_as}
 use Rattle.interp_transitions.specs.Acts.{outside_of, outside_behind, Acts}
 
--- ---- a step that leaves what is outside as it is
+-- ---- a step that leaves the outside as it is
 
 unmoved : (fs : List on.Frame) (m : Moved) → outside_behind (onto fs m) ≡ outside_behind m
 unmoved fs (moves pushed step s) = refl
@@ -67,7 +67,7 @@ pub first_as : (whole part : on.Frame) (old new : Machine) (r : Result Step Stop
 first_as whole part old new r e h =
     takes_as old new r (λ p s. left_initialised p whole s) (λ p s. left_initialised p part s) (λ p s. ap (λ f. left_initialised p f s) (sym e)) h
 
--- ---- and so with what is done outside
+-- ---- and so with effects on the outside
 
 pub acts_as : (old new : Machine) (r : Result Step Stop) (st st2 : typed.Program → State → Moved) → ((p : typed.Program) (s : State) → st2 p s ≡ st p s) →
     Acts st2 old r new → Acts st old r new

@@ -9,11 +9,11 @@ use Rattle.interp_store.specs.declared.frames.Step.{Step}
 use Rattle.interp_store.specs.layer.Frames.{Moved, moves, halts}
 use Rattle.interp_store.specs.layer.Agrees.{Outside, state_in, onto, Agrees, frames_of}
 
--- what a state has beside the objects
+-- the components of a state other than the objects
 abbrev pub outside_of : State → Outside
 outside_of s = record { clock = s.clock; input = s.input; history = s.history }
 
--- the clock, the input left and the history behind a step
+-- the clock, the input left and the history after a step
 abbrev pub outside_behind : Moved → Outside
 outside_behind (moves pushed step s) = outside_of s
 outside_behind (halts e s) = outside_of s

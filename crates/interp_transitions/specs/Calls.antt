@@ -1,4 +1,4 @@
--- What a call whose arguments are done comes to in code. Bytes are got and put by whoever has the port.
+-- The outcome, in code, of a call whose arguments are evaluated. Bytes are got and put by whoever has the port.
 use Rattle.std.specs.Prelude.{◌≡◌, List, Bool, Result, Ok, Err, ⊤}
 use Rattle.srcset.specs.declared.refusal.Pos.{Pos}
 use Rattle.ctypes.specs.Types.{modulo}

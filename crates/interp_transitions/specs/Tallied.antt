@@ -1,4 +1,4 @@
--- What a tally of the active calls tells of a history.
+-- The relation of a tally of the active calls to a history.
 use Rattle.std.specs.Prelude.{◌≡◌, List, map, reverse}
 use Rattle.typing_spec.specs.Program as typed
 use Rattle.csem.specs.History.{Entry, active, weight_in, sum_of, greatest_sum}

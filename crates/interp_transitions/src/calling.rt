@@ -15,7 +15,7 @@ use interp_store::stop::Stop;
 use srcset::Pos;
 use typed_ast::Callee;
 
-/// What a call comes to: a step, or a byte is got, or put.
+/// The outcome of a call: a step, or a byte is got, or put.
 #[derive(Drop)]
 pub enum Called<'p> {
     Step(Step<'p>),

@@ -90,7 +90,7 @@ fn push_objects(store: &mut Store, alloc: Global, types: &[ObjectType]) -> Resul
     Ok(())
 }
 
-/// The types behind the first `count`.
+/// The types after the first `count`.
 fn behind<'p>(types: &'p [ObjectType], count: usize) -> &'p [ObjectType]
     ensures { result.now ≡ drop count types.now }
 {
@@ -162,7 +162,7 @@ fn arrays_of(alloc: Global, passed: &[Passed]) -> Result<Vec<Reference>, Stop>
     Ok(arrays)
 }
 
-/// What a caller had: the number of its objects' first one, how many objects lived, and its arrays.
+/// The state of a caller: the number of its objects' first one, how many objects lived, and its arrays.
 #[derive(Drop)]
 pub struct Caller {
     pub count: usize,

@@ -1,4 +1,4 @@
-//! What a frame does with what it waited for. What it did not wait for goes on to the next one.
+//! How a frame continues with the result that it waited for. A result that it did not wait for goes on to the next one.
 
 ghost use Rattle.std.specs.Prelude.{◌≡◌, Ok};
 ghost use Rattle.interp_store.specs.View.{reference_of};
@@ -26,7 +26,7 @@ fn passed_on<'p>(found: Found) -> Result<Step<'p>, Stop>
     Ok(Step::Leaves(found))
 }
 
-/// What a frame does with a value.
+/// How a frame continues with a value.
 ///
 /// Errors: why there is no next step.
 fn leave_value<'p>(machine: &mut Machine<'p>, frame: Frame<'p>, v: i64) -> Result<Step<'p>, Stop>
@@ -42,7 +42,7 @@ fn leave_value<'p>(machine: &mut Machine<'p>, frame: Frame<'p>, v: i64) -> Resul
     }
 }
 
-/// What a frame does with a place.
+/// How a frame continues with a place.
 ///
 /// Errors: why there is no next step.
 fn leave_found_place<'p>(
@@ -62,7 +62,7 @@ fn leave_found_place<'p>(
     }
 }
 
-/// What a frame that waits for a statement does when it is left (6.8.6).
+/// How a frame that waits for a statement continues when it is left (6.8.6).
 ///
 /// Errors: why there is no next step.
 fn leave_statement<'p>(
@@ -82,7 +82,7 @@ fn leave_statement<'p>(
     }
 }
 
-/// What a frame does when a statement is left (6.8.6).
+/// How a frame continues when a statement is left (6.8.6).
 ///
 /// Errors: why there is no next step.
 fn leave_flow<'p>(machine: &mut Machine<'p>, frame: Frame<'p>, flow: Flow) -> Result<Step<'p>, Stop>
@@ -98,7 +98,7 @@ fn leave_flow<'p>(machine: &mut Machine<'p>, frame: Frame<'p>, flow: Flow) -> Re
     }
 }
 
-/// What a frame does once a first value is given.
+/// How a frame continues once a first value is given.
 ///
 /// Errors: why there is no next step.
 fn leave_given<'p>(machine: &mut Machine<'p>, frame: Frame<'p>) -> Result<Step<'p>, Stop>
@@ -114,7 +114,7 @@ fn leave_given<'p>(machine: &mut Machine<'p>, frame: Frame<'p>) -> Result<Step<'
     }
 }
 
-/// What a frame does with what is found.
+/// How a frame continues with the place found.
 ///
 /// Errors: why there is no next step.
 pub fn leave<'p>(

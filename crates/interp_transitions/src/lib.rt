@@ -1,5 +1,5 @@
-//! The transitions of the abstract machine in code: calls, and what frames do with what they waited for, over the steps of `stepping`
-//! (ISO/IEC 9899:2011 5.1.2.3, 6.5.2.2).
+//! The transitions of the abstract machine in code: calls, and how frames continue with the results that they waited for, over the steps of `stepping` (ISO/IEC
+//! 9899:2011 5.1.2.3, 6.5.2.2).
 #![tactic(auto)]
 
 pub mod calling;

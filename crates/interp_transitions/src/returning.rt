@@ -23,14 +23,14 @@ use interp_store::scene::Scene;
 use interp_store::stop::Stop;
 use srcset::Pos;
 
-/// What the end of a body gives: 0 of `main` (5.1.2.2.3p1), nothing of another function (6.9.1p12).
+/// The result of the end of a body: 0 of `main` (5.1.2.2.3p1), nothing of another function (6.9.1p12).
 fn value_at_end(is_main: bool) -> Option<i64>
     ensures { result ≡ meaning.value_at_end is_main }
 {
     if is_main { Some(0) } else { None }
 }
 
-/// What a call gives whose body is left in this way (6.8.6.4p3).
+/// The result of a call whose body is left in this way (6.8.6.4p3).
 fn value_left(is_main: bool, flow: Flow) -> Option<i64>
     ensures { result ≡ meaning.value_left is_main (flow_of flow) }
 {
@@ -70,7 +70,7 @@ fn call_value<'p>(at: Pos, used: bool, value: Option<i64>) -> Result<Step<'p>, S
     }
 }
 
-/// What a call's end goes back to gets this value.
+/// The frame that a call's end returns to gets this value.
 ///
 /// Errors: the run ends with `main`; `U8` where a value is used that there is not.
 pub fn go_back<'p>(back: Back, value: Option<i64>) -> Result<Step<'p>, Stop>

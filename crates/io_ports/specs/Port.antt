@@ -1,4 +1,4 @@
--- What a call of a port does to the input left, the output so far and the count of failures.
+-- The effect of a call of a port on the input left, the output so far and the count of failures.
 use Rattle.std.specs.Prelude.{◌≡◌, ℕ, ◌+◌, ◌-◌, ◌^◌, List, [], ◌∷◌, Option, Some, None, min}
 use Rattle.std.specs.Io.KnownBytes.{Keeps, Appends, Consumes, IsAtEnd}
 use Rattle.srcset.specs.declared.code.Code.{Code}
@@ -6,7 +6,7 @@ use Rattle.srcset.specs.declared.code.Code.TheVariants as code
 use Rattle.io_ports.specs.declared.port.PortFault.{PortFault}
 use Rattle.io_ports.specs.declared.port.PortFault.TheVariants.{Memory, Read, Write}
 
--- what a contract sees of a port. The input left and the output so far are told or not; the count always is.
+-- the view that a contract has of a port. The input left and the output so far are known or not; the count always is.
 pub record PortView : Type 0 where
   pub input : Option (List ℕ)
   pub output : Option (List ℕ)
@@ -16,7 +16,7 @@ pub record PortView : Type 0 where
 abbrev pub Rises : ℕ → ℕ → Type 0
 Rises old new = new ≡ min (old + 1) (2 ^ 64 - 1)
 
--- a refused call: the input and the output stay, where they are told, and one failure is counted
+-- a refused call: the input and the output stay, where they are known, and one failure is counted
 pub record IsRefused (old new : PortView) : Type 0 where
   pub input_stays : Keeps old.input new.input
   pub output_stays : Keeps old.output new.output
@@ -39,7 +39,7 @@ pub record Puts (old new : PortView) (byte : ℕ) : Type 0 where
   pub output_grows : Appends old.output new.output (byte ∷ [])
   pub not_counted : new.failures ≡ old.failures
 
--- an answered flush: what is told stays, and no failure is counted
+-- a successful flush: the input and the output stay, where they are known, and no failure is counted
 pub record Flushes (old new : PortView) : Type 0 where
   pub input_stays : Keeps old.input new.input
   pub output_stays : Keeps old.output new.output

@@ -1,8 +1,8 @@
--- What a contract sees of a port over a reader and a writer.
+-- The view that a contract has of a port over a reader and a writer.
 use Rattle.std.specs.Prelude.{ℕ, List, Option, Bool}
 use Rattle.io_ports.specs.Port.{PortView}
 
--- the input left and the output so far, where they are told, the failures, and whether output was refused when it was handed on
+-- the input left and the output so far, where they are known, the failures, and whether output was refused when it was flushed
 pub record StreamsView : Type 0 where
   pub input : Option (List ℕ)
   pub output : Option (List ℕ)

@@ -14,8 +14,8 @@ use srcset::TRIES;
 use std::io::{self, BufRead, BufReader, ErrorKind, Read, Write};
 use std::marker::Model;
 
-/// A reader in and a writer out, of which the output is handed on before the reader is asked for more than its buffer holds. It
-/// tells the input left and the output so far where these do.
+/// A reader in and a writer out, whose output is flushed before the reader is read beyond its buffer's contents. It shows the input left and the output so far
+/// where these do.
 #[derive(Drop)]
 pub struct IoPort<R: Read + Drop, W: Write + Drop> {
     reader: BufReader<R>,
@@ -60,8 +60,8 @@ impl<R: Read + Drop, W: Write + Drop> IoPort<R, W> {
         (reader, writer)
     }
 
-    /// Hands on what a buffering writer still keeps. To be called once after the last `put`, since only
-    /// then is it known that the output was written. It refuses where it was not, and where it was late before.
+    /// Flushes a buffering writer. To be called once after the last `put`, since only then is it known that the output was written. It refuses where it was
+    /// not, and where an earlier flush failed.
     pub fn finish(&mut self) -> Result<(), PortFault>
         ensures flushes { MatchResult result (λ _. Flushes (port_of self.old) (port_of self.new)) (λ _. IsRefused (port_of self.old) (port_of self.new)) }
         ensures write { IfErr result (λ fault. fault ≡ PortFault.Write) }
@@ -97,7 +97,7 @@ fn is_interrupted(answer: &io::Result<usize>) -> bool
     }
 }
 
-/// What a reader's answer means where one byte was asked for, which is then `byte`.
+/// The meaning of a reader's result where one byte was requested, which is then `byte`.
 fn given(answer: io::Result<usize>, byte: u8) -> Result<Option<u8>, PortFault>
     ensures { result ≡ answers.given answer byte }
 {
@@ -108,7 +108,7 @@ fn given(answer: io::Result<usize>, byte: u8) -> Result<Option<u8>, PortFault>
     }
 }
 
-/// What a writer's answer means where it was given one byte.
+/// The meaning of a writer's result where it was given one byte.
 fn taken(answer: io::Result<usize>) -> Result<(), PortFault>
     ensures ok { IsOk result ↔ (answer ≡ Ok 1) }
     ensures fault { IfErr result (λ fault. fault ≡ PortFault.Write) }
@@ -129,7 +129,7 @@ fn is_late(earlier: bool, answer: io::Result<()>) -> bool
     }
 }
 
-/// Hands on what a writer keeps, and answers whether output is late then.
+/// Flushes a writer, and returns whether output is late then.
 fn hand_on<W: Write>(writer: &mut W, late: bool) -> bool
     ensures keeps { Keeps (W.contents writer.old) (W.contents writer.new) }
     ensures stays { late ≡ true → result ≡ true }
@@ -153,7 +153,7 @@ fn next_held<R: Read>(reader: &mut BufReader<R>) -> Option<u8>
     }
 }
 
-/// The first answer of a reader that is not an interruption, or that to the last try; and how many tries there were.
+/// The first result of a reader that is not an interruption, or that of the last try; and how many tries there were.
 fn ask<R: Read>(reader: &mut R, one: &mut [u8]) -> (io::Result<usize>, u32)
     ensures bound { ReadsAtMost result.0 one.new }
     ensures bytes { ReadConsumes (R.remaining reader.old) (R.remaining reader.new) result.0 one.new }
@@ -169,7 +169,7 @@ fn ask<R: Read>(reader: &mut R, one: &mut [u8]) -> (io::Result<usize>, u32)
     (reader.read(one), TRIES)
 }
 
-/// The first answer of a writer that is not an interruption, or that to the last try; and how many tries there were.
+/// The first result of a writer that is not an interruption, or that of the last try; and how many tries there were.
 fn offer<W: Write>(writer: &mut W, one: &[u8]) -> (io::Result<usize>, u32)
     ensures bound { WritesAtMost result.0 one.now }
     ensures bytes { WriteAppends (W.contents writer.old) (W.contents writer.new) result.0 one.now }

@@ -8,7 +8,7 @@ use crate::port::{Port, PortFault};
 use std::alloc::Global;
 use std::marker::Model;
 
-/// A vector in and a vector out. It always tells both.
+/// A vector in and a vector out. It always shows both.
 #[derive(Drop)]
 pub struct MemPort {
     input: Vec<u8>,

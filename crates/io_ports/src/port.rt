@@ -47,10 +47,10 @@ impl fmt::Display for PortFault {
 /// A refused call leaves the input and the output as they were and adds one to the port's count of failures;
 /// at the greatest `u64` the count stays. A call that succeeds adds none.
 pub trait Port {
-    // The input left and the output so far, where they are told, and the count of failures.
+    // The input left and the output so far, where they are known, and the count of failures.
     ghost seen: { Self → PortView };
 
-    // What the fault of a refused call is known to be, by the port that the call left. By default nothing.
+    // The facts known of the fault of a refused call, by the port that the call left. By default none.
     ghost refused_with: { Self → PortFault → Type 0 } = { λ _ _. Unit {0} };
 
     /// The first byte of the input left, or `None` at its end.
@@ -63,8 +63,7 @@ pub trait Port {
         ensures puts { MatchResult result (λ _. Puts (seen self.old) (seen self.new) byte) (λ _. IsRefused (seen self.old) (seen self.new)) }
         ensures fault { IfErr result (refused_with self.new) };
 
-    /// Hands on what is kept of the output, so that others see it while the run goes on. A failure is told by the next `put`.
-    /// A port that keeps nothing back does nothing.
+    /// Flushes buffered output, so that others see it while the run goes on. A failure is reported by the next `put`. A port that buffers nothing does nothing.
     fn rest(&mut self)
         ensures { Flushes (seen self.old) (seen self.new) }
     {}

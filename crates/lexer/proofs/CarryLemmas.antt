@@ -124,11 +124,11 @@ begins_after : (pos : Pos) (r : Result Meaning Code) (rest : CTokens) → has_no
 begins_after pos (Ok m) rest e = begins_no_text (record { meaning = m; pos = pos }) rest.tokens (not_false (is_text m) e)
 begins_after pos (Err code) rest e = refl
 
--- of what is carried, the table has taken up the texts
+-- the table has taken up the texts of the carried tokens
 pub takes_up : (old texts : Texts) (stored : Stored) (rest total : CTokens) → Carries old texts stored rest total → TakesUp old texts total.tokens
 takes_up old texts stored rest total q = record { front = q.done; back = pending_before stored.pending stored.bytes.items rest.tokens; splits = q.tokens_are; texts_are = q.texts_are }
 
--- a string literal that is whole becomes a token
+-- a string literal that is complete becomes a token
 total_closed : (texts : Texts) (stored : Stored) (p : Pos) (old : Texts) (rest total : CTokens) → stored.pending ≡ Some p → begins_text rest.tokens ≡ false → (q : Carries old texts stored rest total) → total.tokens ≡ (q.done ++ record { meaning = text stored.bytes.items; pos = p } ∷ []) ++ rest.tokens
 total_closed texts stored p old rest total e b q =
     let c : CToken = record { meaning = text stored.bytes.items; pos = p } in
@@ -151,7 +151,7 @@ closes texts texts' stored stored' p n e f g at keeps w = λ old rest total b q.
       fault_is = q.fault_is;
     }
 
--- a token that is no string literal comes last
+-- a token that is no string literal is appended
 total_pushed : (texts : Texts) (stored : Stored) (pos : Pos) (m : Meaning) (old : Texts) (rest total : CTokens) → stored.pending ≡ None → is_text m ≡ false → (q : Carries old texts stored (put pos (Ok m) rest) total) → total.tokens ≡ (q.done ++ record { meaning = m; pos = pos } ∷ []) ++ rest.tokens
 total_pushed texts stored pos m old rest total e b q =
     let c : CToken = record { meaning = m; pos = pos } in
@@ -194,7 +194,7 @@ pub on_err_any : {X Y Q : Type 0} (r : Result X Y) → Q → OnErr r Q
 on_err_any (Ok x) q = tt
 on_err_any (Err e) q = q
 
--- ---- a token that is no string literal, which closes what is pending first
+-- ---- a token that is no string literal, which first completes the pending one
 
 before_token : (t : PpToken) (rest : CTokens) → is_string t.kind ≡ false → begins_text (put t.pos (meaning t.kind t.spelling) rest).tokens ≡ false
 before_token t rest s = begins_after t.pos (meaning t.kind t.spelling) rest (no_text t.kind t.spelling s)

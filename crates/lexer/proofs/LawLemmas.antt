@@ -39,7 +39,7 @@ glyph_value : (upper : Bool) (d : ℕ) → d < 16 → digit_value (digit_glyph u
 glyph_value true d h = grind (arith, nat_tests)
 glyph_value false d h = grind (arith, nat_tests)
 
--- one more than the numbers of so many digits
+-- one more than the greatest number of k digits
 abbrev reach : ℕ → ℕ → ℕ
 reach base zero = 1
 reach base (suc k) = reach base k * base

@@ -66,7 +66,7 @@ met_none m =
     let make : Bool → Bool → Bool → Met = λ u r l. record { universal = u; unreadable = r; large = l } in
     ap (λ x. make x (m.unreadable || false) (m.large || false)) (or_none m.universal) ∙ ap (λ x. make m.universal x (m.large || false)) (or_none m.unreadable) ∙ ap (λ x. make m.universal m.unreadable x) (or_none m.large)
 
--- what the test for an empty text says
+-- the meaning of the test for an empty text
 pub is_some_text : (bs : List ℕ) (b : Bool) → b ≡ (length bs == 0) → b ≡ false → 0 < length bs
 is_some_text [] b e f = absurd (cc)
 is_some_text (x ∷ bs) b e f = omega arith
@@ -89,7 +89,7 @@ pub decoded_part : (old between new : List ℕ) (met meanwhile after : Met) (bs 
 decoded_part old between new met meanwhile after bs h some p q =
     subst (λ es. IsDecoded old met es new after) (sym (elements_step bs h some)) (decoded_step old between new met meanwhile after (part_at bs).element (elements 0 (drop (part_at bs).count bs)) p q)
 
--- one turn of the loop, which reads the first part and goes on behind it
+-- one iteration of the loop, which reads the first part and continues after it
 pub decoded_turn : (old between new : List ℕ) (met meanwhile after : Met) (bs rest : List ℕ) (p : Part) → p ≡ part_at bs → 0 < p.count → 0 < length bs → rest ≡ drop p.count bs → IsDecoded old met (p.element ∷ []) between meanwhile → IsDecoded between meanwhile (elements 0 rest) new after → IsDecoded old met (elements 0 bs) new after
 decoded_turn old between new met meanwhile after bs rest p e some h r d q =
     let some' : 0 < (part_at bs).count = subst (λ x. 0 < x.count) e some in

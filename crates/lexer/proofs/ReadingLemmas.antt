@@ -1,4 +1,4 @@
--- Lemmas on what is read of a list, token by token.
+-- Lemmas on the tokens read of a list, one by one.
 use Rattle.std.proofs.Common.{◌≡◌, ℕ, suc, Bool, true, false, not, cond, Option, Some, None, Result, Ok, Err, IfOk, OnOk, ◌+◌, ◌<◌, ◌⊎◌, inl, inr, List, [], ◌∷◌, ◌++◌, length, take, drop, get_or, slice_get, add-one, refl, sym, ap, ◌∙◌, subst, append_assoc, append-nil}
 use Rattle.std.proofs.Math.Seq.{drop-cons}
 use Rattle.std.proofs.lemmas.List.{take-append-drop}
@@ -31,9 +31,9 @@ use Rattle.lexer.specs.inside.Carrying.{pending_before, has_no_text, is_string, 
 use Rattle.lexer.proofs.LawLemmas.{constants_law}
 use Rattle.lexer.proofs.CarryLemmas.{before_no_text, no_text, tokens_kept, with_append, refused}
 
--- ---- the C tokens of two lists behind one another
+-- ---- the C tokens of two concatenated lists
 
--- where they meet, a string literal that stands last joins one that stands first
+-- where they meet, a last string literal joins a first one
 abbrev joined : List CToken → List CToken → List CToken
 joined [] ds = ds
 joined (c ∷ []) ds = before c ds
@@ -82,7 +82,7 @@ before_joined c (d ∷ []) [] = join_two c.meaning d.meaning c d
 before_joined c (d ∷ []) (e ∷ es) = join_three c.meaning d.meaning e.meaning c.pos d.pos e.pos es
 before_joined c (d ∷ e ∷ es) ds = join_more c.meaning d.meaning c d e es ds
 
--- those of the first, and those of the second behind them
+-- those of the first, followed by those of the second
 abbrev both : CTokens → CTokens → CTokens
 both c d = record { tokens = joined c.tokens d.tokens; fault = d.fault }
 
@@ -96,7 +96,7 @@ both_read : (front rest : List PpToken) → (ctokens front).fault ≡ None → c
 both_read [] rest e = refl
 both_read (t ∷ ts) rest e = put_both t.pos (meaning t.kind t.spelling) (ctokens ts) (ctokens rest) (ctokens (ts ++ rest)) (both_read ts rest) e
 
--- ---- what is finished, and what is not
+-- ---- the finished tokens and the unfinished one
 
 finished_first : (cs ds : List CToken) → joined cs ds ≡ finished cs ++ joined (unfinished cs) ds
 finished_first [] ds = refl
@@ -134,7 +134,7 @@ joined_pending : (o : Option Pos) (bytes : List ℕ) (ds : List CToken) → join
 joined_pending None bytes ds = refl
 joined_pending (Some p) bytes ds = refl
 
--- what is finished, and is pending, of tokens none of which are to come
+-- the finished and the pending tokens, where no token is to come
 pending_finished : (cs : List CToken) (o : Option Pos) (bytes : List ℕ) → (o ≡ None → unfinished cs ≡ []) → finished (cs ++ pending_before o bytes []) ≡ cs
 pending_finished cs None bytes h = ap finished (append-nil cs) ∙ all_finished cs (h refl)
 pending_finished cs (Some p) bytes h = finished_before cs bytes p
@@ -179,7 +179,7 @@ kind_for_no_literal : (texts : Texts) (r : Result Meaning Code) (k : Kind) → I
 kind_for_no_literal texts (Err code) k h e = absurd h
 kind_for_no_literal texts (Ok m) k h e = kind_no_literal texts m k h e
 
--- a token that is no string literal comes last
+-- a token that is no string literal is appended
 pub push_ends : (texts : Texts) (old new : Stored) (t : PpToken) (k : Kind) (pos : Pos) → is_string t.kind ≡ false → IsKindFor texts (meaning t.kind t.spelling) k → IsPushed old new (record { kind = k; pos = pos }) → ends_in_literal new.tokens.items ≡ false
 push_ends texts old new t k pos s i p =
     ap ends_in_literal p.tokens_are ∙ literal_pushed old.tokens.items (record { kind = k; pos = pos }) ∙ kind_for_no_literal texts (meaning t.kind t.spelling) k i (no_text t.kind t.spelling s)
@@ -209,7 +209,7 @@ with_tokens texts (c ∷ cs) [] h = absurd h
 with_tokens texts (c ∷ cs) (t ∷ ts) h =
     with_append texts (texts_in c.meaning) (texts_of cs) ∙ ap (λ x. with_texts x (texts_of cs)) (with_kind texts c.meaning t.kind h.0.0) ∙ with_tokens texts cs ts h.1
 
--- ---- from what is read to what is carried, and back
+-- ---- from the tokens read to the tokens carried, and back
 
 pub carries_on : (before texts : Texts) (front rest : List PpToken) (stored : Stored) → IsAt None texts stored (ctokens front) → HasTakenUp before front texts → Carries before texts stored (ctokens rest) (ctokens (front ++ rest))
 carries_on before texts front rest stored at up =
@@ -250,7 +250,7 @@ put_same : (pos : Pos) (r : Result Meaning Code) (c all : CTokens) (e : Refusal)
 put_same pos (Err code) c all e h f = refl
 put_same pos (Ok m) c all e h f = ap (put pos (Ok m)) (h f)
 
--- nothing is read behind a fault
+-- nothing is read after a fault
 nothing_behind : (front rest : List PpToken) (e : Refusal) → (ctokens front).fault ≡ Some e → ctokens (front ++ rest) ≡ ctokens front
 nothing_behind [] rest e f = absurd (cc)
 nothing_behind (t ∷ ts) rest e f = put_same t.pos (meaning t.kind t.spelling) (ctokens ts) (ctokens (ts ++ rest)) e (nothing_behind ts rest e) f
@@ -265,7 +265,7 @@ finished_law front rest = by (ctokens front).fault refl
     by None e = (joined (unfinished (ctokens front).tokens) (ctokens rest).tokens, ap (λ c. c.tokens) (both_read front rest e) ∙ finished_first (ctokens front).tokens (ctokens rest).tokens)
     by (Some r) e = (unfinished (ctokens front).tokens, ap (λ c. c.tokens) (nothing_behind front rest r e) ∙ sym (parts (ctokens front).tokens))
 
--- ---- what is read under a later table
+-- ---- the tokens read, under a later table
 
 kept_at : (o : Option Refusal) (texts later : Texts) (stored : Stored) (c : CTokens) → KeepsNumbers texts later → IsAt o texts stored c → IsAt o later stored c
 kept_at None texts later stored c keeps at = (at.0, record { finished_are = tokens_kept texts later keeps (finished c.tokens) stored.tokens.items at.1.finished_are; unfinished_is = at.1.unfinished_is })

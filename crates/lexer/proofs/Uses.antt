@@ -1,4 +1,4 @@
--- The laws of what is read, for proofs to cite.
+-- The laws of the tokens read, for proofs to cite.
 use Rattle.lexer.specs.Laws.{FaultStays, ToldStays, FinishedStay, ReadIsKept, ReadIsTakenUp}
 use Rattle.lexer.proofs.ReadingLemmas.{fault_law, told_law, finished_law, kept_law, taken_up_law}
 

@@ -23,7 +23,7 @@ abbrev pub as_text : Result (List ℕ) Code → Result Meaning Code
 as_text (Ok bytes) = Ok (text bytes)
 as_text (Err code) = Err code
 
--- what a preprocessing token is, by its kind and spelling, or the code of its fault (6.4p3, and phases 5 and 7)
+-- the meaning of a preprocessing token, by its kind and spelling, or the code of its fault (6.4p3, and phases 5 and 7)
 abbrev pub meaning : Kind → List ℕ → Result Meaning Code
 meaning Identifier s = word s
 meaning Number s = as_constant (number s)
@@ -33,7 +33,7 @@ meaning Punctuator s = mark s
 meaning HeaderName s = Err NotAToken
 meaning Other s = Err NotAToken
 
--- phase 6: string literals side by side are one, which stands where the first of them stands
+-- phase 6: adjacent string literals are one, at the place of the first of them
 abbrev pub join : Meaning → Meaning → CToken → CToken → List CToken → List CToken
 join (text a) (text b) c d ds = record { meaning = text (a ++ b); pos = c.pos } ∷ ds
 join m n c d ds = c ∷ d ∷ ds
@@ -50,7 +50,7 @@ pub record CTokens : Type 0 where
 abbrev pub nothing : CTokens
 nothing = record { tokens = []; fault = None }
 
--- a token at its place, before what comes behind it
+-- a token at its place, before the tokens after it
 abbrev pub put : Pos → Result Meaning Code → CTokens → CTokens
 put pos (Ok m) r = record { tokens = before (record { meaning = m; pos = pos }) r.tokens; fault = r.fault }
 put pos (Err code) r = record { tokens = []; fault = Some (At code pos) }

@@ -1,4 +1,4 @@
--- Digits, and the numbers that they stand for (ISO/IEC 9899:2011 6.4.4.1).
+-- Digits, and the numbers that they denote (ISO/IEC 9899:2011 6.4.4.1).
 use Rattle.std.specs.Prelude.{ℕ, ◌+◌, ◌-◌, ◌*◌, nat_le, nat_lt, ◌&&◌, Bool, List, [], ◌∷◌, if◌then◌else◌}
 use Rattle.std.specs.List.{prefix_len}
 use Rattle.std.specs.Str.{byte}
@@ -18,7 +18,7 @@ is_digit base b = nat_lt (digit_value b) base
 abbrev pub digit_count : ℕ → List ℕ → ℕ
 digit_count base s = prefix_len (is_digit base) s
 
--- the number that digits stand for, behind digits that stand for `high`
+-- the number that digits denote, after digits that denote `high`
 abbrev pub value_behind : ℕ → ℕ → List ℕ → ℕ
 value_behind base high [] = high
 value_behind base high (b ∷ bs) = value_behind base (high * base + digit_value b) bs

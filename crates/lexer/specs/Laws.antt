@@ -1,5 +1,5 @@
--- What holds of the definitions, in the words of ISO/IEC 9899:2011 6.4.4 and 6.4.5: constants are read by their digits,
--- have values of their types, and the characters of literals are bytes. And what the first tokens say of all.
+-- Laws of the definitions, in the words of ISO/IEC 9899:2011 6.4.4 and 6.4.5: constants are read by their digits,
+-- have values of their types, and the characters of literals are bytes. And laws of the first tokens of a list.
 use Rattle.std.specs.Prelude.{◌≡◌, ℕ, ◌<◌, ◌^◌, ◌==◌, ◌&&◌, nat_le, not, Bool, true, false, pos, List, [], ◌∷◌, ◌++◌, length, Ok, Some, None}
 use Rattle.std.specs.Fmt.{digits}
 use Rattle.std.specs.List.{list_all}
@@ -20,7 +20,7 @@ use Rattle.lexer.specs.Meanings.{CToken}
 use Rattle.lexer.specs.Numbering.{IsTokenFault}
 use Rattle.lexer.specs.Reading.{finished, HasRead, HasTakenUp, refusal_of}
 
--- the digits of a number stand for that number, in decimal, in octal and, of either case, in hexadecimal
+-- the digits of a number denote that number, in decimal, in octal and, of either case, in hexadecimal
 pub record AreDigitsOf (n : ℕ) : Type 0 where
   pub decimal : value_of 10 (digits 10 false n) ≡ n
   pub octal : value_of 8 (digits 8 false n) ≡ n
@@ -38,11 +38,11 @@ HasBytes spelling = (bytes : List ℕ) → string spelling ≡ Ok bytes → list
 abbrev pub stands_for_itself : ℕ → Bool
 stands_for_itself b = is_plain b && not (b == backslash)
 
--- a literal without escape sequences stands for its own characters
+-- a literal without escape sequences denotes its own characters
 abbrev pub IsItself : List ℕ → Type 0
 IsItself text = list_all stands_for_itself text ≡ true → string (double_quote ∷ text ++ double_quote ∷ []) ≡ Ok text
 
--- what stands first between the quotes, b ∷ bs, stands for one element, and what is behind it for the others
+-- the first part between the quotes, b ∷ bs, denotes one element, and the text after it the others
 abbrev pub GoesOnBehind : ℕ → List ℕ → List ℕ → Type 0
 GoesOnBehind b bs rest =
     (first_part b (bs ++ rest)).count ≡ length (b ∷ bs) → elements 0 (b ∷ bs ++ rest) ≡ (first_part b (bs ++ rest)).element ∷ elements 0 rest
@@ -59,15 +59,15 @@ AreInTheirTypes ts = list_all (λ t. is_in_its_type t.kind) ts ≡ true
 abbrev pub FaultStays : Type 0
 FaultStays = (front rest : List PpToken) (r : Refusal) → (ctokens front).fault ≡ Some r → (ctokens (front ++ rest)).fault ≡ Some r
 
--- what is told of the fault of the first tokens is told of that of all
+-- an error that reports the fault of the first tokens reports that of all
 abbrev pub ToldStays : Type 0
 ToldStays = (front rest : List PpToken) (fault : Fault) (texts : Texts) → IsTokenFault fault texts (ctokens front).fault → IsTokenFault fault texts (ctokens (front ++ rest)).fault
 
--- what is finished of the C tokens of the first tokens stands first of all
+-- the finished C tokens of the first tokens are the first C tokens of all
 abbrev pub FinishedStay : Type 0
 FinishedStay = (front rest : List PpToken) → (more : List CToken) × ((ctokens (front ++ rest)).tokens ≡ finished (ctokens front).tokens ++ more)
 
--- what a lexer has read it has read still where the table has gained texts
+-- the tokens that a lexer has read stay read when the table gains texts
 abbrev pub ReadIsKept : Type 0
 ReadIsKept = (texts later : Texts) (front : List PpToken) (lexer : Lexer) → HasRead texts front lexer → KeepsNumbers texts later → HasRead later front lexer
 

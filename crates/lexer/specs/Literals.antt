@@ -12,7 +12,7 @@ use Rattle.lexer.specs.declared.literals.Element.TheVariants.{Byte, Large, Unrea
 use Rattle.lexer.specs.declared.literals.Part.{Part}
 use Rattle.lexer.specs.Digits.{is_digit, digit_count, value_of}
 
--- what the first bytes stand for, and how many they are
+-- the element that the first bytes denote, and the number of these bytes
 abbrev pub part : ℕ → Element → Part
 part count element = record { count = count; element = element }
 
@@ -20,7 +20,7 @@ part count element = record { count = count; element = element }
 abbrev pub numbered : ℕ → Element
 numbered v = if nat_le v 255 then Byte v else Large
 
--- the character behind a backslash: a simple escape sequence (p4), or the beginning of a universal character name
+-- the character after a backslash: a simple escape sequence (p4), or the beginning of a universal character name
 -- (6.4.3), or neither
 unfoldable pub simple : ℕ → Element
 simple b =
@@ -39,15 +39,15 @@ simple b =
     if b == byte "U" then Universal else
     Unreadable
 
--- behind a backslash, one to three octal digits
+-- after a backslash, one to three octal digits
 abbrev pub octal : List ℕ → Part
 octal s = let n = digit_count 8 (take 3 s) in part (1 + n) (numbered (value_of 8 (take n s)))
 
--- behind a backslash and an x, hexadecimal digits
+-- after a backslash and an x, hexadecimal digits
 abbrev pub hexadecimal : List ℕ → Part
 hexadecimal s = let n = digit_count 16 s in if n == 0 then part 2 Unreadable else part (2 + n) (numbered (value_of 16 (take n s)))
 
--- behind a backslash
+-- after a backslash
 abbrev pub escape : List ℕ → Part
 escape [] = part 1 Unreadable
 escape (b ∷ bs) =
@@ -59,11 +59,11 @@ escape (b ∷ bs) =
 abbrev pub is_plain : ℕ → Bool
 is_plain b = (b == horizontal_tab) || (nat_le (byte " ") b && nat_le b (byte "~"))
 
--- what stands first in the text b ∷ bs
+-- the first part of the text b ∷ bs
 abbrev pub first_part : ℕ → List ℕ → Part
 first_part b bs = if b == backslash then escape bs else part 1 (if is_plain b then Byte b else Unreadable)
 
--- what stands between the quotes, in order; the first `skip` bytes belong to the part before
+-- the elements between the quotes, in order; the first `skip` bytes belong to the part before
 unfoldable pub elements : ℕ → List ℕ → List Element
 elements skip [] = []
 elements (suc k) (b ∷ bs) = elements k bs
@@ -93,7 +93,7 @@ is_prefixed quote s = not (slice_index s 0 == quote)
 abbrev pub between_quotes : List ℕ → List ℕ
 between_quotes s = take (length s - 2) (drop 1 s)
 
--- the bytes of a string literal, without the zero byte behind them
+-- the bytes of a string literal, without the terminating zero byte
 abbrev pub string_of : Bool → List Element → Result (List ℕ) Code
 string_of prefixed es =
     if prefixed || list_any is_universal es then Err LeftOutLiteral
@@ -111,7 +111,7 @@ character_of Unreadable = Err BadLiteral
 character_of Large = Err ConstantOutOfRange
 character_of (Byte b) = Ok (record { of = ty.Int; value = b })
 
--- one character, and nothing behind it
+-- one character, and nothing after it
 abbrev pub lone : List ℕ → Result Constant Code
 lone [] = Err LeftOutLiteral
 lone (b ∷ bs) = let p = first_part b bs in if nat_lt p.count (suc (length bs)) then Err LeftOutLiteral else character_of p.element

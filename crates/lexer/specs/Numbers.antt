@@ -19,11 +19,11 @@ is_hexadecimal s = (slice_index s 0 == byte "0") && ((slice_index s 1 == byte "x
 abbrev pub base_of : List ℕ → ℕ
 base_of s = if is_hexadecimal s then 16 else if slice_index s 0 == byte "0" then 8 else 10
 
--- what stands behind the prefix
+-- the text after the prefix
 abbrev pub unprefixed : List ℕ → List ℕ
 unprefixed s = if is_hexadecimal s then drop 2 s else s
 
--- what is written behind the digits: nothing, or u, l, ll, or u with one of the others, in either order and case,
+-- the suffix after the digits: nothing, or u, l, ll, or u with one of the others, in either order and case,
 -- where the letters of ll are of one case
 unfoldable pub suffix_of : List ℕ → Option Suffix
 suffix_of s =
@@ -82,7 +82,7 @@ is_floating s = list_any (λ b. (b == byte ".") || is_exponent (is_hexadecimal s
 abbrev pub no_integer : List ℕ → Code
 no_integer s = if is_floating s then LeftOutFloatingConstant else NotAToken
 
--- a suffix behind no digit at all is none
+-- a suffix that follows no digit is none
 abbrev pub suffix_behind : ℕ → List ℕ → Option Suffix
 suffix_behind count s = if count == 0 then None else suffix_of (drop count s)
 

@@ -1,4 +1,4 @@
--- What a lexer has read, one preprocessing token after another (ISO/IEC 9899:2011 5.1.1.2, phases 5 to 7).
+-- The tokens that a lexer has read, one preprocessing token after another (ISO/IEC 9899:2011 5.1.1.2, phases 5 to 7).
 use Rattle.std.specs.Prelude.{◌≡◌, ℕ, ◌⊎◌, Bool, true, false, Option, Some, None, List, [], ◌∷◌, if◌then◌else◌}
 use Rattle.srcset.specs.declared.refusal.Pos.{Pos}
 use Rattle.srcset.specs.declared.refusal.Refusal.{Refusal}
@@ -15,13 +15,13 @@ abbrev pub is_text : Meaning → Bool
 is_text (text bytes) = true
 is_text m = false
 
--- a string literal that stands last: a token behind it may still join it
+-- a last string literal: a token after it may still join it
 abbrev pub unfinished : List CToken → List CToken
 unfinished [] = []
 unfinished (c ∷ []) = if is_text c.meaning then c ∷ [] else []
 unfinished (c ∷ d ∷ cs) = unfinished (d ∷ cs)
 
--- the tokens before it, which stand whatever comes behind
+-- the tokens before it, which no later token changes
 abbrev pub finished : List CToken → List CToken
 finished [] = []
 finished (c ∷ []) = if is_text c.meaning then [] else c ∷ []
@@ -41,7 +41,7 @@ pub record Stores (texts : Texts) (stored : Stored) (cs : List CToken) : Type 0 
 abbrev pub refusal_of : Lexer → Option Refusal
 refusal_of lexer = lexer.refused
 
--- C tokens are stored, none of them at fault; or the refusal is for want of memory, or their fault
+-- C tokens are stored, none of them at fault; or the refusal is out of memory, or their fault
 abbrev pub IsAt : Option Refusal → Texts → Stored → CTokens → Type 0
 IsAt None texts stored c = (c.fault ≡ None) × Stores texts stored c.tokens
 IsAt (Some r) texts stored c = (r ≡ Memory) ⊎ (c.fault ≡ Some r)

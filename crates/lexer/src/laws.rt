@@ -2,15 +2,15 @@
 
 ghost use Rattle.lexer.specs.Laws.{FaultStays, ToldStays, FinishedStay, ReadIsKept, ReadIsTakenUp};
 
-/// The fault of the first tokens is the fault of all (`fault`), also where it is told (`told`). What is finished of their C
-/// tokens stands first of all (`finished`).
+/// The fault of the first tokens is the fault of all (`fault`), also as a reported error (`told`). The finished C
+/// tokens of the first tokens are the first C tokens of all (`finished`).
 pub fn a_front()
     ensures fault { FaultStays }
     ensures told { ToldStays }
     ensures finished { FinishedStay }
 {}
 
-/// What a lexer has read it has read still under a table that has gained other texts (`kept`), and a table under which it
+/// The tokens that a lexer has read stay read under a table that has gained other texts (`kept`), and a table under which it
 /// has read tokens has their texts already (`taken_up`).
 pub fn what_is_read()
     ensures kept { ReadIsKept }

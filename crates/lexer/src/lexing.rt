@@ -19,12 +19,12 @@ use phases::{Kind as PpKind, PpToken};
 use srcset::{Code, Names, Pos, Refusal};
 use std::alloc::Global;
 
-/// What a lexer stores.
+/// The C tokens that a lexer stores.
 #[derive(Drop)]
 pub struct Stored {
-    // The tokens, without a string literal that may not be whole.
+    // The tokens, without a string literal that may not be complete.
     pub(crate) tokens: Vec<Token>,
-    // Where this string literal stands.
+    // The place of this string literal.
     pub(crate) pending: Option<Pos>,
     // Its bytes so far.
     pub(crate) bytes: Vec<u8>,
@@ -126,7 +126,7 @@ impl Stored {
         }
     }
 
-    // Puts a token last.
+    // Appends a token.
     fn push(&mut self, kind: Kind, pos: Pos) -> Result<(), Refusal>
         ensures ok { OnOk result (IsPushed self.old self.new (record { kind = kind; pos = pos })) }
         ensures err { IfErr result (λ e. e ≡ Memory) }
@@ -154,7 +154,7 @@ impl Stored {
         self.push(Kind::StringLiteral(n), pos)
     }
 
-    // Puts the bytes of a string literal behind those of the literals directly before it.
+    // Appends the bytes of a string literal to those of the literals directly before it.
     fn take_string(&mut self, spelling: &[u8], pos: Pos) -> Result<(), Refusal>
         ensures pending { self.new.pending ≢ None }
         ensures ok { OnOk result ((texts : Texts) → PassesText texts self.old self.new pos (string spelling.now)) }
@@ -167,7 +167,7 @@ impl Stored {
         string(spelling, pos, &mut self.bytes)
     }
 
-    // Puts a token that is no string literal behind a string literal that is whole.
+    // Appends a token that is no string literal, after a string literal that is complete.
     fn take_other(&mut self, token: &PpToken, names: &mut Names) -> Result<(), Refusal>
         requires { is_string token.now.kind ≡ false }
         ensures ok { OnOk result (Passes names.old self.old names.new self.new token.now) }
@@ -181,7 +181,7 @@ impl Stored {
         self.push(kind, token.pos())
     }
 
-    /// Goes on by one token.
+    /// Reads one more token.
     pub(crate) fn take(&mut self, token: &PpToken, names: &mut Names) -> Result<(), Refusal>
         ensures ok { OnOk result (Passes names.old self.old names.new self.new token.now) }
         ensures settled { OnOk result (IsSettled self.new) }

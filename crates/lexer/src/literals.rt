@@ -9,29 +9,29 @@ use ctypes::IntType;
 use srcset::{Code, Pos, Refusal};
 use std::alloc::AllocError;
 
-/// What stands in a literal for one character.
+/// The text in a literal that denotes one character.
 #[derive(Clone, Copy, PartialEq, Eq, Debug)]
 pub enum Element {
     /// A character, as its number.
     Byte(u8),
     /// An escape sequence with a number over 255.
     Large,
-    /// A byte that may not stand in a literal, or a backslash that begins no escape sequence.
+    /// A byte that may not appear in a literal, or a backslash that begins no escape sequence.
     Unreadable,
     /// The beginning of a universal character name (6.4.3).
     Universal,
 }
 
-/// What the first bytes of a text stand for.
+/// The element that the first bytes of a text denote.
 #[derive(Clone, Copy, PartialEq, Eq, Debug)]
 pub struct Part {
     /// How many bytes they are.
     pub count: usize,
-    /// What they stand for.
+    /// The element that they denote.
     pub element: Element,
 }
 
-/// The faults met so far between the quotes of a string literal.
+/// The faults found so far between the quotes of a string literal.
 #[derive(Clone, Copy, PartialEq, Eq, Debug)]
 pub struct Met {
     /// A universal character name, or a prefix.
@@ -55,7 +55,7 @@ fn numbered(value: Option<u64>) -> Element
     }
 }
 
-// What a backslash and this byte stand for.
+// The element that a backslash and this byte denote.
 #[tactic(auto, unfolding(crate::specs::Literals::simple))]
 fn simple(byte: u8) -> Element
     ensures { result ≡ simple byte }
@@ -117,7 +117,7 @@ fn hexadecimal(text: &[u8]) -> Part
     }
 }
 
-// What a backslash and this text begin with.
+// The first part of a backslash followed by this text.
 fn escape(text: &[u8]) -> Part
     ensures { result ≡ escape text.now }
 {
@@ -146,7 +146,7 @@ fn is_plain(byte: u8) -> bool
     byte == b'\t' || (b' ' <= byte && byte <= b'~')
 }
 
-// What stands for itself.
+// The element of a byte that denotes itself.
 fn plain(byte: u8) -> Element
     ensures { result ≡ (if is_plain byte then Element.Byte byte else Element.Unreadable) }
 {
@@ -157,7 +157,7 @@ fn plain(byte: u8) -> Element
     }
 }
 
-// What stands first in a text that is not empty.
+// The first part of a text that is not empty.
 fn first_part(text: &[u8]) -> Part
     requires { 0 < length text.now }
     ensures part { result ≡ part_at text.now }
@@ -220,7 +220,7 @@ pub fn character(spelling: &[u8]) -> Result<Constant, Code>
     character_of(part.element)
 }
 
-// Puts the byte of an element last, if it has one, and meets its fault, if it has one.
+// Appends the byte of an element, if it has one, and collects its fault, if it has one.
 fn put(element: Element, met: Met, bytes: &mut Vec<u8>) -> Result<Met, AllocError>
     ensures { IfOk result (λ after. IsDecoded bytes.old.items met (element ∷ []) bytes.new.items after) }
 {
@@ -241,7 +241,7 @@ fn put(element: Element, met: Met, bytes: &mut Vec<u8>) -> Result<Met, AllocErro
     }
 }
 
-// Puts the bytes of what stands between the quotes last, and meets its faults.
+// Appends the bytes of the elements between the quotes, and collects their faults.
 fn decode(text: &[u8], before: Met, bytes: &mut Vec<u8>) -> Result<Met, AllocError>
     ensures { IfOk result (λ after. IsDecoded bytes.old.items before (elements 0 text.now) bytes.new.items after) }
 {
@@ -270,9 +270,9 @@ fn fault_of(met: Met) -> Option<Code>
     }
 }
 
-/// Puts the bytes of a string literal last, without a zero byte.
+/// Appends the bytes of a string literal, without a terminating zero byte.
 ///
-/// Fails with 801 where memory runs out, and with the literal's fault, which stands at `pos`.
+/// Fails with 801 where memory runs out, and with the literal's fault, at `pos`.
 pub(crate) fn string(spelling: &[u8], pos: Pos, bytes: &mut Vec<u8>) -> Result<(), Refusal>
     ensures ok { OnOk result (IsAppended (string spelling.now) bytes.old.items bytes.new.items) }
     ensures err { IfErr result (λ e. IsRefusal e pos (string spelling.now)) }

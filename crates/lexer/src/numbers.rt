@@ -17,7 +17,7 @@ pub struct Constant {
     pub value: u32,
 }
 
-/// What stands behind the digits of an integer constant.
+/// The text after the digits of an integer constant.
 #[derive(Clone, Copy, PartialEq, Eq, Debug)]
 pub enum Suffix {
     /// Nothing.
@@ -72,7 +72,7 @@ fn with_digit(high: u64, base: u8, byte: u8) -> Option<u64>
     shifted.checked_add(u64::from(digit_value(byte)))
 }
 
-/// The number that the digits stand for, or `None` where it is over 18446744073709551615.
+/// The number that the digits denote, or `None` where it is over 18446744073709551615.
 pub fn value(base: u8, digits: &[u8]) -> Option<u64>
     requires { 1 ≤ base }
     ensures { MatchOption result (18446744073709551615 < value_of base digits.now) (λ v. v ≡ value_of base digits.now) }
@@ -87,7 +87,7 @@ pub fn value(base: u8, digits: &[u8]) -> Option<u64>
     Some(value)
 }
 
-/// The byte at an index, or 0 behind the end.
+/// The byte at an index, or 0 after the end.
 pub(crate) fn byte_at(text: &[u8], index: usize) -> u8
     ensures { result ≡ slice_index text.now index }
 {
@@ -214,7 +214,7 @@ fn suffix_of(text: &[u8]) -> Option<Suffix>
     None
 }
 
-/// The suffix behind so many digits, or `None` where it is none or there are no digits.
+/// The suffix after `count` digits, or `None` where it is none or there are no digits.
 pub fn suffix_behind(count: usize, text: &[u8]) -> Option<Suffix>
     ensures { result ≡ suffix_behind count text.now }
 {

@@ -16,7 +16,7 @@ use phases::PpToken;
 use srcset::{Fault, Names, Refusal};
 use std::alloc::Global;
 
-/// What is read of a list of preprocessing tokens that come one after another: translation phases 5 to 7 (ISO/IEC
+/// The tokens read of a list of preprocessing tokens that come one after another: translation phases 5 to 7 (ISO/IEC
 /// 9899:2011 5.1.1.2).
 ///
 /// It is seen as the C tokens of those read (`HasRead`), under the table of names as it is: other texts may get numbers
@@ -29,7 +29,7 @@ pub struct Lexer {
 }
 
 impl Lexer {
-    /// A lexer that has read nothing. It keeps `alloc`, and takes no memory yet.
+    /// A lexer that has read nothing. It keeps `alloc`, and allocates nothing yet.
     pub fn new(alloc: Global) -> Lexer
         ensures nothing { (texts : Texts) → HasRead texts [] result }
         ensures ready { refusal_of result ≡ None }
@@ -41,7 +41,7 @@ impl Lexer {
         }
     }
 
-    /// Makes room for so many more tokens, as `reserve` does, and answers a refusal.
+    /// Reserves room for `additional` more tokens, as `reserve` does, and returns a refusal.
     pub(crate) fn try_reserve(&mut self, additional: usize) -> Result<(), Refusal>
         ensures same { (texts : Texts) (front : List PpToken) → HasRead texts front self.old → HasRead texts front self.new }
         ensures refusal { refusal_of self.new ≡ refusal_of self.old }
@@ -51,9 +51,9 @@ impl Lexer {
         Ok(())
     }
 
-    /// Makes room for so many more tokens, so that none of them has to ask for it. Without it room grows by doubling.
+    /// Reserves room for `additional` more tokens, so that none of them has to allocate. Without it room grows by doubling.
     ///
-    /// Fails with 801 where memory runs out. In any case what was read stays.
+    /// Fails with 801 where memory runs out. In any case the tokens read stay.
     pub fn reserve(&mut self, additional: usize) -> Result<(), Fault>
         ensures same { (texts : Texts) (front : List PpToken) → HasRead texts front self.old → HasRead texts front self.new }
         ensures refusal { refusal_of self.new ≡ refusal_of self.old }
@@ -65,7 +65,7 @@ impl Lexer {
         }
     }
 
-    /// Reads one token more, as `take` does, and answers a refusal, which names no file.
+    /// Reads one token more, as `take` does, and returns a refusal, which names no file.
     pub fn try_take(&mut self, token: &PpToken, names: &mut Names) -> Result<(), Refusal>
         ensures reads { (front : List PpToken) → HasRead names.old front self.old → HasRead names.new (front ++ token.now ∷ []) self.new }
         ensures ok { OnOk result (refusal_of self.new ≡ None) }
@@ -87,7 +87,7 @@ impl Lexer {
         Err(refusal)
     }
 
-    /// Reads one token more: an identifier takes its number from `names`, and so does a string literal that stands before
+    /// Reads one token more: an identifier takes its number from `names`, and so does a string literal that precedes
     /// this token and that it does not join.
     ///
     /// Fails with the fault that this token has (those of `tokens`), and with 801 where memory runs out. From then on every
@@ -130,7 +130,7 @@ impl Lexer {
         }
     }
 
-    /// All tokens, where no token is left to read. A string literal that stands last takes its number from `names`.
+    /// All tokens, where no token is left to read. A last string literal takes its number from `names`.
     ///
     /// Fails with the fault that the tokens have, and with 801 where memory runs out.
     pub fn end(self, names: &mut Names) -> Result<Vec<Token>, Fault>

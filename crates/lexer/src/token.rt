@@ -58,7 +58,7 @@ pub enum Keyword {
     While,
 }
 
-/// The punctuators (6.4.6). A digraph is the punctuator that it stands for.
+/// The punctuators (6.4.6). A digraph is the punctuator that it denotes.
 #[derive(Clone, Copy, PartialEq, Eq, Debug)]
 pub enum Punctuator {
     /// `[`
@@ -159,7 +159,7 @@ pub enum Punctuator {
     HashHash,
 }
 
-/// What a token is.
+/// The kind of a token, with its value.
 #[derive(Clone, Copy, PartialEq, Eq, Debug)]
 pub enum Kind {
     /// A keyword (6.4.1).
@@ -177,8 +177,8 @@ pub enum Kind {
 /// A token, and the place of its first character; of joined string literals, that of the first.
 #[derive(Clone, Copy, PartialEq, Eq, Debug)]
 pub struct Token {
-    /// What it is.
+    /// The kind of the token.
     pub kind: Kind,
-    /// Where it stands.
+    /// The place of the token.
     pub pos: Pos,
 }

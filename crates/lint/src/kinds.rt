@@ -1,6 +1,6 @@
 //! The kinds of warnings.
 
-/// What a warning is about. docs/DIAGNOSTICS.md has a section for each.
+/// The kind of a warning. docs/DIAGNOSTICS.md has a section for each.
 #[derive(Clone, Copy, Debug, PartialEq, Eq)]
 pub enum Kind {
     UnusedVariable,
@@ -75,7 +75,7 @@ impl Kind {
         }
     }
 
-    /// What a warning of this kind says.
+    /// The text of a warning of this kind.
     pub fn text(self) -> &'static str {
         match self {
             Kind::UnusedVariable => "object is never used",
@@ -99,7 +99,7 @@ impl Kind {
         }
     }
 
-    /// What to write instead.
+    /// The text to write instead.
     pub fn help(self) -> &'static str {
         match self {
             Kind::UnusedVariable => "remove it, or use it",

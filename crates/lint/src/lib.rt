@@ -1,4 +1,4 @@
-//! Warnings: what they are called, what they say, and which of them are asked for.
+//! Warnings: their names, their texts, and which of them are enabled.
 #![tactic(auto)]
 
 mod kinds;

@@ -1,9 +1,9 @@
-//! Which warnings are asked for.
+//! Which warnings are enabled.
 
 use crate::kinds::Kind;
 
-/// Whether a list of words, with commas between, asks for a kind. `all` and `none` say it of every kind, the name of a kind of this one; the last word that
-/// speaks of the kind counts.
+/// Whether a list of words, with commas between, enables a kind. `all` and `none` apply to every kind, the name of a kind to this one; the last word that
+/// applies to the kind counts.
 pub fn selects(words: &str, kind: Kind) -> bool {
     let mut is_on = false;
     for word in words.split(',') {

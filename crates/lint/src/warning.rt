@@ -3,11 +3,11 @@
 use crate::kinds::Kind;
 use srcset::Pos;
 
-/// What a warning says beside the text of its kind.
+/// The details of a warning in addition to the text of its kind.
 #[derive(Clone, Copy, Debug, PartialEq, Eq)]
 pub enum Detail {
     Nothing,
-    /// Where the other declaration stands.
+    /// The place of the other declaration.
     Other(Pos),
     /// The index, and how many elements the array has.
     Index(i64, u32),
@@ -26,7 +26,7 @@ pub struct Warning {
 }
 
 impl Warning {
-    /// A warning about no name, which says no more than its kind.
+    /// A warning about no name, without details beyond its kind.
     pub fn plain(kind: Kind, pos: Pos) -> Warning {
         Warning {
             kind,

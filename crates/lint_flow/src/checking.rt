@@ -5,9 +5,9 @@ use lint::Warning;
 use std::alloc::{AllocError, Global};
 use typed_ast::{Function, Program};
 
-/// The warnings that a typed program tells, in no order.
+/// The warnings about a typed program, in no order.
 ///
-/// A function of n nodes takes at most n * n steps, since each branch copies what is known of the function's objects; there are at most 8,000 nodes in a function.
+/// A function of n nodes takes at most n * n steps, since each branch copies the state of the function's objects; there are at most 8,000 nodes in a function.
 pub fn program_warnings(alloc: Global, program: &Program) -> Result<Vec<Warning>, AllocError> {
     let mut walker = Walker::new(alloc, program)?;
     for function in &program.functions {

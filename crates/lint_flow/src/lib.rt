@@ -1,4 +1,4 @@
-//! Warnings that the typed program tells: what is read before it has a value, indices, comparisons, calls without effect.
+//! Warnings from the typed program: reads before a value is given, indices, comparisons, calls without effect.
 #![tactic(auto)]
 
 mod checking;

@@ -1,4 +1,4 @@
-//! What is noted of a place, an operator or a call.
+//! Notes on a place, an operator or a call.
 
 use crate::ranges::{constant_result, span_of};
 use crate::walker::Walker;
@@ -30,7 +30,7 @@ impl Walker {
         self.warn(Kind::MaybeUninitialized, *pos, Detail::Nothing)
     }
 
-    /// Whether an object was told already; from now on it was.
+    /// Whether an object was reported already; marks it as reported.
     fn is_told(&mut self, object: usize) -> bool {
         match self.told.get_mut(object) {
             Some(told) => {
@@ -42,7 +42,7 @@ impl Walker {
         }
     }
 
-    /// A place is given a value. What does not belong to the call alone is an effect.
+    /// A place is given a value. A store to an object that does not belong to the call alone is an effect.
     pub(crate) fn note_stored(&mut self, place: &Place) {
         match place {
             Place::Named(_, Storage::Automatic(object)) => {

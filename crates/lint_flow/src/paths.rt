@@ -1,8 +1,8 @@
-//! What is known of the objects of a function where paths come together.
+//! The dataflow state of a function's objects where paths come together.
 
 use std::alloc::{AllocError, Global};
 
-/// What is known at a point of a function, over all paths that lead there.
+/// The state at a point of a function, over all paths that lead there.
 #[derive(Drop)]
 struct State {
     // Whether a path leads there.
@@ -30,7 +30,7 @@ impl Paths {
         }
     }
 
-    /// The beginning of a function with so many objects, of which the first `given` have a value. The points of the function before are given up.
+    /// The beginning of a function with `objects` objects, of which the first `given` have a value. The points of the function before are freed.
     pub(crate) fn begin(&mut self, objects: usize, given: usize) -> Result<Point, AllocError> {
         self.states.clear();
         let mut has_value = Vec::new(self.alloc);
@@ -46,7 +46,7 @@ impl Paths {
         self.put(false, none)
     }
 
-    /// A further point of which the same is known.
+    /// A copy of a point, with the same state.
     pub(crate) fn again(&mut self, point: Point) -> Result<Point, AllocError> {
         match self.states.get(point.0) {
             Some(state) => {

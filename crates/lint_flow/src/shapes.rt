@@ -36,7 +36,7 @@ impl Shapes {
         self.length_behind(array, 0)
     }
 
-    /// The same of the array so many subscripts further in.
+    /// The same of the array `further` subscripts further in.
     fn length_behind(&self, array: &Place, further: usize) -> Option<u32> {
         match array {
             Place::Named(_, storage) => self.length_of(*storage, further),
@@ -63,7 +63,7 @@ impl Shapes {
     }
 }
 
-/// The length so many subscripts in, of the array with this number.
+/// The length `further` subscripts in, of the array with this number.
 fn nth(arrays: &[Vec<u32>], number: usize, further: usize) -> Option<u32> {
     arrays.get(number)?.get(further).copied()
 }

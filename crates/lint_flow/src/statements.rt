@@ -91,7 +91,7 @@ impl Walker {
         Ok(())
     }
 
-    /// Walks an expression that stands alone.
+    /// Walks an expression whose value is not used.
     fn alone(&mut self, value: &Value) -> Result<(), AllocError> {
         self.note_alone(value)?;
         self.value(value, false)?;
@@ -134,7 +134,7 @@ impl Walker {
         Ok(())
     }
 
-    /// The body of a `switch` begins; no path leads to what stands before its labels.
+    /// The body of a `switch` begins; no path leads to the statements before its labels.
     fn open_choice(&mut self) -> Result<(), AllocError> {
         let entry = self.now;
         let end = self.paths.nowhere()?;
@@ -146,7 +146,7 @@ impl Walker {
         self.stop()
     }
 
-    /// A label: it is come to from above, and from the beginning of its `switch`.
+    /// A label: it is reached from above, and from the beginning of its `switch`.
     fn label(&mut self, is_default: bool) -> Result<(), AllocError> {
         let Some(choice) = self.choices.last_mut() else {
             return Ok(());

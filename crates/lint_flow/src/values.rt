@@ -7,7 +7,7 @@ use tree::PrefixOp;
 use typed_ast::{Argument, Place, Value};
 
 impl Walker {
-    /// Walks an expression. Of a condition the present point is then that where it holds, and the answer that where it does not.
+    /// Walks an expression. For a condition the present point is then that where it holds, and the result that where it does not.
     #[cycle(values)]
     pub(crate) fn value(&mut self, value: &Value, is_condition: bool) -> Result<Point, AllocError> {
         match value {
@@ -128,14 +128,14 @@ impl Walker {
         Ok(self.go_to(other))
     }
 
-    /// Goes on at another point; answers the one before.
+    /// Continues at another point; returns the one before.
     pub(crate) fn go_to(&mut self, point: Point) -> Point {
         let before = self.now;
         self.now = point;
         before
     }
 
-    /// `!`: what did not hold holds.
+    /// `!`: continues where the operand does not hold; returns the point before.
     fn turned(&mut self, no: Point) -> Point {
         self.go_to(no)
     }

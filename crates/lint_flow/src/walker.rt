@@ -1,4 +1,4 @@
-//! What is kept while a program is walked.
+//! The state of a walk over a program.
 
 use crate::paths::{Paths, Point};
 use crate::shapes::{Shapes, numbers};
@@ -27,7 +27,7 @@ pub(crate) struct Walker {
     /// The same of the `continue`s.
     pub(crate) continues: Vec<Point>,
     pub(crate) choices: Vec<Choice>,
-    /// Whether the objects of the function were told already.
+    /// Whether the objects of the function were reported already.
     pub(crate) told: Vec<bool>,
     /// Whether the function does anything but give a result.
     pub(crate) has_effect: bool,
@@ -71,13 +71,13 @@ impl Walker {
         self.now = self.paths.join(now, other);
     }
 
-    /// No path goes on here.
+    /// No path continues here.
     pub(crate) fn stop(&mut self) -> Result<(), AllocError> {
         self.now = self.paths.nowhere()?;
         Ok(())
     }
 
-    /// What a condition leaves is known on both paths; answers the point of the second.
+    /// The state after a condition is known on both paths; returns the point of the second.
     pub(crate) fn split(&mut self, is_condition: bool) -> Result<Point, AllocError> {
         let now = self.now;
         if is_condition {

@@ -1,4 +1,4 @@
-//! What `zkc check` tells.
+//! The output of `zkc check`.
 
 use crate::files::Files;
 use crate::json::put_json;
@@ -10,7 +10,7 @@ use lint::Warning;
 use srcset::Names;
 use std::alloc::{AllocError, Global};
 
-/// The form in which warnings are told.
+/// The form in which warnings are reported.
 #[derive(Clone, Copy, Debug, PartialEq, Eq)]
 pub enum Form {
     /// As text, on standard error.
@@ -21,7 +21,7 @@ pub enum Form {
     Sarif,
 }
 
-/// What is asked of a program.
+/// The request for a report on a program.
 #[derive(Clone, Copy)]
 pub struct Asked<'a> {
     /// The names of its files.
@@ -36,7 +36,7 @@ pub struct Asked<'a> {
     /// Whether warnings are errors.
     pub are_errors: bool,
     pub form: Form,
-    /// The version of the program that tells.
+    /// The version of the program that reports.
     pub version: &'a str,
 }
 
@@ -51,7 +51,7 @@ impl<'a> Asked<'a> {
     }
 }
 
-/// What a command tells.
+/// The output of a command.
 #[derive(Drop)]
 pub struct Said {
     /// On standard output.
@@ -62,7 +62,7 @@ pub struct Said {
     pub count: usize,
 }
 
-/// What is told of the warnings of these files, whose names are numbered so.
+/// The report of the warnings of these files, whose names have these numbers.
 pub fn report<'a>(
     alloc: Global,
     files: Files<'a>,
@@ -82,7 +82,7 @@ pub fn report<'a>(
     rendered(alloc, &told, asked)
 }
 
-/// The warnings in the form that is asked for.
+/// The warnings in the requested form.
 fn rendered(alloc: Global, told: &Told<'_>, asked: Asked<'_>) -> Result<Said, AllocError> {
     let level = if asked.are_errors { "error" } else { "warning" };
     let mut out = String::new(alloc);

@@ -16,7 +16,7 @@ pub struct File<'a> {
     /// None where it breaks a rule of phases 1 to 3, as one that no file includes may.
     pub tokens: Option<Tokens<'a>>,
     laid: Option<LaidFile>,
-    // How many bytes stand before each line.
+    // How many bytes precede each line.
     starts: Vec<usize>,
 }
 
@@ -28,14 +28,14 @@ pub struct Files<'a> {
     pub is_laid: bool,
 }
 
-/// Where a token stands.
+/// The place of a token.
 #[derive(Clone, Copy, Debug, PartialEq, Eq)]
 pub struct Place {
     /// The number of its file; past all of them where that is not known.
     pub file: usize,
     /// The line, counted from 1.
     pub line: u32,
-    /// How many bytes of the file stand before it, and before its end; both 0 where the token is not known.
+    /// How many bytes of the file precede it, and its end; both 0 where the token is not known.
     pub start: usize,
     pub end: usize,
 }
@@ -78,7 +78,7 @@ impl<'a> Files<'a> {
         }
     }
 
-    /// The place that a line of a file of this name tells.
+    /// The place of a line of a file of this name.
     pub fn place(&self, name: &str, line: u32) -> Place {
         let number = self.number(name);
         let spot = match self.list.get(number) {
@@ -111,7 +111,7 @@ impl<'a> File<'a> {
         }
     }
 
-    /// The token that stands on a line of the file as it is laid out.
+    /// The token on a line of the file as it is laid out.
     fn spot_on(&self, line: u32) -> Option<Spot> {
         let number = self.token_on(line)?;
         self.spot(number)
@@ -125,7 +125,7 @@ impl<'a> File<'a> {
         }
     }
 
-    /// How many bytes stand before a line, and its bytes without their end; `None` where there is no such line, or it is too long to be shown.
+    /// How many bytes precede a line, and its bytes without their end; `None` where there is no such line, or it is too long to be shown.
     pub fn line(&self, line: u32) -> Option<(usize, &[u8])> {
         let number = (line as usize).checked_sub(1)?;
         let start = self.starts.get(number).copied()?;
@@ -190,7 +190,7 @@ fn file_of<'a>(
     })
 }
 
-/// How many bytes stand before each line.
+/// How many bytes precede each line.
 fn line_starts(alloc: Global, bytes: &[u8]) -> Result<Vec<usize>, AllocError> {
     let mut starts = vec![in alloc; 0]?;
     for (number, byte) in bytes.iter().enumerate() {
@@ -213,7 +213,7 @@ fn laid_of(
     Ok(Some(laid_file(alloc, bytes, tokens)?))
 }
 
-/// Adds a copy of a file, or answers that it could not.
+/// Adds a copy of a file, or returns that it could not.
 fn add(alloc: Global, set: &mut FileSet, name: &str, bytes: &[u8]) -> Result<bool, AllocError> {
     let text = Vec::from_slice(alloc, bytes)?;
     match set.add(name, text) {
@@ -222,7 +222,7 @@ fn add(alloc: Global, set: &mut FileSet, name: &str, bytes: &[u8]) -> Result<boo
     }
 }
 
-/// That a set does not take a file; a refused growth is told.
+/// Returns that a set does not take a file; a refused growth is an error.
 fn is_taken(fault: &Fault) -> Result<bool, AllocError> {
     if fault.code == Code::OutOfMemory.number() {
         Err(AllocError)

@@ -5,7 +5,7 @@ use crate::placing::Placed;
 use crate::shown::{Told, shown_bytes};
 use std::alloc::{AllocError, Global};
 
-/// Puts each warning as one object on a line of its own, with the members file, line, column, end, code, level, text, token and notes, as `explain` has them.
+/// Prints each warning as one object on a line of its own, with the members file, line, column, end, code, level, text, token and notes, as `explain` has them.
 pub(crate) fn put_json(
     alloc: Global,
     told: &Told<'_>,
@@ -50,7 +50,7 @@ fn put_object(
     out.push_str("]}\n")
 }
 
-/// Puts the members that tell a place.
+/// Prints the members that describe a place.
 fn put_place(
     alloc: Global,
     told: &Told<'_>,
@@ -70,7 +70,7 @@ fn put_place(
     out.push_str(format!(in alloc; ",\"column\":{column},\"end\":{end}")?.as_str())
 }
 
-/// Puts a string with its quotes: `"`, `\` and the characters below U+0020 are escaped (RFC 8259, section 7).
+/// Prints a string with its quotes: `"`, `\` and the characters below U+0020 are escaped (RFC 8259, section 7).
 pub(crate) fn put_string(alloc: Global, text: &str, out: &mut String) -> Result<(), AllocError> {
     out.push('"')?;
     for letter in text.chars() {

@@ -1,4 +1,4 @@
-//! What `zkc check` tells: the warnings of a program in the order of its files, as text, JSON or SARIF.
+//! The output of `zkc check`: the warnings of a program in the order of its files, as text, JSON or SARIF.
 #![tactic(auto)]
 
 mod answering;

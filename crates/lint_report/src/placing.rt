@@ -17,7 +17,7 @@ pub(crate) struct Placed {
     pub(crate) detail: Detail,
 }
 
-/// The warnings that the words ask for, in the order of the files and of their lines, each once.
+/// The warnings that the words select, in the order of the files and of their lines, each once.
 pub(crate) fn in_order(
     alloc: Global,
     files: &Files<'_>,
@@ -54,7 +54,7 @@ fn rank(kind: Kind) -> usize {
     }
 }
 
-/// The same without what stands there twice, as from a file that is included twice.
+/// The same without duplicates, as from a file that is included twice.
 fn each_once(alloc: Global, sorted: &[Placed]) -> Result<Vec<Placed>, AllocError> {
     let mut kept = Vec::new(alloc);
     let mut last = None;
@@ -88,7 +88,8 @@ pub(crate) fn place_of(files: &Files<'_>, names: &Names, pos: Pos) -> Place {
     files.place(names.file_name(pos.file), pos.line)
 }
 
-/// Whether a warning is told: not of what a header has for others, and not of a label with a comment that the statements before fall through to it.
+/// Whether a warning is reported: not one on a declaration that a header has for others, and not one on a label with a comment that the statements before fall
+/// through to it.
 fn is_told(files: &Files<'_>, names: &Names, warning: Warning, place: Place) -> bool {
     match warning.kind {
         Kind::UnusedFunction | Kind::UnusedVariable => {
@@ -102,7 +103,7 @@ fn is_told(files: &Files<'_>, names: &Names, warning: Warning, place: Place) -> 
     }
 }
 
-/// Whether a comment stands before the label on a line.
+/// Whether a comment precedes the label on a line.
 fn has_comment(file: &File<'_>, is_laid: bool, line: u32) -> bool {
     let Some(tokens) = &file.tokens else {
         return false;
@@ -118,7 +119,7 @@ fn has_comment(file: &File<'_>, is_laid: bool, line: u32) -> bool {
     }
 }
 
-/// Puts the faults of macros of each file that a person wrote.
+/// Prints the faults of macros of each file that a person wrote.
 fn put_macros(
     alloc: Global,
     files: &Files<'_>,

@@ -7,7 +7,7 @@ use crate::shown::Told;
 use lint::Kind;
 use std::alloc::{AllocError, Global};
 
-/// Puts a log with a rule for each kind and a result for each warning.
+/// Prints a log with a rule for each kind and a result for each warning.
 pub(crate) fn put_sarif(
     alloc: Global,
     told: &Told<'_>,
@@ -82,7 +82,7 @@ fn put_result(
     out.push_str("}")
 }
 
-/// Puts the member `physicalLocation`. A region has lines of 1 or more (3.30.5).
+/// Prints the member `physicalLocation`. A region has lines of 1 or more (3.30.5).
 fn put_location(
     alloc: Global,
     told: &Told<'_>,
@@ -102,7 +102,7 @@ fn put_location(
     out.push_str("}}")
 }
 
-/// Puts the columns of a token in code points, counted from 1 (3.30.6); nothing where they are not known.
+/// Prints the columns of a token in code points, counted from 1 (3.30.6); nothing where they are not known.
 fn put_columns(
     alloc: Global,
     told: &Told<'_>,
@@ -131,7 +131,7 @@ fn points(bytes: &[u8]) -> usize {
     count
 }
 
-/// Puts a name as a relative reference: all but letters, digits and `-._~/` is percent-encoded (RFC 3986, 2.1).
+/// Prints a name as a relative reference: all but letters, digits and `-._~/` is percent-encoded (RFC 3986, 2.1).
 fn put_uri(name: &str, out: &mut String) -> Result<(), AllocError> {
     for byte in name.as_bytes() {
         match *byte {

@@ -1,4 +1,4 @@
-//! What each form tells of a warning.
+//! The contents of a warning in each form.
 
 use crate::files::{Files, Place};
 use crate::placing::Placed;
@@ -50,7 +50,7 @@ impl<'a> Told<'a> {
         }
     }
 
-    /// How many bytes stand before the line of a place, and its bytes.
+    /// How many bytes precede the line of a place, and its bytes.
     fn line(&self, place: Place) -> Option<(usize, &[u8])> {
         self.files.list.get(place.file)?.line(place.line)
     }
@@ -63,7 +63,7 @@ impl<'a> Told<'a> {
             .unwrap_or_default()
     }
 
-    /// What a warning says, with what it is about.
+    /// The text of a warning, with its subject.
     pub(crate) fn message(&self, alloc: Global, placed: &Placed) -> Result<String, AllocError> {
         let mut text = String::from_str(alloc, placed.kind.text())?;
         put_detail(alloc, placed.detail, &mut text)?;
@@ -84,7 +84,7 @@ impl<'a> Told<'a> {
         }
     }
 
-    /// Where the other declaration stands of which a warning speaks.
+    /// The place of the other declaration of which a warning speaks.
     pub(crate) fn other(&self, placed: &Placed) -> Option<Place> {
         match placed.detail {
             Detail::Other(pos) => Some(self.files.place(self.names.file_name(pos.file), pos.line)),
@@ -93,7 +93,7 @@ impl<'a> Told<'a> {
     }
 }
 
-/// Puts what a warning says beside the text of its kind.
+/// Prints the detail of a warning after the text of its kind.
 fn put_detail(alloc: Global, detail: Detail, out: &mut String) -> Result<(), AllocError> {
     match detail {
         Detail::Nothing | Detail::Other(_) => Ok(()),

@@ -5,7 +5,7 @@ use crate::placing::Placed;
 use crate::shown::{Told, shown_bytes};
 use std::alloc::{AllocError, Global};
 
-/// Puts each warning: `FILE:LINE:COLUMN: warning: TEXT 'NAME' [KIND]`, the source line with a caret, the other declaration, and what to write.
+/// Prints each warning: `FILE:LINE:COLUMN: warning: TEXT 'NAME' [KIND]`, the source line with a caret, the other declaration, and the suggested text.
 pub(crate) fn put_text(
     alloc: Global,
     told: &Told<'_>,
@@ -43,7 +43,7 @@ fn put_warning(
     out.push_str("\n")
 }
 
-/// Puts `FILE:LINE:COLUMN: `, and without the column where it is not known.
+/// Prints `FILE:LINE:COLUMN: `, and without the column where it is not known.
 fn put_place(
     alloc: Global,
     told: &Told<'_>,
@@ -61,7 +61,7 @@ fn put_place(
     out.push_str(": ")
 }
 
-/// Puts the source line, and under it a caret where the token begins.
+/// Prints the source line, and under it a caret where the token begins.
 fn put_source(
     alloc: Global,
     told: &Told<'_>,
@@ -83,7 +83,7 @@ fn put_source(
     out.push_str("\n")
 }
 
-/// Puts a space for each character of these bytes, and a tab for a tab.
+/// Prints a space for each character of these bytes, and a tab for a tab.
 fn put_blanks(before: &[u8], out: &mut String) -> Result<(), AllocError> {
     for byte in before {
         if *byte == b'\t' {
@@ -95,7 +95,7 @@ fn put_blanks(before: &[u8], out: &mut String) -> Result<(), AllocError> {
     Ok(())
 }
 
-/// Puts a caret, and `~` to the end of a token with so many bytes.
+/// Prints a caret, and `~` to the end of a token with `length` bytes.
 fn put_caret(length: usize, out: &mut String) -> Result<(), AllocError> {
     out.push('^')?;
     for _ in 1..length {
@@ -104,7 +104,7 @@ fn put_caret(length: usize, out: &mut String) -> Result<(), AllocError> {
     Ok(())
 }
 
-/// Puts a text with `?` in place of each control character but a tab.
+/// Prints a text with `?` in place of each control character but a tab.
 fn put_shown(text: &str, out: &mut String) -> Result<(), AllocError> {
     for letter in text.chars() {
         if letter.is_ascii_control() && letter != '\t' {

@@ -2,7 +2,8 @@
 
 use explain_places::Tokens;
 
-/// Whether a comment directly before the token with this number says that what stands before it falls through: it has the letters `fall` in it, in either case.
+/// Whether a comment directly before the token with this number says that the statements before it fall through: it contains the letters `fall`, in either
+/// case.
 pub fn falls_by_comment(bytes: &[u8], tokens: &Tokens<'_>, number: usize) -> bool {
     let Some(spot) = tokens.spot(number) else {
         return false;
@@ -39,7 +40,7 @@ pub fn label_on(tokens: &Tokens<'_>, line: u32) -> Option<usize> {
     None
 }
 
-/// The number of the first token that stands on no line before this one; their lines do not fall.
+/// The number of the first token that is on no line before this one; their lines do not fall.
 fn first_on(tokens: &Tokens<'_>, line: u32) -> usize {
     let mut low = 0;
     let mut high = tokens.spots.len();

@@ -1,4 +1,4 @@
-//! A source file with each token on a line of its own, so that a line tells the token.
+//! A source file with each token on a line of its own, so that a line identifies the token.
 
 use explain_places::{Spot, Tokens};
 use std::alloc::{AllocError, Global};
@@ -42,7 +42,7 @@ pub fn laid_file(alloc: Global, bytes: &[u8], tokens: &Tokens<'_>) -> Result<Lai
 }
 
 impl LaidFile {
-    /// The number of the token that stands on a line of the text as it is laid out.
+    /// The number of the token on a line of the text as it is laid out.
     pub fn token_on(&self, line: u32) -> Option<usize> {
         let mut low = 0;
         let mut high = self.lines.len();
@@ -65,7 +65,7 @@ impl LaidFile {
     }
 }
 
-/// Whether what a file means, and where it says that it stands, depends on its lines: it names `__LINE__`, or has a directive `#line`.
+/// Whether the meaning of a file, and the places that it gives itself, depend on its lines: it names `__LINE__`, or has a directive `#line`.
 pub fn keeps_lines(tokens: &Tokens<'_>) -> bool {
     for (number, spot) in tokens.spots.iter().enumerate() {
         let spelling = tokens.spelling(number);

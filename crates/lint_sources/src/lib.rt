@@ -1,4 +1,4 @@
-//! What warnings need of the source text: the file with a token a line, comments before labels, the bodies of macros.
+//! The facts of the source text that warnings need: the file with a token a line, comments before labels, the bodies of macros.
 #![tactic(auto)]
 
 mod labels;

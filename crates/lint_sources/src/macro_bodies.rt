@@ -1,4 +1,4 @@
-//! Macros whose operands may be torn apart by what stands around them (ISO/IEC 9899:2011 6.10.3).
+//! Macros whose operands may be torn apart by the tokens around them (ISO/IEC 9899:2011 6.10.3).
 
 use crate::words::{
     ends_operand, is_assignment, is_of_statement, is_operator, is_sign, is_type_word,
@@ -7,10 +7,10 @@ use explain_places::Tokens;
 use phases::{Kind, PpToken};
 use std::alloc::{AllocError, Global};
 
-/// The most parameters that are looked at, which is the most that a macro may have.
+/// The most parameters that are examined, which is the most that a macro may have.
 const MAX_PARAMETERS: usize = 127;
 
-/// What a macro lacks parentheses around.
+/// The part of a macro that lacks parentheses around it.
 #[derive(Clone, Copy, Debug, PartialEq, Eq)]
 pub struct MacroFault {
     /// The number of the token: a parameter in the body, or the macro's name where the whole body lacks them.
@@ -42,7 +42,7 @@ fn is_define(tokens: &Tokens<'_>, number: usize) -> bool {
     spot.is_first && spot.in_directive && matches!(next, b"define")
 }
 
-/// The number of the first token behind the directive that begins here.
+/// The number of the first token after the directive that begins here.
 fn directive_end(tokens: &Tokens<'_>, start: usize) -> usize {
     let first = start.saturating_add(1);
     for number in first..tokens.spots.len() {
@@ -54,7 +54,7 @@ fn directive_end(tokens: &Tokens<'_>, start: usize) -> usize {
     tokens.spots.len()
 }
 
-/// What is wrong with the macro whose name has this number.
+/// The fault of the macro whose name has this number.
 fn fault_of(all: &[PpToken<'_>], name: usize, past: usize) -> Option<MacroFault> {
     let list = list_end(all, name, past);
     let behind = name.saturating_add(1);
@@ -96,7 +96,7 @@ fn list_end(all: &[PpToken<'_>], name: usize, past: usize) -> Option<usize> {
     Some(behind.saturating_add(count))
 }
 
-/// The number in a body of the first use of a parameter beside an operator.
+/// The number in a body of the first use of a parameter next to an operator.
 fn bare_parameter(parameters: &[PpToken<'_>], body: &[PpToken<'_>]) -> Option<usize> {
     for parameter in parameters.iter().take(MAX_PARAMETERS) {
         if parameter.kind() == Kind::Identifier {
@@ -108,7 +108,7 @@ fn bare_parameter(parameters: &[PpToken<'_>], body: &[PpToken<'_>]) -> Option<us
     None
 }
 
-/// The number of the first use of a parameter beside an operator; `None` where a use shows that it must be a name.
+/// The number of the first use of a parameter next to an operator; `None` where a use shows that it must be a name.
 fn bare_use(body: &[PpToken<'_>], name: &[u8]) -> Option<usize> {
     let mut found = None;
     for (number, token) in body.iter().enumerate() {
@@ -124,7 +124,7 @@ fn bare_use(body: &[PpToken<'_>], name: &[u8]) -> Option<usize> {
     found
 }
 
-/// The spelling of the token so many before another; empty where there is none.
+/// The spelling of the token `count` places before another; empty where there is none.
 fn before<'t>(body: &'t [PpToken<'_>], number: usize, count: usize) -> &'t [u8] {
     match number.checked_sub(count) {
         Some(at) => spelling_at(body, at),
@@ -139,7 +139,7 @@ fn spelling_at<'t>(body: &'t [PpToken<'_>], number: usize) -> &'t [u8] {
     }
 }
 
-/// Whether what stands for a parameter must be a name there: it is joined, spelled, assigned, stepped, declared, called, or has a subscript.
+/// Whether the argument of a parameter must be a name there: it is joined, spelled, assigned, stepped, declared, called, or has a subscript.
 fn must_be_name(body: &[PpToken<'_>], number: usize) -> bool {
     let last = before(body, number, 1);
     let next = spelling_at(body, number.saturating_add(1));
@@ -155,7 +155,7 @@ fn is_pasted(spelling: &[u8]) -> bool {
     matches!(spelling, b"#" | b"##" | b"%:" | b"%:%:")
 }
 
-/// Whether an operator, or a cast, stands beside a token.
+/// Whether an operator, or a cast, is next to a token.
 fn is_beside_operator(body: &[PpToken<'_>], number: usize) -> bool {
     let last = before(body, number, 1);
     let next = spelling_at(body, number.saturating_add(1));
@@ -183,7 +183,7 @@ fn is_bare(body: &[PpToken<'_>]) -> bool {
     found
 }
 
-/// Whether an operator stands between two operands, and not behind a cast.
+/// Whether an operator is between two operands, and not after a cast.
 fn is_between(body: &[PpToken<'_>], number: usize) -> bool {
     let Some(last) = number.checked_sub(1) else {
         return false;

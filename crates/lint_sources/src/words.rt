@@ -1,4 +1,4 @@
-//! What tokens of a macro's body may be.
+//! The roles of tokens in a macro's body.
 
 use phases::{Kind, PpToken};
 
@@ -19,7 +19,7 @@ fn is_logical(spelling: &[u8]) -> bool {
     matches!(spelling, b"&" | b"^" | b"|" | b"&&" | b"||" | b"?")
 }
 
-/// Whether it is an operator in front of its operand.
+/// Whether it is a prefix operator.
 pub(crate) fn is_sign(spelling: &[u8]) -> bool {
     matches!(spelling, b"!" | b"~")
 }
@@ -33,7 +33,7 @@ pub(crate) fn is_type_word(spelling: &[u8]) -> bool {
         )
 }
 
-/// Whether it begins or ends a statement, assigns, or separates what stands in a list: the body is then no expression.
+/// Whether it begins or ends a statement, assigns, or separates the items of a list: the body is then no expression.
 pub(crate) fn is_of_statement(spelling: &[u8]) -> bool {
     matches!(
         spelling,

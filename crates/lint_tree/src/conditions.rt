@@ -3,7 +3,7 @@
 use srcset::Pos;
 use tree::{BinaryOp, Expr, PrefixOp, TypeName, TypeSpecifier, Word};
 
-/// For what the value of an expression is used.
+/// The use of the value of an expression.
 #[derive(Clone, Copy, Debug, PartialEq, Eq)]
 pub(crate) enum Use {
     /// As a number.
@@ -17,7 +17,7 @@ pub(crate) enum Use {
 }
 
 impl Use {
-    /// The use of what stands in parentheses: they say that an assignment is meant.
+    /// The use of an expression in parentheses: they say that an assignment is meant.
     pub(crate) fn in_parentheses(self) -> Use {
         match self {
             Use::Condition => Use::Value,
@@ -82,8 +82,8 @@ impl Use {
     }
 }
 
-/// Where the outermost operator of an expression stands that changes nothing when its value is not used; `None` where the expression does something, or is
-/// cast to `void`. The left operands of comma operators are not looked at.
+/// The place of an expression's outermost operator, where it changes nothing when its value is not used; `None` where the expression does something, or is
+/// cast to `void`. The left operands of comma operators are not checked.
 pub(crate) fn idle(expression: &Expr) -> Option<Pos> {
     match expression {
         Expr::Call(_, _, _) => None,
@@ -130,7 +130,7 @@ pub(crate) fn has_void(words: &[TypeSpecifier]) -> bool {
     false
 }
 
-/// Whether an operator compares the result of a like comparison that stands to its left without parentheses (6.5.8p6).
+/// Whether an operator compares the result of a like comparison that is to its left without parentheses (6.5.8p6).
 pub(crate) fn is_chained(op: BinaryOp, left: &Expr) -> bool {
     match left {
         Expr::Binary(_, inner, _, _) => {

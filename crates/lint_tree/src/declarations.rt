@@ -93,7 +93,7 @@ impl Walker {
         }
     }
 
-    /// Declares a name at file scope. Of what is declared before, what is known stays: whether it is static, and where it is defined.
+    /// Declares a name at file scope. The facts known of an earlier declaration stay: whether it is static, and where it is defined.
     fn file_name(&mut self, name: usize, pos: Pos, sort: Sort) -> Result<(), AllocError> {
         match self.scopes.find(name) {
             Some(_) => Ok(()),
@@ -122,7 +122,7 @@ impl Walker {
         self.note_end(function, flow)
     }
 
-    /// Warns where a function with a result may come to its end; `main` may (5.1.2.2.3).
+    /// Warns where a function with a result may reach its end; `main` may (5.1.2.2.3).
     fn note_end(&mut self, function: &Function, flow: Flow) -> Result<(), AllocError> {
         let declarator = &function.declarator;
         let has_result = !gives_nothing(function.specifiers.list.as_slice());

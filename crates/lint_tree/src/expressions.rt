@@ -8,13 +8,13 @@ use std::alloc::AllocError;
 use tree::{AssignOp, BinaryOp, Expr};
 
 impl Walker {
-    /// Walks an expression that stands alone, and warns where it does nothing.
+    /// Walks an expression statement, and warns where it does nothing.
     pub(crate) fn alone(&mut self, expression: &Expr) -> Result<(), AllocError> {
         self.note_idle(expression)?;
         self.expression(expression, Use::Nothing)
     }
 
-    /// Walks an expression that is used so.
+    /// Walks an expression with this use.
     #[cycle(expressions)]
     pub(crate) fn expression(&mut self, expression: &Expr, used: Use) -> Result<(), AllocError> {
         match expression {
@@ -69,7 +69,7 @@ impl Walker {
         Ok(())
     }
 
-    /// A name is used so.
+    /// A name with this use.
     fn use_name(&mut self, name: usize, used: Use) {
         if used == Use::Place {
             self.scopes.set(name);

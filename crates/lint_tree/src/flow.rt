@@ -23,7 +23,7 @@ impl Flow {
         }
     }
 
-    /// In no way that goes on in the function.
+    /// A flow that does not continue in the function.
     pub(crate) fn ending() -> Flow {
         Flow {
             falls: false,
@@ -86,7 +86,7 @@ impl Flow {
         }
     }
 
-    /// A loop with this body, whose test comes behind it.
+    /// A loop with this body, whose test follows it.
     pub(crate) fn repeated(self, test: Truth) -> Flow {
         let is_tested = self.falls || self.continues;
         Flow {
@@ -106,7 +106,7 @@ impl Flow {
     }
 }
 
-/// What is known of a condition.
+/// The known truth of a condition.
 #[derive(Clone, Copy, Debug, PartialEq, Eq)]
 pub(crate) enum Truth {
     Always,

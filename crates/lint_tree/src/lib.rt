@@ -1,4 +1,4 @@
-//! Warnings that the syntax tree tells: names that are not used, conditions, bodies, labels.
+//! Warnings that follow from the syntax tree: names that are not used, conditions, bodies, labels.
 #![tactic(auto)]
 
 mod conditions;

@@ -6,7 +6,7 @@ use srcset::Names;
 use std::alloc::{AllocError, Global};
 use tree::{External, Unit};
 
-/// The warnings that the tree of a unit tells, in no order. `names` is the table of its names.
+/// The warnings that follow from the tree of a unit, in no order. `names` is the table of its names.
 pub fn unit_warnings(
     alloc: Global,
     unit: &Unit,

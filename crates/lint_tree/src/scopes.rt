@@ -1,9 +1,9 @@
-//! The names that are declared, and what is done with each.
+//! The names that are declared, and the uses of each.
 
 use srcset::Pos;
 use std::alloc::{AllocError, Global};
 
-/// What a name stands for.
+/// The kind of entity that a name denotes.
 #[derive(Clone, Copy, Debug, PartialEq, Eq)]
 pub(crate) enum Sort {
     /// An object of a block.
@@ -24,7 +24,7 @@ pub(crate) enum Sort {
 }
 
 impl Sort {
-    /// Whether a declaration in a block hides it where a reader may mean it: functions are told apart by their calls.
+    /// Whether a declaration in a block hides it where a reader may mean it: functions are distinguished by their calls.
     pub(crate) fn is_hidden(self) -> bool {
         match self {
             Sort::Variable | Sort::Parameter | Sort::ArrayParameter => true,
@@ -57,7 +57,7 @@ pub(crate) struct Scopes {
 }
 
 impl Scopes {
-    /// The scope of a file, of a table with so many names.
+    /// The scope of a file, of a table with `names` names.
     pub(crate) fn new(alloc: Global, names: usize) -> Result<Scopes, AllocError> {
         Ok(Scopes {
             symbols: Vec::new(alloc),

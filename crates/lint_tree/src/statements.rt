@@ -9,7 +9,7 @@ use std::alloc::AllocError;
 use tree::{BlockItem, Expr, ForHead, ForStart, Stmt};
 
 impl Walker {
-    /// Walks a statement; answers how it may end.
+    /// Walks a statement; returns how it may end.
     #[cycle(statements)]
     pub(crate) fn statement(&mut self, statement: &Stmt) -> Result<Flow, AllocError> {
         match statement {
@@ -90,7 +90,7 @@ impl Walker {
         Ok(flow)
     }
 
-    /// Walks the body of a `switch`; answers how the whole may end.
+    /// Walks the body of a `switch`; returns how the whole may end.
     #[cycle(statements)]
     fn switch_body(&mut self, body: &Stmt) -> Result<Flow, AllocError> {
         match body {
@@ -104,7 +104,7 @@ impl Walker {
         }
     }
 
-    /// Walks the items in the block of a `switch`, and warns of a label that is come to from above.
+    /// Walks the items in the block of a `switch`, and warns of a label that is reached from above.
     #[cycle(statements)]
     fn switch_items(&mut self, items: &[BlockItem]) -> Result<Flow, AllocError> {
         let mut labels = Labels::new();
@@ -123,7 +123,7 @@ impl Walker {
         Ok(labels.flow())
     }
 
-    /// Walks what stands in the parentheses of a `for`.
+    /// Walks the parts in the parentheses of a `for`.
     fn head(&mut self, head: &ForHead) -> Result<(), AllocError> {
         match &head.start {
             ForStart::Expression(start) => self.optional_alone(start)?,
@@ -151,7 +151,7 @@ impl Walker {
         }
     }
 
-    /// How an expression that stands alone may end: a call of `rv_exit` does not.
+    /// How an expression statement may end: a call of `rv_exit` does not.
     fn flow_of(&self, expression: &Expr) -> Flow {
         match expression {
             Expr::Call(_, name, _) if self.is_exit(*name) => Flow::ending(),
@@ -167,7 +167,7 @@ impl Walker {
         }
     }
 
-    /// Warns of a block directly behind a loop with an empty body.
+    /// Warns of a block directly after a loop with an empty body.
     fn note_loop(&mut self, is_loop: bool, item: &BlockItem) -> Result<(), AllocError> {
         match item {
             BlockItem::Statement(Stmt::Block(pos, _)) if is_loop => self.warn(

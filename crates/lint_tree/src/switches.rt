@@ -4,13 +4,13 @@ use crate::flow::{Flow, is_empty};
 use srcset::Pos;
 use tree::{BlockItem, Stmt};
 
-/// What has been passed of the items of a `switch`.
+/// The state after the items of a `switch` so far.
 #[derive(Clone, Copy)]
 pub(crate) struct Labels {
-    // How the items so far may end; before the first label no item is come to.
+    // How the items so far may end; before the first label no item is reached.
     passed: Flow,
     has_default: bool,
-    // Whether nothing but `;` stands behind the last label.
+    // Whether nothing but `;` follows the last label.
     is_bare: bool,
 }
 
@@ -23,8 +23,8 @@ impl Labels {
         }
     }
 
-    /// The place of the label in front of an item that the statements before it fall through to. A label with nothing but `;` behind it may be come to from, and
-    /// one whose statement is `break` may be come to.
+    /// The place of the label in front of an item that the statements before it fall through to. Falling through is allowed from a label with nothing but `;`
+    /// after it, and to one whose statement is `break`.
     pub(crate) fn fallen_to(&self, item: &BlockItem) -> Option<Pos> {
         let BlockItem::Statement(statement) = item else {
             return None;
@@ -70,7 +70,7 @@ fn label_of(statement: &Stmt) -> Option<Pos> {
     }
 }
 
-/// The statement behind all labels.
+/// The statement after all labels.
 fn labelled(statement: &Stmt) -> &Stmt {
     match statement {
         Stmt::Case(_, _, inner) => labelled(inner),

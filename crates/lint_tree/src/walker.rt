@@ -1,4 +1,4 @@
-//! What is kept while a unit is walked.
+//! The state kept while a unit is walked.
 
 use crate::scopes::{Scopes, Sort, Symbol};
 use lint::{Detail, Kind, Warning};
@@ -100,7 +100,7 @@ impl Walker {
         self.scopes.declare(name, pos, sort)
     }
 
-    /// Ends the scope that began at a mark, and warns of what was not used in it.
+    /// Ends the scope that began at a mark, and warns of the names that were not used in it.
     pub(crate) fn end_scope(&mut self, mark: usize) -> Result<(), AllocError> {
         for _ in 0..usize::MAX {
             match self.scopes.leave(mark) {
@@ -120,7 +120,7 @@ impl Walker {
     }
 }
 
-/// What is to be said of a name whose scope has ended.
+/// The warning for a name whose scope has ended.
 fn unused(symbol: Symbol) -> Option<Kind> {
     if symbol.is_read {
         return None;

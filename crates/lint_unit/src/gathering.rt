@@ -100,7 +100,7 @@ fn program_of(
     }
 }
 
-/// What a phase that refuses the files gives: nothing, but a refused growth is told.
+/// The result of a phase that refuses the files: nothing, but a refused growth is reported.
 fn refused<T>(fault: &Fault) -> Result<Option<T>, AllocError> {
     if fault.code == Code::OutOfMemory.number() {
         Err(AllocError)

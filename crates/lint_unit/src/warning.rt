@@ -6,7 +6,7 @@ use lint_report::{Asked, Files, Said, report};
 use srcset::{FileSet, Names};
 use std::alloc::{AllocError, Global};
 
-/// What is told of a program that the compiler does not refuse.
+/// The report on a program that the compiler does not refuse.
 pub fn warn_of_sources(alloc: Global, set: &FileSet, asked: Asked<'_>) -> Result<Said, AllocError> {
     let mut files = Files::of(alloc, set, asked.names, asked.made_file())?;
     let mut names = Names::new(alloc);

@@ -39,7 +39,7 @@ same_place f l s a h = rw (h.start, h.len) refl
 empty_holds : (l : LoadHeader) (a : ℕ) → l.memory_size ≡ 0 → holds l a ≡ false
 empty_holds l a e = grind (arith, nat_tests)
 
--- what is said of a, where each segment says what its load does
+-- the property of address a, where each segment has that of its load header
 pub same_said : {X : Type 0} (file : List ℕ) (f : Segment → ℕ → X) (g : LoadHeader → ℕ → X) (none : X) (a : ℕ) → ((l : LoadHeader) (s : Segment) → IsLoaded file l s → covers s a ≡ true → f s a ≡ g l a) → (ls : List LoadHeader) (ss : List Segment) → AreLoaded file ls ss → space.said f none ss a ≡ elf.said g none ls a
 same_said file f g none a same ls ss nothing = refl
 same_said file f g none a same ls ss (skipped l rest segments e h) = rw (empty_holds l a e) (same_said file f g none a same rest segments h)
@@ -94,7 +94,7 @@ fits_at (x ∷ rest) (suc k) d h lt = fits_at rest k d (and_right _ _ h) (omega 
 pub one_more_loaded : (f : List ℕ) (ls : List LoadHeader) (k : ℕ) (d : LoadHeader) (ss next : List Segment) → k < length ls → AreLoaded f (take k ls) ss → (ts : List Segment) × (next ≡ ss ++ ts) × AreLoaded f (get_or ls k d ∷ []) ts → AreLoaded f (take (k + 1) ls) next
 one_more_loaded f ls k d ss next lt h t = rw (take_more ls k d lt, t.1) (loaded-append f (take k ls) (get_or ls k d ∷ []) ss t.0 h t.2)
 
--- ---- what no fault means
+-- ---- the consequences of no fault
 
 first_none : (a b : Option LoadFault) → first_of a b ≡ None → b ≡ None
 first_none None b h = h
@@ -109,7 +109,7 @@ apart_of_none f ls e h =
     let loads_none : loads_fault (length f) (loads f) ≡ None = first_none (header_fault f) _ h in
     rw e (if_none _ _ _ (if_none _ _ _ loads_none).1).0
 
--- ---- the answer of a load
+-- ---- the result of a load
 
 pub is_image : (f : List ℕ) (entry : ℕ) (s : Space) → fault_of f ≡ None → entry ≡ e_entry f → s ≡ image_space f → file_image f ≡ Ok (record { entry = entry; space = s })
 unfolding file_image

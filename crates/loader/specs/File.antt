@@ -1,4 +1,4 @@
--- What an ELF32 executable for RISC-V says: System V gABI, chapters 4 and 5; RISC-V ELF psABI, "ELF Object Files".
+-- The contents of an ELF32 executable for RISC-V: System V gABI, chapters 4 and 5; RISC-V ELF psABI, "ELF Object Files".
 use Rattle.std.specs.Prelude.{ℕ, zero, suc, ◌+◌, ◌*◌, ◌-◌, ◌/◌, ◌%◌, ◌^◌, ◌==◌, ◌&&◌, ◌||◌, not, Bool, true, false, if◌then◌else◌, List, [], ◌∷◌, ◌++◌, length, nat_le, nat_lt, slice_index, Option, Some, None, Result, Ok, Err}
 use Rattle.std.specs.List.{sum_by, list_all}
 use Rattle.rv32.specs.Space.{Space, half_at, word_at}
@@ -110,7 +110,7 @@ abbrev pub first_of : Option LoadFault → Option LoadFault → Option LoadFault
 first_of None f = f
 first_of (Some e) f = Some e
 
--- the first fault that stands
+-- the first fault of the file
 abbrev pub fault_of : List ℕ → Option LoadFault
 fault_of file = first_of (header_fault file) (loads_fault (length file) (loads file))
 
@@ -123,7 +123,7 @@ holds l a = nat_le l.address a && nat_lt a (l.address + l.memory_size)
 abbrev pub byte_of : List ℕ → LoadHeader → ℕ → ℕ
 byte_of file l a = if nat_lt (a - l.address) l.file_size then slice_index file (l.offset + (a - l.address)) else 0
 
--- what the first segment that holds the address a says of it
+-- the property that the first segment that holds the address a gives it
 abbrev pub said : {X : Type 0} → (LoadHeader → ℕ → X) → X → List LoadHeader → ℕ → X
 said f none [] a = none
 said f none (l ∷ rest) a = if holds l a then f l a else said f none rest a
@@ -146,6 +146,6 @@ abbrev pub answer_of : Option LoadFault → Image → Result Image LoadFault
 answer_of None image = Ok image
 answer_of (Some fault) image = Err fault
 
--- the image of a file, or the first fault that stands
+-- the image of a file, or its first fault
 unfoldable pub file_image : List ℕ → Result Image LoadFault
 file_image file = answer_of (fault_of file) (record { entry = e_entry file; space = image_space file })

@@ -1,4 +1,4 @@
--- What a contract sees of a loaded program.
+-- A contract's view of a loaded program.
 use Rattle.std.specs.Prelude.{◌≡◌, ◌⊎◌, ℕ, List, Err, IsOk}
 use Rattle.rv32.specs.Space.{space_of}
 use Rattle.loader.specs.File.{Image, file_image}
@@ -10,6 +10,6 @@ use Rattle.loader.specs.declared.program.Loaded.{Loaded}
 abbrev pub loaded_image : Loaded → Image
 loaded_image l = record { entry = l.entry; space = space_of l.memory.segments.items }
 
--- the first fault that stands, or want of memory for a file that has an image
+-- the first fault of the file, or out of memory for a file that has an image
 abbrev pub FailsToLoad : List ℕ → LoadFault → Type 0
 FailsToLoad file fault = ((fault ≡ Memory) × IsOk (file_image file)) ⊎ (file_image file ≡ Err fault)

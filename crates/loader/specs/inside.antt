@@ -1,3 +1,3 @@
--- What only proofs and private functions need: nothing here has to be believed.
+-- Definitions that only proofs and private functions need: nothing here has to be believed.
 pub mod Segments
 pub mod Texts

@@ -11,7 +11,7 @@ use crate::fault::LoadFault;
 use crate::header::{Headers, LoadHeader, half, loads_from, word};
 use memory_map::MAX_MEMORY;
 
-/// The file's headers of type `PT_LOAD`, or the first fault that stands. Takes no memory.
+/// The file's headers of type `PT_LOAD`, or the first fault of the file. Allocates nothing.
 #[tactic(auto, unfolding(crate::specs::File::loads))]
 pub fn read_loads(bytes: &[u8]) -> Result<Headers, LoadFault>
     ensures { MatchResult result

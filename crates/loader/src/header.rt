@@ -8,7 +8,7 @@ ghost use Rattle.loader.specs.File as file;
 
 use arrayvec::ArrayVec;
 
-/// A program header of type `PT_LOAD`, without the fields that are not looked at.
+/// A program header of type `PT_LOAD`, without the fields that are ignored.
 #[derive(Clone, Copy, Debug, Default, PartialEq, Eq)]
 pub struct LoadHeader {
     /// `p_offset`: where the segment's bytes begin in the file.

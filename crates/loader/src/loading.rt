@@ -13,12 +13,12 @@ use crate::text_list::TextList;
 use rv32::memory::Memory;
 use std::alloc::Global;
 
-/// The image of an ELF32 executable for RISC-V, or the first fault that stands.
+/// The image of an ELF32 executable for RISC-V, or the first fault of the file.
 ///
 /// The whole file is tested for each code in the order 901 to 907. Headers that are not `PT_LOAD`,
-/// `p_paddr` and `p_align` are not looked at. A segment that takes no memory is nothing, and bytes
+/// `p_paddr` and `p_align` are ignored. A segment that takes no memory is nothing, and bytes
 /// past a segment's file size are zero. The entry may lie anywhere. All tests come before the first
-/// allocation, so `LoadFault::Memory` is answered only for a file that has an image, where an allocation
+/// allocation, so `LoadFault::Memory` is returned only for a file that has an image, where an allocation
 /// was refused. System V gABI, chapters 4 and 5.
 #[tactic(auto, unfolding(crate::specs::File::file_image))]
 pub fn load(alloc: Global, bytes: &[u8]) -> Result<Loaded, LoadFault>

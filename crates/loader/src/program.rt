@@ -7,7 +7,7 @@ ghost use Rattle.loader.specs.Listing.{AreDecoded};
 use crate::text_list::TextList;
 use rv32::memory::Memory;
 
-/// What a file loads: the address of its first instruction, its memory, and its texts.
+/// The result of loading a file: the address of its first instruction, its memory, and its texts.
 #[derive(Drop)]
 pub struct Loaded {
     pub(crate) entry: u32,

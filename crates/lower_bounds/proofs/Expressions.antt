@@ -69,7 +69,7 @@ module _ (z : Ground) where
   pub free : (e : Value) (t k : ℕ) → Fits (value_nodes e) t k → Free z t k
   free e t k f = fewer (value_nodes e) 1 t k (some_value e) f
 
-  -- beside a place, and a temporary beside both
+  -- there is room in addition to a place, and for a temporary in addition to both
   fits_beside : (place : Place) (c : Bool) (t k n : ℕ) → Fits (place_nodes place + n + 1) t k → Fits n (temporary_beside place c t k) (slot_beside place c t k)
   fits_beside place c t k n f = (
     beside t (temporary_beside place c t k) (place_nodes place) n z.bound (more_temporaries_at z (found place c t k) t) f.0,
@@ -84,7 +84,7 @@ module _ (z : Ground) where
       third (free_temporary x t2) t2 t (place_nodes place) (value_nodes e) z.bound (more_temporaries z x t2) (more_temporaries_at z (found place c t k) t)
       (some_place place) (some_value e) f.0
 
-  -- ---- what is called
+  -- ---- the callee
 
   callee_number : (n : ℕ) (o : Option typed.Function) (u : Option IntType) (used : Bool) → slice_get z.source.functions n ≡ o
       → call_fits u used (elim o as (λ x. Option FunctionType) [ None ↦ None | Some g ↦ Some g.type ]) ≡ true
@@ -308,7 +308,7 @@ module _ (z : Ground) where
               (only (argument_nodes arguments)) f.1,
         ) i2) i
 
-    -- the name of what is found stands for what is there
+    -- where the name of the place found denotes something that exists
     pub find_within : (place : Place) (c : Bool) (t k pc pc2 : ℕ) → place_is_typed z.source z.function place ≡ true → in_place z.source place ≡ true
         → NamedFine z place
         → Fits (place_nodes place) t k → Finds z.code (sizes z) place c t k pc pc2 → Within z (pc2 ≤ z.limit) (place_nodes place) 124 pc pc2

@@ -95,7 +95,7 @@ module _ (z : Ground) where
       let stands = stands_within z z.function.body end end back lo (length z.function.objects) start end h d (same_le (length z.function.objects)) w body in
       join z (idles_within n 0 start idles) (join z (settle z nodes 0 (less_room nodes _) (aimed z (λ a. (at_end, at_end, at_end, e)) stands)) (join z close (one_in z 2 _ 84 back size leaves (omega arith) (λ a. tt))))
 
-  -- ---- what it names is within bounds
+  -- ---- the names in it are within bounds
 
   pub temporary_in_le : (o : Operand) → OperandFine z o → temporary_in o ≤ z.bound
   temporary_in_le (operand.Temporary j) f = past j z.bound f

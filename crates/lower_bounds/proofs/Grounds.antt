@@ -1,4 +1,4 @@
--- What the instructions of a program's code may name.
+-- The things that the instructions of a program's code may name.
 use Rattle.std.proofs.Common.{◌≡◌, ℕ, ◌+◌, ◌<◌, ◌≤◌, ◌^◌, List, length, map, true, Some, None}
 use Rattle.std.specs.Prelude.{slice_get}
 use Rattle.srcset.specs.declared.refusal.Pos.{Pos}
@@ -20,9 +20,9 @@ use Rattle.lower_wf.specs.Asked.{types_are_sized}
 use Rattle.lower_correct.specs.Values.{Mode, Nowhere, To, If}
 use Rattle.lower_correct.specs.Places.{size_of_place}
 
--- a function of a typed program, the code of it, up to where it jumps, and what temporaries and slots are below: there are as many
--- temporaries as registers for them, which take no stack. The others' parameters, and that elements and rows have sizes that are words,
--- where types are sized; that each object has elements, and how many is a word
+-- a function of a typed program, its code, the limit of its jumps, and the bounds of temporaries and slots: there are at least as many temporaries as registers
+-- for them, which take no stack. The parameters of the other functions; that elements and rows have sizes that are words, where types are sized; that each
+-- object has elements, and their number is a word
 pub record Ground : Type 0 where
   pub source : typed.Program
   pub function : typed.Function
@@ -64,7 +64,7 @@ module _ (z : Ground) where
   TargetFine (target.Kept j) = j < z.slots
   TargetFine (target.Object n) = IsNumber n
 
-  -- what a place is, where its operand is as said
+  -- the condition on a place, given that on its operand
   abbrev pub SpotIs : (Operand → Type 0) → Spot → Type 0
   SpotIs P (place.Literal n) = n < length z.source.literals
   SpotIs P (place.Static n) = (o : typed.Static) × (slice_get z.source.statics n ≡ Some o) × (o.defined ≡ true)

@@ -115,7 +115,7 @@ filled_room n = omega arith
 none_left : (n : ℕ) → n + 1 ≤ 0 → ⊥
 none_left n h = omega (arith, h)
 
--- one of k rows, and those behind it
+-- one of k rows, and those after it
 first_row : (i k n e c : ℕ) → n + 1 ≤ k → i + k * e ≤ c → i + e ≤ c
 first_row i zero n e c some h = absurd (none_left n some)
 first_row i (suc k) n e c some h = let sum : suc k * e ≡ e + k * e = grind arith in omega (arith, h, sum)

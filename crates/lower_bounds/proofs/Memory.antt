@@ -1,4 +1,4 @@
--- Code of what lies in memory keeps within its room, and is fine.
+-- Code of values in memory keeps within its room, and is fine.
 use Rattle.std.proofs.Common.{◌≡◌, ℕ, ◌+◌, ◌*◌, ◌<◌, ◌≤◌, ◌^◌, Option, Some, None, Bool, true, false, ◌||◌, refl, arith}
 use Rattle.ctypes.specs.declared.types.IntType.{IntType}
 use Rattle.ctypes.specs.declared.operators.BinOp.{BinOp}
@@ -89,7 +89,7 @@ module _ (z : Ground) where
       settle z 1 68 (omega arith) (join z (one z _ 96 pc i.0 i.2 (omega arith) (λ x. (fj, fo))) (join z (one z _ 100 i.0 i.1 i.3 (omega arith) (λ x. (fj, fa)))
       (none z i.1 pc2 i.4)))
 
-  -- ---- what changes (6.5.16.2, 6.5.2.4, 6.5.3.1)
+  -- ---- changes of a value (6.5.16.2, 6.5.2.4, 6.5.3.1)
 
   alters_within : (o : BinOp) (u of : IntType) (b : Operand) (a : Spot) (m : Mode) (j t k pc pc2 : ℕ) → ModeLands z m t k → Free z t k → OperandFine z b
       → SpotFine z a → j < z.bound
@@ -150,7 +150,7 @@ module _ (z : Ground) where
   pub placed : {u d pc : ℕ} (m : Mode) (p pc2 : ℕ) → p ≤ pc2 → Within z (p ≤ z.limit) u d pc p → Within z (Aims z m pc2) u d pc p
   placed m p pc2 h s = aimed z (λ a. on p pc2 z.limit h a.0) s
 
-  -- a place that is an object of the call, or lies in memory
+  -- a place that is an object of the call, or is in memory
   pub on_object : {G : Type 0} (o : Option ℕ) (F : ℕ → Type 0) (M : Type 0) → RestsFine z o → OnObject o F M → ((x : ℕ) → IsNumber z x → F x → G)
       → (o ≡ None → M → G) → G
   on_object None F M r i g h = h refl i
@@ -178,7 +178,7 @@ module _ (z : Ground) where
       let last = gets_within u a m t k p1 pc2 l f fa i2 in
       settle z (place_nodes place) 32 (read_room (place_nodes place)) (join z (placed m p1 pc2 last.forward (da pc p1 i1)) last)
 
-  -- t2 and k2 are the first temporary and slot that are free beside the place
+  -- t2 and k2 are the first temporary and slot that are free in addition to the place
   pub assigned_memory : (stays : Bool) (u : IntType) (place : Place) (e : Value) (m : Mode) (b : Bool) (t k t2 k2 : ℕ) (a : Spot) (x : Operand)
       (pc p1 p2 p3 pc2 : ℕ)
       → ModeLands z m t k → Free z t k → FindsAt place b t k → DoesAt e t2 k2 → ModeLands z (mode_of x) t2 k2 → SpotFine z a → OperandFine z x → t2 < z.bound

@@ -82,7 +82,7 @@ pub chosen_le : (sense : Bool) (a b l : ℕ) → a ≤ l → b ≤ l → choose 
 chosen_le true a b l x y = x
 chosen_le false a b l x y = y
 
--- the first temporary and slot that are free beside a place
+-- the first temporary and slot that are free in addition to a place
 abbrev pub temporary_beside : Place → Bool → ℕ → ℕ → ℕ
 temporary_beside place c t k = free_temporary_at (found place c t k) t
 
@@ -102,7 +102,7 @@ module _ (z : Ground) where
 
   -- ---- objects
 
-  -- where they lie in memory, they are found first
+  -- where they are in memory, they are found first
   abbrev pub FoundAt : Place → Bool → ℕ → ℕ → Type 0
   FoundAt place c t k = object_of place ≡ None → FindsAt z place c t k × SpotFine z (found place c t k)
 

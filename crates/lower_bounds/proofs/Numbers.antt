@@ -1,4 +1,4 @@
--- What the code of expressions takes: nodes, temporaries and room.
+-- The resources that the code of expressions takes: nodes, temporaries and room.
 use Rattle.std.proofs.Common.{◌≡◌, ℕ, zero, suc, ◌+◌, ◌*◌, ◌-◌, ◌<◌, ◌≤◌, ◌^◌, arith}
 
 pub inner : (p e : ℕ) → e ≤ p + e + 1

@@ -1,4 +1,4 @@
--- Elements and rows of what a typed program names have sizes that are words.
+-- Elements and rows of the objects that a typed program names have sizes that are words.
 use Rattle.std.proofs.Common.{◌≡◌, ℕ, zero, suc, ◌<◌, ◌≤◌, ◌^◌, List, [], ◌∷◌, Bool, true, nat_lt, nat_le, Option, Some, None, refl, subst, arith}
 use Rattle.std.specs.Prelude.{slice_get}
 use Rattle.std.specs.List.{list_all}
@@ -71,7 +71,7 @@ small_row T h = by_row (row_type T) h
     by_row (Some (complete t)) h = within (size_of_object t) h.1
     by_row (Some (unknown_size t)) h = omega arith
 
--- ---- what names stand for
+-- ---- the objects that names denote
 
 module _ (p : Program) (f : Function) (of_function : function_is_sized f ≡ true) (of_statics : list_all (λ o. is_sized o.type) p.statics ≡ true) where
   of_text : (o : Option (List ℕ)) → IsRow (row_type (text_type o))

@@ -1,4 +1,4 @@
--- Where lvalues and arrays of a typed program are found: what they name is there.
+-- Where lvalues and arrays of a typed program are found: the objects that they name exist.
 use Rattle.std.proofs.Common.{◌≡◌, ℕ, zero, suc, ◌+◌, ◌<◌, ◌≤◌, List, [], ◌∷◌, length, map, Option, Some, None, Bool, true, false, refl, ap, ◌∙◌, arith}
 use Rattle.std.specs.Prelude.{nat_lt, slice_get}
 use Rattle.std.proofs.lemmas.Option.{slice_get_within}
@@ -46,7 +46,7 @@ some_value (typed.cast u e) = some (value_nodes e)
 some_value (typed.discarded e) = some (value_nodes e)
 some_value (typed.call at callee result used arguments) = some (argument_nodes arguments)
 
--- ---- what a name stands for
+-- ---- the object that a name denotes
 
 abbrev Has : Option DeclaredType → Bool
 Has o = elim o as (λ x. Bool) [ None ↦ false | Some t ↦ true ]
@@ -84,7 +84,7 @@ array_there os n (Some t) e h = (slice_get_within os n t e, ap scalar_type e ∙
 some_length : (n : ℕ) → nat_lt 0 (suc n) ≡ true
 some_length n = grind (arith, nat_tests)
 
--- what has rows is an array
+-- an object that has rows is an array
 rows_by : (t : ObjectType) (e : IntType) (c : Bool) (lengths : List ℕ) → rows_alike t (inner_type e c lengths) ≡ true → nat_lt 0 (length lengths) ≡ true
 rows_by t e c [] h = absurd (differ h)
 rows_by t e c (n ∷ lengths) h = some_length (length lengths)
@@ -121,7 +121,7 @@ module _ (z : Ground) where
   abbrev D : Place → Bool
   D a = in_place z.source a
 
-  -- the name of what lies in memory
+  -- the name of a value in memory
   abbrev pub NamedFine : Place → Type 0
   NamedFine (typed.named at what) = SpotFine z (named_spot what)
   NamedFine (typed.element at array index) = Unit {0}

@@ -211,7 +211,7 @@ module _ (z : Ground) where
         settle z (statement_nodes x + statements_nodes more) 0 (less_room (statement_nodes x + statements_nodes more) (0 + 0))
         (join z (aimed z (λ c. (on i.0 pc2 z.limit rest.forward c.0, c.1, c.2, c.3)) this) rest)
 
-    -- and its labels do not stand beyond its end
+    -- and its labels are not beyond its end
     pub at_within : (all : Statements) (places : List ℕ) (out again back lo hi pc pc2 : ℕ) → statements_are_typed z.source z.function lo hi all ≡ true
         → in_statements z.source all ≡ true → hi ≤ length z.function.objects
         → widest_of all + 1 ≤ z.slots → StandAt z.code z.source z.function all places out again back pc pc2

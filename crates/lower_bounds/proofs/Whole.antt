@@ -76,7 +76,7 @@ sum_le : (size : Function → ℕ) (fs : List Function) → ((k : ℕ) (g : Func
 sum_le size [] each = omega arith
 sum_le size (g ∷ fs) each = more (sum_by size (g ∷ fs)) (size g) (sum_by size fs) (length fs) (sum_by-cons size g fs) (each zero g refl) (sum_le size fs (λ k x e. each (suc k) x e))
 
--- ---- what is typed
+-- ---- typed items
 
 function_typed : (p : typed.Program) (fs : List typed.Function) (k : ℕ) (f : typed.Function) → functions_are_typed p fs ≡ true → slice_get fs k ≡ Some f → function_is_typed p f ≡ true
 function_typed p [] k f h e = absurd (let no_such : ⊥ = cc in no_such)

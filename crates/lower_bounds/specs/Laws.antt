@@ -10,7 +10,7 @@ use Rattle.lower_correct.specs.Bodies.{IsFunctionFor, IsCodeFor}
 abbrev pub CodeIsSound : Type 0
 CodeIsSound = (p : typed.Program) (q : Program) → IsChecked p → types_are_sized p ≡ true → IsCodeFor p q → IsSoundProgram q
 
--- what code of p may name is there in q: the literals and static objects, and at the number of each function one with as many parameters
+-- the names in code of p exist in q: the literals and static objects, and at the number of each function one with as many parameters
 pub record NamesAreThere (p : typed.Program) (q : Program) : Type 0 where
   pub literals : q.literals ≡ p.literals
   pub statics : q.statics ≡ p.statics
@@ -27,6 +27,6 @@ abbrev pub CodeIsBounded : Type 0
 CodeIsBounded = (p : typed.Program) (q : Program) → IsChecked p → IsCodeFor p q
     → (k : ℕ) (f : typed.Function) (g : Function) → slice_get p.functions k ≡ Some f → slice_get q.functions k ≡ Some g → IsCodeOf f g
 
--- it is what lowering is to give
+-- it meets the postcondition of lowering
 abbrev pub CodeIsLowered : Type 0
 CodeIsLowered = (p : typed.Program) (q : Program) → IsChecked p → is_asked p ≡ true → IsCodeFor p q → IsLowered p q

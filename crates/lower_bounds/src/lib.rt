@@ -3,12 +3,12 @@
 
 ghost use Rattle.lower_bounds.specs.Laws.{CodeIsSound, FunctionIsSound, CodeIsBounded, CodeIsLowered};
 
-/// The code names what there is, and has its place.
+/// The code names only existing things, and has its place.
 pub fn code_is_sound()
     ensures { CodeIsSound }
 {}
 
-/// So does the code of one function, wherever what it may name is there.
+/// So does the code of one function, wherever the things that it may name exist.
 pub fn function_is_sound()
     ensures { FunctionIsSound }
 {}

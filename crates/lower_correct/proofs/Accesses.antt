@@ -1,4 +1,4 @@
--- The code reads what lies in memory, and writes to it (ISO/IEC 9899:2011 6.3.2.1, 6.5.16, 6.5.2.4, 6.5.3.1), if it finds it.
+-- The code reads values in memory, and writes to them (ISO/IEC 9899:2011 6.3.2.1, 6.5.16, 6.5.2.4, 6.5.3.1), if it finds the place.
 use Rattle.std.proofs.Common.{◌≡◌, ℕ, ◌+◌, ◌*◌, ◌≤◌, List, [], length, Option, Some, None, Bool, true, false, not, ◌||◌, ℤ, refl, sym, ap, ◌∙◌, subst, arith}
 use Rattle.std.specs.Prelude.{nat_eq, nat_lt, slice_get, option_map}
 use Rattle.srcset.specs.declared.refusal.Pos.{Pos}
@@ -45,7 +45,7 @@ scalar_refers W r u (Some (complete t)) h g =
     let none = no_length t.lengths (right_true (same_type u t.element) (nat_eq (length t.lengths) 0) h) in
     subst (λ y. Refers W r y []) (sym same) (subst (λ l. Refers W r t.element l) none g)
 
--- ---- what a store takes
+-- ---- the operands of a store
 
 held_same : (u : IntType) (v : ℤ) → word_for v ≡ word_for (converted u v) → held_by u (word_for v) ≡ Some (converted u v)
 held_same u v e = ap (held_by u) e ∙ held_word u (converted u v) (converted_fits u v)
@@ -215,7 +215,7 @@ module _ (p : typed.Program) (tf : Function) (call : Calling) (q : Program) (dee
             (holds_store (operand.Temporary t2) w r u cv now2 ws s fine hr there));
       }
 
-  -- what becomes of the value, behind a store
+  -- the use of the value, after a store
   pub store_ends : (e : Expression) (u : IntType) (m : Mode) (t k pc pc2 hi : ℕ) (o : Operand) (x y : ℤ) (before : machine.State) (old now : Scratch)
       (ws : List Call) (s : machine.State)
       → IsFreeFor m t k → Suits p q f m (extent e) → Ends (function_at q f).code m o pc pc2 → HoldsFor m o (word_for y) now s → IsFinal m x y
@@ -229,7 +229,7 @@ module _ (p : typed.Program) (tf : Function) (call : Calling) (q : Program) (dee
   store_ends e u (If sense to) t k pc pc2 hi o x y before old now ws s fr su i h fin b known =
       ends p q f e (If sense to) t k o pc pc2 hi before old now ws x s fr su i (subst (λ z. Holds q f o (word_for z) now s) (sym fin) h) b known
 
-  -- a store, which is undefined in a string literal, and what follows it
+  -- a store, which is undefined in a string literal, and the code after it
   pub write_there : {B : Type 0} (Good2 : B → machine.State → State → Type 0) (hi lo : ℕ) (z : State) (at : Pos) (r : Reference) (v : ℤ) (s : machine.State)
       (go : ℤ → machine.State → Run B) (b : Bool) → nat_lt r.object (length p.literals) ≡ b
       → (nat_lt r.object (length q.literals) ≡ false → Sim q 14 hi lo z Good2 (go v (stored r v s)))
@@ -237,7 +237,7 @@ module _ (p : typed.Program) (tf : Function) (call : Calling) (q : Program) (dee
   write_there Good2 hi lo z at r v s go true e next = tt
   write_there Good2 hi lo z at r v s go false e next = next (ap (λ l. nat_lt r.object (length l)) is.literals ∙ e)
 
-  -- what was found, beside a temporary that is free
+  -- the found place, and a further temporary that is free
   pub found_beside : (a : Place) (c : Bool) (t k j w : ℕ) (r : Reference) (now : Scratch) (s : machine.State) → free_temporary_at (found a c t k) t ≤ j
       → IsAt p q f (found a c t k) r now s → IsAt p q f (found a c t k) r (put_scratch (target.Temporary j) w now) s
   found_beside a c t k j w r now s le h =

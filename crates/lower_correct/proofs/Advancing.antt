@@ -1,4 +1,4 @@
--- The code follows `++` and `--` of what lies in memory (ISO/IEC 9899:2011 6.5.2.4, 6.5.3.1), if it finds it.
+-- The code follows `++` and `--` of values in memory (ISO/IEC 9899:2011 6.5.2.4, 6.5.3.1), if it finds the place.
 use Rattle.std.proofs.Common.{◌≡◌, ℕ, ◌+◌, ◌*◌, ◌≤◌, [], length, Option, Some, None, Bool, true, false, ◌||◌, ℤ, pos, Result, Ok, Err, refl, sym, ap, ◌∙◌, subst, arith}
 use Rattle.std.specs.Prelude.{nat_lt, List}
 use Rattle.srcset.specs.declared.refusal.Pos.{Pos}
@@ -56,7 +56,7 @@ module _ (p : typed.Program) (tf : Function) (call : Calling) (q : Program) (dee
   abbrev node : Moment → Expression
   node moment = typed.stepped at moment so u of a
 
-  -- what is known behind the change
+  -- the facts known after the change
   step_known : (moment : Moment) (n : ℕ) (s : machine.State) (now now2 now5 : Scratch) (x : ℤ) (r : Reference) (w : ℤ) (ws : List Call) (s2 : machine.State)
       → IsValueOf u x → Keeps (place_calls a) t k now now2 → (Keeps (place_calls a) t k now now2 → Keeps (place_calls a) t k now now5)
       → Fine (world p q f ws) s2 → Refers (world p q f ws) r u [] → nat_lt r.object (length q.literals) ≡ false
@@ -71,7 +71,7 @@ module _ (p : typed.Program) (tf : Function) (call : Calling) (q : Program) (dee
       (λ y h. or_left (place_writes a y) (is_object (object_of a) y) h) (λ y h. refl) refl refl hv (omega arith) (omega arith) k1 (keeps_all false t k now2)
       more fine refers hl a1 (after_none writes_none s2)
 
-  -- the new value is stored beside the old one, which is the value
+  -- the new value is stored and the old one kept, which is the value
   aside_ok : (m : Mode) (n pc pc2 : ℕ) (r : Reference) (ov w : ℤ) (s : machine.State) (now now2 now4 : Scratch) (ws : List Call) (s2 : machine.State)
       → IsFreeFor m t k → Suits p q f m u → AltersAside (function_at q f).code (step_operation so) u of spot m j pc pc2
       → now4.temporaries j ≡ Some (word (word_for ov)) → IsAt p q f spot r now4 s2 → Refers (world p q f ws) r u [] → Fine (world p q f ws) s2

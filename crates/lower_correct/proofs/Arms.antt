@@ -24,7 +24,7 @@ use Rattle.lower_correct.proofs.Operators.{same_truth}
 use Rattle.lower_correct.proofs.Choices.{IsSameFor, remode, known_join, first_part}
 
 module _ (p : typed.Program) (call : Calling) (q : Program) (deep f : ℕ) where
-  -- behind the first arm the second is jumped over, unless a jump has led elsewhere
+  -- after the first arm the second is jumped over, unless a jump has led elsewhere
   jump_if : (e : Expression) (sense : Bool) (to t k p3 other pc2 : ℕ) (before : machine.State) (old now : Scratch) (ws : List Call) (v : ℤ) (s : machine.State)
       (z : State) (b : Bool) → meets sense (truth v) ≡ b
       → z ≡ here f (choose b to p3) now ws s → One (function_at q f).code (instruction.Jump pc2) p3 other

@@ -1,4 +1,4 @@
--- The code follows assignments, increments and decrements of what lies in memory (ISO/IEC 9899:2011 6.5.16, 6.5.2.4, 6.5.3.1).
+-- The code follows assignments, increments and decrements of values in memory (ISO/IEC 9899:2011 6.5.16, 6.5.2.4, 6.5.3.1).
 use Rattle.std.proofs.Common.{◌≡◌, ℕ, ◌+◌, ◌*◌, ◌≤◌, List, [], length, Option, Some, None, Bool, true, false, ◌||◌, ℤ, Result, Ok, Err, refl, sym, ap, ◌∙◌, subst, arith}
 use Rattle.std.specs.Prelude.{nat_lt}
 use Rattle.srcset.specs.declared.refusal.Pos.{Pos}
@@ -43,7 +43,7 @@ use Rattle.lower_correct.proofs.Finding.{RefersAs, Found, FindsDo, stays_found, 
 use Rattle.lower_correct.proofs.Accesses.{scalar_refers, can_stay, IsFinal, final_same, with_element, puts_do, store_ends, write_there, found_beside}
 
 module _ (p : typed.Program) (tf : Function) (call : Calling) (q : Program) (deep f : ℕ) (is : IsCode p tf q f) where
-  -- what is known behind a place, perhaps an expression, and a store
+  -- the facts known after a place, perhaps an expression, and a store
   pub known_written : (node : Expression) (c2 : Bool) (w2 : ℕ → Bool) (a : Place) (t k t2 k2 n : ℕ) (s : machine.State) (now now2 now3 now4 : Scratch)
       (x : ℤ) (r : Reference) (u : IntType) (v : ℤ) (ws : List Call) (s2 s3 : machine.State)
       → (calls node ≡ false → place_calls a ≡ false) → (calls node ≡ false → c2 ≡ false) → ((y : ℕ) → writes node y ≡ false → place_writes a y ≡ false)
@@ -177,7 +177,7 @@ module _ (p : typed.Program) (tf : Function) (call : Calling) (q : Program) (dee
       (reaches_on q (here f i.0 now5 ws s) (here f st.pc st.now2 ws s4) st.steps st.cost l.j l.c (running l.u) st.reaches l.reaches))
       (let x = l1.small in let y = st.small in let z = l.within in omega (arith, x, y, z)) (omega arith) l.good)
 
-  -- an operand and a temporary that is free beside it
+  -- an operand and a further temporary that is free
   beside_word : (n : Option ℤ) (x : Option ℕ) (t k w w2 : ℕ) (now : Scratch) (s : machine.State)
       → Holds q f (constant_or n (at_rest x writes_none (pending false t k))) w now s
       → Holds q f (constant_or n (at_rest x writes_none (pending false t k))) w

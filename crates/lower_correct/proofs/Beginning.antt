@@ -1,4 +1,4 @@
--- What a run begins with: the string literals and the objects with static storage (ISO/IEC 9899:2011 5.1.2, 6.4.5p6, 6.7.9p10).
+-- The start of a run: the string literals and the objects with static storage (ISO/IEC 9899:2011 5.1.2, 6.4.5p6, 6.7.9p10).
 use Rattle.std.proofs.Common.{◌≡◌, ℕ, zero, suc, ◌+◌, ◌<◌, ◌^◌, List, [], ◌∷◌, ◌++◌, length, drop, map, Some, true, ◌&&◌, ℤ, pos, refl, sym, ap, ◌∙◌, subst, arith}
 use Rattle.std.specs.Prelude.{nat_le, slice_get}
 use Rattle.std.proofs.lemmas.Int.{ints}

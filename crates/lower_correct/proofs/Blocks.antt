@@ -1,4 +1,4 @@
--- The code follows declarations, blocks and branches, if it follows what they are made of.
+-- The code follows declarations, blocks and branches, if it follows their parts.
 use Rattle.std.proofs.Common.{◌≡◌, ℕ, ◌+◌, ◌*◌, ◌≤◌, List, Option, Some, Bool, true, false, not, ℤ, refl, sym, ap, ◌∙◌, subst, arith}
 use Rattle.ctypes.specs.declared.types.IntType.{IntType}
 use Rattle.ctypes.specs.Types.{IsValueOf, truth, converted}
@@ -148,7 +148,7 @@ module _ (p : typed.Program) (call : Calling) (q : Program) (deep f : ℕ) (resu
   choose_not true x y = refl
   choose_not false x y = refl
 
-  -- a condition, and what follows by its truth
+  -- a condition, and the continuation by its truth
   pub condition_runs : (e : Expression) (last : ℤ → machine.State → Run Flow) (pc p1 p2 other end out again : ℕ)
       → One (function_at q f).code instruction.Nothing pc p1 → IntoDoes p call q deep f e (If false other) 0 0 p1 p2
       → ((v : ℤ) (s2 : machine.State) (now2 : Scratch) (before : machine.State) (ws : List Call) → s2.clock ≤ deep → Fine (world p q f ws) s2
@@ -169,7 +169,7 @@ module _ (p : typed.Program) (call : Calling) (q : Program) (deep f : ℕ) (resu
       (g.at ∙ ap (λ n. here f n g.now ws s2) (choose_not (truth v) other p2))
       (next v s2 g.now s ws (omega (arith, le, lt, lt2)) g.known.fine (all_after _ s s2 (after_since _ s s2 n g.known.after)))))
 
-  -- what runs from an earlier state
+  -- a run from an earlier state
   run_since : (ra : machine.State → Run Flow) (pc end out again hi : ℕ) (before s : machine.State) (now : Scratch) (ws : List Call)
       → Runs p call q deep f result ra pc end out again → s.clock ≤ deep → Fine (world p q f ws) s → After (first_automatic q) writes_all before s
       → 60 * s.clock ≤ hi → Sim q 14 hi s.clock (here f pc now ws s) (FlowGood p call q deep f result end out again before ws) (ra s)
@@ -194,7 +194,7 @@ module _ (p : typed.Program) (call : Calling) (q : Program) (deep f : ℕ) (resu
           there p call q deep f result end out again (60 * s2.clock + 74) before ws Normal s2 (here f end now2 ws s2) (omega arith)
           (record { now = now2; at = refl; fine = fine; after = after })
 
-  -- behind the first arm, unless it was left
+  -- after the first arm, unless it was left
   skip : (p3 other end out again : ℕ) (before : machine.State) (ws : List Call) → One (function_at q f).code (instruction.Jump end) p3 other
       → (flow : Flow) (s : machine.State) (z : State) → FlowGood p call q deep f result p3 out again before ws flow s z
       → GoesTo q 14 (60 * s.clock + 88) s.clock z (FlowGood p call q deep f result end out again before ws flow) s

@@ -58,7 +58,7 @@ module _ (p : typed.Program) (call : Calling) (q : Program) (deep f : ℕ) where
     known = next g.now g.known;
   }
 
-  -- one part was evaluated, or two, one behind the other
+  -- one part was evaluated, or two, one after the other
   pub known_more : {W : World} (e a : Expression) (t k n : ℕ) (s : machine.State) (now now2 : Scratch) (v z : ℤ) (s2 : machine.State) → (calls e ≡ false → calls a ≡ false)
       → ((x : ℕ) → writes e x ≡ false → writes a x ≡ false)
       → rests_in e ≡ None → constant_of e ≡ None → IsValueOf (extent e) z → Known W a t k (record s { clock = n }) now v s2 now2
@@ -95,7 +95,7 @@ module _ (p : typed.Program) (call : Calling) (q : Program) (deep f : ℕ) where
   same_for (To g) v = refl
   same_for (If sense to) v = refl
 
-  -- ---- the comma operator (6.5.17), and what is discarded
+  -- ---- the comma operator (6.5.17), and discarded values
 
   pub sequence_does : (a b : Expression) (m : Mode) (t k pc p1 p2 pc2 : ℕ) → One (function_at q f).code instruction.Nothing pc p1
       → IntoDoes p call q deep f a Nowhere t k p1 p2
@@ -230,7 +230,7 @@ module _ (p : typed.Program) (call : Calling) (q : Program) (deep f : ℕ) where
         known_more (typed.one_true a b) a t k n s now now2 v (pos 1) s2 (or_left (calls a) (calls b)) (λ x h. or_left (writes a x) (writes b x) h) refl refl
         (truth_fits true) ka
 
-    -- the first part, and what follows it by its truth
+    -- the first part, and the continuation by its truth
     pub first_part : (e : Expression) (m m1 : Mode) (pc p1 p2 pc2 : ℕ) (last : ℤ → machine.State → Run ℤ) (s : machine.State) (now : Scratch) (ws : List Call)
         → One (function_at q f).code instruction.Nothing pc p1
         → IntoDoes p call q deep f a m1 t k p1 p2 → s.clock ≤ deep → Fine (world p q f ws) s

@@ -20,7 +20,7 @@ use Rattle.lower_correct.proofs.Standing.{Scratch, here, world}
 use Rattle.lower_correct.proofs.Counting.{adds_one, less_is}
 use Rattle.lower_correct.proofs.Turning.{Array, reached, Counts, Turned, turn}
 
--- one more tick of what comes first, at whatever state has done the same
+-- one more tick of the first part, at any state that has done the same
 pub tick_then : {A B : Type 0} (q : Program) (Good : B → machine.State → State → Type 0) (m : ℕ) (t : State) (s : machine.State) (extra : ℕ)
     (inner : machine.State → Run A) (go : A → machine.State → Run B)
     → t.history ≡ s.history → t.input ≡ s.input

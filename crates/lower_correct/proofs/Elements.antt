@@ -1,4 +1,4 @@
--- Elements by their numbers, in the order in which they lie: where they are, and trees that have the same ones (ISO/IEC 9899:2011 6.5.2.1p3).
+-- Elements by their numbers, in memory order: where they are, and trees that have the same ones (ISO/IEC 9899:2011 6.5.2.1p3).
 use Rattle.std.proofs.Common.{◌≡◌, ℕ, zero, suc, ◌+◌, ◌-◌, ◌*◌, ◌<◌, ◌≤◌, List, [], ◌∷◌, ◌++◌, Some, Bool, true, false, refl, ap, ◌∙◌, subst, arith}
 use Rattle.std.specs.Prelude.{option_map, nat_lt, if◌then◌else◌}
 use Rattle.std.proofs.lemmas.Bool.Decides.{nat_tests}
@@ -52,7 +52,7 @@ next_number k p = omega arith
 from_zero : (p : ℕ) → 0 + p ≡ p
 from_zero p = omega arith
 
--- in the first part, or behind it
+-- in the first part, or after it
 one_of_row : (t : IntType) (n : ℕ) (l : List ℕ) (part : Tree) (row : Row) (k i : ℕ) → elements_of part ≡ elements_in l → i < suc n * elements_in l
     → (i < elements_in l → PathTo l part i) → ((j : ℕ) → j < n * elements_in l → PathIn n l row (suc k) j) → PathIn (suc n) l (and_part part row) k i
 one_of_row t n l part row k i size lt here more = by_test (nat_lt i (elements_of part)) refl
@@ -129,7 +129,7 @@ mutual
       omega (arith, more, size, sum)
 
 mutual
-  -- element c of a part is the one that lies c elements behind the part's first one
+  -- element c of a part is the one that is c elements after the part's first one
   pub through : (t : IntType) (path l rest : List ℕ) (tree sub : Tree) (c : ℕ) (inner : List ℕ) → HasShape t l tree → Leads path l rest
       → at_path (Some tree) path ≡ Some sub → path_of sub c ≡ Some inner → c < elements_in rest → path_of tree (first_of tree path + c) ≡ Some (path ++ inner)
   through t [] l rest tree sub c inner h lead at is lt =

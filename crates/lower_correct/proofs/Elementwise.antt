@@ -19,7 +19,7 @@ abbrev mutual
   value_no_in no_parts i = None
   value_no_in (and_part t row) i = if nat_lt i (elements_of t) then value_no t i else value_no_in row (i - elements_of t)
 
--- in the first part, and behind it
+-- in the first part, and after it
 in_first : (part : Tree) (row : Row) (i : ℕ) → i < elements_of part → value_no_in (and_part part row) i ≡ value_no part i
 in_first part row i lt = if_true (nat_lt i (elements_of part)) (value_no part i) (value_no_in row (i - elements_of part)) (is_less i (elements_of part) lt)
 
@@ -94,7 +94,7 @@ mutual
       ∙ (ap (value_no_in (change_part row j (put_at path new))) (let z : elements_of part + first_in row j path + c - elements_of part ≡ first_in row j path + c = omega arith in z)
       ∙ put_inside_in t n j path l rest row new c h.1 (omega (arith, lt)) lead g small)
 
--- before it, or behind it
+-- before it, or after it
 abbrev pub IsOutside : (i first count : ℕ) → Type 0
 IsOutside i first count = (i < first) ⊎ (first + count ≤ i)
 

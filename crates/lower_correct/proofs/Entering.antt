@@ -1,4 +1,4 @@
--- What a call begins with: its parameters, and the objects of its body (ISO/IEC 9899:2011 6.9.1p9, p10).
+-- The start of a call: its parameters, and the objects of its body (ISO/IEC 9899:2011 6.9.1p9, p10).
 use Rattle.std.proofs.Common.{◌≡◌, ℕ, zero, suc, ◌+◌, ◌<◌, ◌≤◌, List, [], ◌∷◌, ◌++◌, length, take, map, Option, Some, None, Bool, true, ◌&&◌, ℤ, refl, sym, ap, ◌∙◌, subst, arith}
 use Rattle.std.specs.Prelude.{nat_eq, slice_get, if◌then◌else◌}
 use Rattle.std.specs.List.{list_all}
@@ -157,7 +157,7 @@ objects_count W (number u ∷ ps) (x ∷ objects) (Referred r ∷ passed) t m hf
 objects_count W (elements u ∷ ps) objects [] t m hf h = absurd h
 objects_count W (elements u ∷ ps) objects (Number v ∷ passed) t m hf h = absurd h
 
--- ---- what was referred to still is
+-- ---- objects that were referred to still live
 
 abbrev pub entered_world : World → List ObjectType → List ObjectType → World
 entered_world W objects rows = record { texts = W.texts; first = W.first; outer = all_types W; own = objects; rows = rows }
@@ -194,7 +194,7 @@ pub length_joined : {A : Type 0} (xs ys : List A) → length (xs ++ ys) ≡ leng
 length_joined [] ys = omega arith
 length_joined (x ∷ xs) ys = let e = length_joined xs ys in omega (arith, e)
 
--- what is there before it
+-- the objects that lived before it
 pub record Lives (W : World) (s : machine.State) : Type 0 where
   pub few : length W.texts ≤ W.first
   pub low : W.first ≤ length (all_types W)

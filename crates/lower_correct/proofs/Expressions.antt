@@ -48,7 +48,7 @@ zero_fits t = subst (IsValueOf (or_int t)) (zero_converted (or_int t)) (converte
 
 module _ (p : typed.Program) (tf : Function) (call : Calling) (q : Program) (deep f : ℕ) (same : IsCode p tf q f)
     (ok : CallsDo p call q deep f) where
-  -- ---- parts that are typed and asked for
+  -- ---- parts that are typed and whose simulation is needed
 
   pub wanted_any : (m : Mode) (b : Bool) → b ≡ true → Wanted p call q deep f m b
   wanted_any Nowhere b h = tt

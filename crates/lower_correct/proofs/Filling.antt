@@ -1,4 +1,4 @@
--- What initialisers of arrays leave in the store (ISO/IEC 9899:2011 6.7.9p10, p14, p21): rows of zeros and characters are elements that were
+-- The store after initialisers of arrays (ISO/IEC 9899:2011 6.7.9p10, p14, p21): rows of zeros and characters are elements that were
 -- written one after the other.
 use Rattle.std.proofs.Common.{◌≡◌, ℕ, zero, suc, ◌+◌, ◌-◌, ◌*◌, ◌≤◌, List, [], ◌∷◌, ◌++◌, Some, ℤ, pos, refl, sym, ap, ◌∙◌, subst, arith}
 use Rattle.std.specs.Prelude.{slice_get}

@@ -1,4 +1,4 @@
--- The code finds lvalues and arrays that lie in memory (ISO/IEC 9899:2011 6.3.2.1, 6.5.2.1), if it follows their indices.
+-- The code finds lvalues and arrays in memory (ISO/IEC 9899:2011 6.3.2.1, 6.5.2.1), if it follows their indices.
 use Rattle.std.proofs.Common.{◌≡◌, inl, inr, ℕ, zero, suc, ◌+◌, ◌*◌, ◌<◌, ◌≤◌, List, [], ◌∷◌, length, map, Option, Some, None, Bool, true, false, ◌||◌, ℤ, pos, negsuc, refl, sym, ap, ◌∙◌, subst, arith}
 use Rattle.std.specs.Prelude.{◌%◌, ◌^◌, nat_lt, slice_get, option_map}
 use Rattle.std.proofs.lemmas.Int.{ints}
@@ -37,7 +37,7 @@ use Rattle.lower_correct.proofs.Goods.{Keeps, keeps_all, keeps_on, free_more, Go
 use Rattle.lower_correct.proofs.Leaves.{or_left, or_right}
 use Rattle.lower_correct.proofs.Operators.{DoesAt}
 
--- ---- what a type says of a reference
+-- ---- the type's constraints on a reference
 
 abbrev pub RefersAs : World → Reference → Option DeclaredType → Type 0
 RefersAs W r None = ⊥
@@ -162,7 +162,7 @@ module _ (p : typed.Program) (tf : Function) (call : Calling) (q : Program) (dee
         memory = inl (let z : length p.literals + n < length q.literals + length q.statics = omega (arith, lt, count) in z);
       }
 
-  -- what a name or a string literal designates
+  -- the object that a name or a string literal designates
   record Named (what : Storage) (now : Scratch) (ws : List Call) (s : machine.State) : Type 0 where
     holds : IsAt p q f (named_spot what) (designated p what s) now s
     refers : RefersAs (world p q f ws) (designated p what s) (type_of_storage p tf what)
@@ -212,7 +212,7 @@ module _ (p : typed.Program) (tf : Function) (call : Calling) (q : Program) (dee
       (λ t e. fine.arrays n t (ap (λ o. slice_get (rows_of (parameters_of o)) n) is.function ∙ e)) in
       record { holds = h.0; refers = subst (RefersAs (world p q f ws) (or_first (slice_get s.arrays n))) (sym same) h.1 }
 
-  -- ---- what is found
+  -- ---- the result of finding
 
   pub record Found (a : Place) (c : Bool) (t k pc2 : ℕ) (before : machine.State) (old : Scratch) (ws : List Call) (r : Reference) (s : machine.State)
       (z : State) : Type 0 where
@@ -295,7 +295,7 @@ module _ (p : typed.Program) (tf : Function) (call : Calling) (q : Program) (dee
   is_aside true t k = tt
   is_aside false t k = tt
 
-  -- an operand and a temporary that is free beside it
+  -- an operand and a further temporary that is free
   beside : (n : Option ℤ) (x : Option ℕ) (t k w : ℕ) (r : Reference) (now : Scratch) (s : machine.State)
       → Holds q f (constant_or n (at_rest x writes_none (pending false t k))) w now s
       → Holds q f (constant_or n (at_rest x writes_none (pending false t k))) w

@@ -1,4 +1,4 @@
--- The code follows statements, if it follows what they are made of.
+-- The code follows statements, if it follows their parts.
 use Rattle.std.proofs.Common.{◌≡◌, ℕ, zero, suc, ◌+◌, ◌*◌, ◌≤◌, List, [], Option, Some, None, Bool, true, inl, inr, ℤ, refl, sym, ap, ◌∙◌, subst, arith}
 use Rattle.std.specs.Prelude.{slice_get}
 use Rattle.ctypes.specs.declared.types.IntType.{IntType}
@@ -65,7 +65,7 @@ fine_renewed W x s h = record {
 after_renewed : {first : ℕ} (objects : List ObjectType) (x : ℕ) (s : machine.State) → After first writes_all s (renewed objects x s)
 after_renewed objects x s = after_put writes_all x (new_object (slice_get objects x)) s refl
 
--- what the abstract machine makes indeterminate, the code forgets
+-- the code forgets each object that the abstract machine makes indeterminate
 pub record Forgets (W : World) (n k : ℕ) (s : machine.State) : Type 0 where
   pub same : (record s { store = forgotten W.own s.base n k s.store }) ≡ all_renewed W.own n k s
   pub fine : Fine W (all_renewed W.own n k s)
@@ -87,7 +87,7 @@ all_forgotten W n (suc k) s fine =
 module _ (p : typed.Program) (call : Calling) (q : Program) (deep f : ℕ) (result : Option IntType) where
   -- ---- where a statement leaves the code
 
-  -- it stands at pc, whatever its temporaries and slots
+  -- it is at pc, whatever its temporaries and slots
   pub record StandsAt (pc : ℕ) (before : machine.State) (ws : List Call) (s : machine.State) (z : State) : Type 0 where
     pub now : Scratch
     pub at : z ≡ here f pc now ws s
@@ -147,7 +147,7 @@ module _ (p : typed.Program) (call : Calling) (q : Program) (deep f : ℕ) (resu
             after_on writes_all writes_all writes_all a b s (λ x e. e) (λ x e. e) h g.after;
       }
 
-  -- a value's own account of what it leaves is enough
+  -- the precise account of what a value leaves implies the weakest one
   pub all_after : (w : ℕ → Bool) (a b : machine.State) → After (first_automatic q) w a b → After (first_automatic q) writes_all a b
   all_after w a b h = record { base = h.base; arrays = h.arrays; below = h.below; still = λ x e. absurd (differ (sym e)) }
 

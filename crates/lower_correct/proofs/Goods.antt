@@ -1,4 +1,4 @@
--- What holds behind the code of an expression, and how its end brings it about.
+-- The postcondition of the code of an expression, and how its end establishes it.
 use Rattle.std.proofs.Common.{◌≡◌, ℕ, ◌+◌, ◌*◌, ◌<◌, ◌≤◌, List, Option, Some, None, Bool, true, false, not, ℤ, refl, ap, ◌∙◌, subst, arith}
 use Rattle.std.specs.Prelude.{if◌then◌else◌, slice_get, option_map}
 use Rattle.ctypes.specs.declared.types.IntType.{IntType}
@@ -41,7 +41,7 @@ keeps_on c c1 c2 t k t1 k1 t2 k2 a b z h1 h2 l1 l2 l3 l4 x y = record {
   kept = λ i lt. y.kept i (omega (arith, lt, l4)) ∙ x.kept i (omega (arith, lt, l3));
 }
 
--- a target that only what may write from t and k on writes to
+-- a target that is written to only by code that may write from t and k on
 abbrev pub IsFree : Target → ℕ → ℕ → Type 0
 IsFree (target.Temporary j) t k = t ≤ j
 IsFree (target.Kept j) t k = k ≤ j
@@ -95,7 +95,7 @@ lands Nowhere b pc2 = pc2
 lands (To g) b pc2 = pc2
 lands (If sense to) b pc2 = choose (meets sense b) to pc2
 
--- ---- what is known of the value
+-- ---- the facts known of the value
 
 -- the object that has it
 abbrev pub RestsIn : Option ℕ → ℤ → machine.State → Type 0
@@ -155,7 +155,7 @@ module _ (p : typed.Program) (q : Program) (f : ℕ) where
   target_suits (To g) t u h = h
   target_suits (If sense to) t u h = tt
 
-  -- the code stands behind the expression, whose value went where it should
+  -- the code is after the expression, whose value went to its destination
   pub record Good (e : Expression) (m : Mode) (t k pc2 : ℕ) (before : machine.State) (old : Scratch) (ws : List Call) (v : ℤ) (s : machine.State) (u : State) :
       Type 0 where
     pub now : Scratch
@@ -276,7 +276,7 @@ module _ (p : typed.Program) (q : Program) (f : ℕ) where
       at_written true false = tt
       at_written false b = tt
 
-  -- the code stands behind an expression whose value waits in o
+  -- the code is after an expression whose value waits in o
   pub record Held (e : Expression) (o : Operand) (t k pc2 : ℕ) (before : machine.State) (old : Scratch) (ws : List Call) (v : ℤ) (s : machine.State)
       (u : State) : Type 0 where
     pub now : Scratch

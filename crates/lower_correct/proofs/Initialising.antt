@@ -137,7 +137,7 @@ module _ (p : typed.Program) (tf : Function) (call : Calling) (q : Program) (dee
 
   -- ---- arrays
 
-  -- what may take no tick, which leaves a few instructions to what comes next
+  -- a part that may take no tick, which leaves a few instructions to the next part
   abbrev RestAt : (machine.State → Run (Unit {0})) → (b pc pc2 : ℕ) → Type 0
   RestAt r b pc pc2 = (s : machine.State) (now : Scratch) (ws : List Call) → s.base ≡ b → s.clock ≤ deep → Fine (world p q f ws) s
       → Sim q 14 (60 * s.clock + 14) s.clock (here f pc now ws s) (λ u. StandsAt p call q deep f tf.type.result pc2 s ws) (r s)
@@ -179,7 +179,7 @@ module _ (p : typed.Program) (tf : Function) (call : Calling) (q : Program) (dee
       (db s2 g.now ws (g.after.base ∙ eb) (omega (arith, le, lt)) g.fine)))
 
   module _ (n : ℕ) (o : ObjectType) (is : IsArray q f n o) (sizes_up : 0 < elements_in o.lengths) where
-    -- what may begin anywhere in it
+    -- a part that may begin anywhere in it
     abbrev part_at : ℕ → List ℕ → Reference
     part_at b path = record { object = b + n; path = path }
 

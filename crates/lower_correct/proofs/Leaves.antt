@@ -156,7 +156,7 @@ module _ (p : typed.Program) (call : Calling) (q : Program) (deep f : ℕ) where
   takes_converted (target.Kept j) u v h r = tt
   takes_converted (target.Object x) u v h r = (u, h, subst (λ z. is_word_of u (word_for z) ≡ true) (sym (converts_again u v r)) (converted_is_word u v))
 
-  -- the code stands behind an expression whose value, converted, went to g
+  -- the code is after an expression whose value, converted, went to g
   pub record Converted (e : Expression) (u : IntType) (g : Target) (t k pc2 : ℕ) (before : machine.State) (old : Scratch) (ws : List Call) (v : ℤ)
       (s : machine.State) (z : State) : Type 0 where
     pub now : Scratch
@@ -222,7 +222,7 @@ module _ (p : typed.Program) (call : Calling) (q : Program) (deep f : ℕ) where
 
   -- ---- objects that are written to
 
-  -- the state where object x has just got v, and what becomes of it
+  -- the state where object x has just got v, and the use of the value
   pub write_ends : (e : Expression) (at : Pos) (x : ℕ) (u : IntType) (m : Mode) (t k pc pc2 hi b w : ℕ) (before : machine.State) (old now : Scratch)
       (ws : List Call) (v : ℤ) (s : machine.State) (z : State)
       → IsNumber (function_at q f).objects x u → IsFreeFor m t k → Suits p q f m (extent e) → Ends (function_at q f).code m (operand.Object x) pc pc2 → s.base ≡ b

@@ -1,4 +1,4 @@
--- The code follows loops (ISO/IEC 9899:2011 6.8.5), if it follows what they are made of.
+-- The code follows loops (ISO/IEC 9899:2011 6.8.5), if it follows their parts.
 use Rattle.std.proofs.Common.{◌≡◌, ℕ, zero, suc, ◌+◌, ◌*◌, ◌≤◌, List, Option, None, Bool, true, false, ℤ, pos, refl, sym, ap, arith}
 use Rattle.ctypes.specs.declared.types.IntType.{IntType}
 use Rattle.ctypes.specs.Types.{truth}
@@ -28,7 +28,7 @@ module _ (p : typed.Program) (call : Calling) (q : Program) (deep f : ℕ) (resu
   join_after : (a b z : machine.State) → After (first_automatic q) writes_all a b → After (first_automatic q) writes_all b z → After (first_automatic q) writes_all a z
   join_after a b z h g = after_on writes_all writes_all writes_all a b z (λ x e. e) (λ x e. e) h g
 
-  -- the code stands at `top` where a test is true, else at `end`
+  -- the code is at `top` where a test is true, else at `end`
   pub record TestGood (top end : ℕ) (before : machine.State) (ws : List Call) (v : ℤ) (s : machine.State) (z : State) : Type 0 where
     pub now : Scratch
     pub at : z ≡ here f (choose (truth v) top end) now ws s
@@ -69,7 +69,7 @@ module _ (p : typed.Program) (call : Calling) (q : Program) (deep f : ℕ) (resu
 
   module _ (rt rs : machine.State → Run ℤ) (rb : machine.State → Run Flow) (top next test end out again : ℕ) (dt : TestDoes rt test top end)
       (db : Runs p call q deep f result rb top next end next) (ds : EffectDoes rs next test) where
-    -- behind the body: the step, and the test again
+    -- after the body: the step, and the test again
     step_runs : (go : machine.State → Run Flow) (k : ℕ) (before : machine.State) (ws : List Call)
         → ((s : machine.State) (now : Scratch) → s.clock ≤ k → s.clock ≤ deep → Fine (world p q f ws) s → After (first_automatic q) writes_all before s
         → Sim q 14 (60 * s.clock + 15) s.clock (here f test now ws s) (FlowGood p call q deep f result end out again before ws) (go s))

@@ -1,4 +1,4 @@
--- What one instruction does that loads, stores, or makes a reference.
+-- The effect of one instruction that loads, stores, or makes a reference.
 use Rattle.std.proofs.Common.{◌≡◌, ℕ, zero, suc, ◌+◌, ◌*◌, ◌<◌, List, [], ◌∷◌, ◌++◌, length, map, Option, Some, None, true, false, not, ◌&&◌, ℤ, pos, refl, sym, ap, ◌∙◌, subst, arith}
 use Rattle.std.specs.Prelude.{◌==◌, nat_lt, slice_get, option_map, if◌then◌else◌}
 use Rattle.std.proofs.lemmas.Int.{ints}
@@ -58,7 +58,7 @@ elements_below q (c ∷ ws) =
 same_itself : (t : IntType) → same_type t t ≡ true
 same_itself t = grind (arith, nat_tests)
 
--- ---- what a reference leads to
+-- ---- the target of a reference
 
 pub tree_there : (W : World) (r : Reference) (t : IntType) (l : List ℕ) (s : machine.State) → Fine W s → Refers W r t l → Sub t l (tree_at s.store r)
 tree_there W r t l s fine h =
@@ -93,7 +93,7 @@ pub length_there : (W : World) (r : Reference) (t : IntType) (n : ℕ) (rest : L
 length_there W r t n rest s fine h =
     let sub = tree_there W r t (n ∷ rest) s fine h in ap length_of sub.is ∙ length_is t n rest sub.tree sub.has
 
--- ---- what an element holds
+-- ---- the value of an element
 
 pub held_word : (u : IntType) (v : ℤ) → IsValueOf u v → held_by u (word_for v) ≡ Some v
 held_word ty.Bool (pos zero) h = refl
@@ -234,7 +234,7 @@ module _ (p : typed.Program) (q : Program) (f : ℕ) where
       ∙ (ap (λ b. where_true b (gives q g z (reference r2))) sized
       ∙ (given_reference g pc r2 now ws s hg ∙ ap (λ n. running (here f n (put_reference g r2 now) ws s)) o.next))))))
 
-  -- the element `count` elements behind the first one that a reference leads to, in an object of these lengths
+  -- the element `count` elements after the first one that a reference leads to, in an object of these lengths
   pub does_element : (t : IntType) (g : Target) (x y : Operand) (r : Reference) (rest : List ℕ) (tree : Tree) (i : ℕ) (path : List ℕ) (pc pc2 : ℕ) (now : Scratch)
       (ws : List Call) (s : machine.State)
       → One (function_at q f).code (instruction.Element t g x y) pc pc2 → IsAt (place.At x) r now s → Holds q f y i now s

@@ -37,7 +37,7 @@ use Rattle.lower_correct.proofs.Steps.{Reaches, reaches_on, GoesTo, goes}
 use Rattle.lower_correct.proofs.Standing.{Scratch, here, put_scratch, set_same, put_state, Takes, Holds, does_compute, does_branch, world}
 use Rattle.lower_correct.proofs.Goods.{Keeps, keeps_put, IsFreeFor, meets, Known, known_with, Suits, takes, target_suits, Good, follows}
 
--- ---- what operations give
+-- ---- the results of operations
 
 same_ok : (r : Result ℤ Undef) (v w : ℤ) → r ≡ Ok v → r ≡ Ok w → v ≡ w
 same_ok r v w e g = let h : Ok v ≡ Ok w = sym e ∙ g in cc
@@ -192,7 +192,7 @@ module _ (p : typed.Program) (q : Program) (f : ℕ) where
   computes_do op.BitOr u g x y t a b w pc pc2 now ws s h ra rb i hx hy e k =
       direct operation.Or (reading_of u) g x y t (word_for a) (word_for b) (word_for w) pc pc2 now ws s i hx hy (word_operated operation.Or u a b w h ra rb e) k
 
-  -- an operation and what becomes of its value
+  -- an operation and the use of its value
   pub then_does : (e : Expression) (o : BinOp) (u : IntType) (m : Mode) (x y : Operand) (t k : ℕ) (a b w : ℤ) (pc pc2 hi : ℕ) (before : machine.State)
       (old now : Scratch) (ws : List Call) (s : machine.State)
       → is_wide u ≡ true → Ranged a → Ranged b → IsFreeFor m t k → Suits p q f m (extent e) → Then (function_at q f).code o (reading_of u) m x y t pc pc2

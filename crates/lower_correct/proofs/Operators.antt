@@ -130,7 +130,7 @@ equals_zero (pos (suc n)) = grind (arith, nat_tests, ints)
 equals_zero (negsuc n) = refl
 
 module _ (p : typed.Program) (call : Calling) (q : Program) (deep f : ℕ) where
-  -- the code follows an expression for each use, wherever it stands
+  -- the code follows an expression for each use, at every place
   abbrev pub DoesAt : Expression → ℕ → ℕ → Type 0
   DoesAt e t k = (m : Mode) (a z : ℕ) → IsFreeFor m t k → Suits p q f m (extent e) → Into (function_at q f).code (sizes p f) e m t k a z
       → IntoDoes p call q deep f e m t k a z
@@ -158,7 +158,7 @@ module _ (p : typed.Program) (call : Calling) (q : Program) (deep f : ℕ) where
 
   -- ---- one operand
 
-  -- an operand and what follows it, in one tick
+  -- an operand and its continuation, in one tick
   pub one_operand : (e : Expression) (t k pc p1 p2 : ℕ) (Result2 : ℤ → machine.State → State → Type 0) (last : ℤ → machine.State → Run ℤ) (s : machine.State)
       (now : Scratch) (ws : List Call) → DoesAt e t k
       → One (function_at q f).code instruction.Nothing pc p1 → Into (function_at q f).code (sizes p f) e (mode_of (operand_of e t k)) t k p1 p2 → s.clock ≤ deep
@@ -182,7 +182,7 @@ module _ (p : typed.Program) (call : Calling) (q : Program) (deep f : ℕ) where
       let h = held p q f e writes_none false t k p2 s1 now ws v s2 z good in
       sim_move q 14 Result2 (60 * s2.clock + 74) s2.clock z (here f p2 h.now ws s2) (last v s2) h.at (next n v s2 h.now h.holds h.known)))
 
-  -- what is known of a value is known of one made of it
+  -- the facts known of a value hold of one made of it
   pub known_of : {W : World} (e e2 : Expression) (t k n : ℕ) (s : machine.State) (now now2 : Scratch) (v w : ℤ) (s2 : machine.State) → calls e2 ≡ calls e
       → ((x : ℕ) → writes e2 x ≡ writes e x) → rests_in e2 ≡ None → constant_of e2 ≡ None
       → IsValueOf (extent e2) w → Known W e t k (record s { clock = n }) now v s2 now2

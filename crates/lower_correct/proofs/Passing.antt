@@ -1,4 +1,4 @@
--- The code follows arguments and calls (ISO/IEC 9899:2011 6.5.2.2), if it follows what they are made of.
+-- The code follows arguments and calls (ISO/IEC 9899:2011 6.5.2.2), if it follows their parts.
 use Rattle.std.proofs.Common.{◌≡◌, ℕ, suc, ◌+◌, ◌*◌, ◌≤◌, List, [], Option, Some, None, Bool, true, false, ◌||◌, ℤ, pos, refl, sym, ap, ◌∙◌, subst, arith}
 use Rattle.std.specs.Prelude.{◌∷◌, length}
 use Rattle.srcset.specs.declared.refusal.Pos.{Pos}
@@ -239,7 +239,7 @@ module _ (p : typed.Program) (call : Calling) (q : Program) (deep f : ℕ) where
   Gave result None m = Unit {0}
   Gave result (Some v) m = IsValueOf (or_int result) v × (m 0 ≡ Some (word (word_for v)))
 
-  -- behind a call: all is as it was, but for the temporaries
+  -- after a call: all is as it was, but for the temporaries
   pub record CallGood (pc2 : ℕ) (kept : Values) (ws : List Call) (before : machine.State) (result : Option IntType) (o : Option ℤ) (s : machine.State)
       (z : State) : Type 0 where
     pub temporaries : Values
@@ -248,7 +248,7 @@ module _ (p : typed.Program) (call : Calling) (q : Program) (deep f : ℕ) where
     pub fine : Fine (world p q f ws) s
     pub after : After (first_automatic q) writes_none before s
 
-  -- what a call has to do, from the instruction that enters the function
+  -- the property that a call needs, from the instruction that enters the function
   abbrev pub CallsDo : Type 0
   CallsDo = (g : ℕ) (type : FunctionType) (passed : List Passed) (s : machine.State) (now : Scratch) (ws : List Call) (pc pc2 : ℕ)
       → callee_type p (typed.function g) ≡ Some type → s.clock ≤ deep → Fine (world p q f ws) s
@@ -265,7 +265,7 @@ module _ (p : typed.Program) (call : Calling) (q : Program) (deep f : ℕ) where
     abbrev node : Expression
     node = typed.call at callee result used args
 
-    -- what is known behind the call, of its value
+    -- the facts known of its value after the call
     pub called_known : (ws : List Call) (n : ℕ) (s : machine.State) (now now2 now3 : Scratch) (v : ℤ) (s2 s3 : machine.State)
         → After (first_automatic q) (arguments_write args) (record s { clock = n }) s2 → Keeps (arguments_call args) 0 k now now2
         → After (first_automatic q) writes_none s2 s3 → Fine (world p q f ws) s3 → ((i : ℕ) → now3.kept i ≡ now2.kept i) → IsValueOf (or_int result) v
@@ -299,7 +299,7 @@ module _ (p : typed.Program) (call : Calling) (q : Program) (deep f : ℕ) where
         at_mode (To g) w i = absurd (differ w)
         at_mode (If sense to) w i = absurd (differ w)
 
-    -- the arguments, and then what the callee is
+    -- the arguments, and then the callee
     pub arguments_do : (ps : List ParameterType) (pc p1 p2 pc2 : ℕ) (last : List Passed → machine.State → Run ℤ) (s : machine.State) (now : Scratch)
         (ws : List Call) → One (function_at q f).code instruction.Nothing pc p1
         → RowDoes ps args 0 k p1 p2 → s.clock ≤ deep → Fine (world p q f ws) s

@@ -1,4 +1,4 @@
--- Reads and writes, by whether the place is an operand or lies in memory.
+-- Reads and writes, by whether the place is an operand or is in memory.
 use Rattle.std.proofs.Common.{◌≡◌, ℕ, Bool, true, false, ◌&&◌, refl, sym, subst}
 use Rattle.std.specs.Prelude.{slice_get}
 use Rattle.srcset.specs.declared.refusal.Pos.{Pos}

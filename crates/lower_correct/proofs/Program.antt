@@ -239,7 +239,7 @@ module _ (p : typed.Program) (q : Program) (typed_well : is_typed p ≡ true) (a
             after = l.after;
           })
 
-      -- the definition's ticks, the body, and what is left at its end
+      -- the definition's ticks, the body, and the state at its end
       body_does : (s : machine.State) (ws : List Call) → s.clock ≤ suc deep → Fine (world p q g ws) s
           → Sim q 84 (60 * s.clock + 16) s.clock (here g 0 fresh ws s) (λ flow. AtReturn s ws (value_left (nat_eq g p.main) flow)) (body_of p call f s)
       body_does s ws le fine =

@@ -27,7 +27,7 @@ Leads [] l rest = l ≡ rest
 Leads (i ∷ path) [] rest = ⊥
 Leads (i ∷ path) (n ∷ l) rest = (i < n) × Leads path l rest
 
--- ---- what a path leads to
+-- ---- the target of a path
 
 pub record Sub (t : IntType) (l : List ℕ) (o : Option Tree) : Type 0 where
   pub tree : Tree

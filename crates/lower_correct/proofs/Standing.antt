@@ -1,4 +1,4 @@
--- Where three-address code stands, beside a state of the abstract machine, and what one instruction does there.
+-- The match of three-address code with a state of the abstract machine, and the effect of one instruction there.
 use Rattle.std.proofs.Common.{◌≡◌, ℕ, ◌+◌, List, [], ◌∷◌, ◌++◌, length, map, Option, Some, None, Bool, true, false, refl, sym, ap, ◌∙◌, arith}
 use Rattle.std.specs.Prelude.{◌==◌, if◌then◌else◌, slice_get}
 use Rattle.std.proofs.lemmas.Bool.Decides.{nat_tests}
@@ -66,7 +66,7 @@ set_same m k x = ap (λ b. if b then Some x else m k) (is_same k)
 pub set_other : (m : Values) (k j : ℕ) (x : Value) → (j ≡ k → ⊥) → with_at m k x j ≡ m j
 set_other m k j x h = ap (λ b. if b then Some x else m j) (is_other j k h)
 
--- ---- what lives while a call of function f runs, beside the calls that wait
+-- ---- the objects that live while a call of function f runs, in addition to the waiting calls
 
 abbrev pub literal_type : List ℕ → ObjectType
 literal_type text = record { element = ty.Char; constant = false; lengths = length text ∷ [] }

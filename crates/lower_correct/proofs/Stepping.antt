@@ -35,11 +35,11 @@ module _ (p : typed.Program) (call : Calling) (q : Program) (deep f : ℕ) where
     abbrev Stepped : Moment → Mode → ℕ → machine.State → Scratch → List Call → ℤ → machine.State → State → Type 0
     Stepped moment m pc2 s now ws = Good p q f (typed.stepped at moment so u of (typed.named at2 (typed.automatic x))) m t k pc2 s now ws
 
-    -- what is done with the old value and the new one
+    -- the use of the old value and the new one
     abbrev finishes : Moment → (old : ℤ) → ℤ → machine.State → Run ℤ
     finishes moment old new s = Goes (step_value moment old new) s
 
-    -- the change itself, from a state that keeps what is to be kept
+    -- the change itself, from a state that keeps the values still needed
     step_in : (moment : Moment) (m : Mode) (t1 p1 p2 pc2 hi top : ℕ) (now now1 : Scratch) (ws : List Call) (s : machine.State) (n : ℕ) (old : ℤ) → hi + 30 ≤ top
         → t ≤ t1 → Keeps false t k now now1
         → Steps (function_at q f).code (is_wide u) (step_operation so) u of x t1 p1 p2 → Fine (world p q f ws) s
@@ -72,7 +72,7 @@ module _ (p : typed.Program) (call : Calling) (q : Program) (deep f : ℕ) where
         same_number : (x : ℕ) → nat_eq x x ≡ true
         same_number x = grind (arith, nat_tests)
 
-    -- the old value, from where it is, and what is left to do
+    -- the old value, from its place, and the remaining work
     abbrev changing : Moment → ℕ → machine.State → ℤ → Run ℤ
     changing moment n s old =
         then_do (computed_at at (operated (step_operation so) of old (pos 1)) (record s { clock = n }))
@@ -134,7 +134,7 @@ module _ (p : typed.Program) (call : Calling) (q : Program) (deep f : ℕ) where
     takes_any (target.Kept j) t1 w h = tt
     takes_any (target.Object y) t1 w h = absurd h
 
-    -- by way of g: what follows finds the old value there
+    -- by way of g: the continuation finds the old value there
     aside : (m : Mode) (g : Target) (t1 pc p1 p2 pc2 n : ℕ) (now : Scratch) (ws : List Call) (s : machine.State) (old : ℤ) → IsScratch g t1 → IsFree g t k
         → t ≤ t1
         → One (function_at q f).code (instruction.Move g (operand.Object x)) pc p1

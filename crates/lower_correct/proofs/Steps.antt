@@ -1,4 +1,4 @@
--- Steps of three-address code with their costs, and what it is to follow a run of the abstract machine.
+-- Steps of three-address code with their costs, and the relation of following a run of the abstract machine.
 use Rattle.std.proofs.Common.{◌≡◌, ℕ, zero, suc, ◌+◌, ◌*◌, ◌<◌, ◌≤◌, List, Bool, true, false, refl, sym, ap, ◌∙◌, subst, arith}
 use Rattle.csem.specs.History.{Entry}
 use Rattle.csem.specs.Machine as machine
@@ -70,7 +70,7 @@ from q t t1 j c r e l = subst (λ x. Reaches q x j c r) (sym e) l
 
 -- ---- following
 
--- the code comes to where a run goes on: at most 60 a tick, with `slack` to spare
+-- the code reaches a point where a run goes on: at most 60 a tick, with `slack` to spare
 pub record GoesTo (q : Program) (slack hi lo : ℕ) (t : State) (Good : machine.State → State → Type 0) (s : machine.State) : Type 0 where
   pub j : ℕ
   pub c : ℕ
@@ -208,7 +208,7 @@ pub sim_tick : {A : Type 0} (q : Program) (slack : ℕ) (Good : A → machine.St
     → Sim q slack (60 * s.clock + extra) s.clock t Good (tick s go)
 sim_tick q slack Good t s extra go e1 e2 next = sim_tick_at q slack Good s.clock t s extra go e1 e2 next
 
--- a few steps behind a run
+-- a few steps after a run
 pub sim_more : {A : Type 0} (q : Program) (slack slack2 : ℕ) (Good Good2 : A → machine.State → State → Type 0) (hi more hi2 lo : ℕ) (t : State) (r : Run A)
     → hi ≤ hi2 → hi + more ≤ hi2 + slack → Sim q slack hi lo t Good r
     → ((a : A) (s : machine.State) (u : State) → 60 * s.clock + slack ≤ hi → Good a s u → GoesTo q slack2 (60 * s.clock + more) s.clock u (Good2 a) s)
@@ -230,7 +230,7 @@ sim_more q slack slack2 Good Good2 hi more hi2 lo t (Stops TicksUsed s) h1 h2 l 
   input = l.input;
 }
 
--- what would be undefined promises nothing
+-- a run with undefined behaviour promises nothing
 pub undefined_or : {A : Type 0} (q : Program) (slack : ℕ) (Good : A → machine.State → State → Type 0) (hi lo : ℕ) (t : State) (b : Bool) (act : Undef)
     (at : Pos) (s : machine.State) (r : Run A)
     → Sim q slack hi lo t Good r → Sim q slack hi lo t Good (choose b (undefined act at s) r)
@@ -261,7 +261,7 @@ tick_ends q slack Good t s go e1 e2 next =
     (λ a s2 w g. g)))
     (λ a s2 w g. g)
 
--- the same within what comes first
+-- the same within the first part
 find_at : {A B : Type 0} (q : Program) (slack : ℕ) (Good : B → machine.State → State → Type 0) (n : ℕ) (t u : State) (s : machine.State) (extra : ℕ)
     (inner : machine.State → Run A) (go : A → machine.State → Run B)
     → t.history ≡ s.history → t.input ≡ s.input → Reaches q t 1 0 (running u)

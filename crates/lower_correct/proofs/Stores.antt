@@ -1,4 +1,4 @@
--- The objects that live: each has its shape and values of its type, and what is not written to stays.
+-- The objects that live: each has its shape and values of its type, and keeps its value unless it is written to.
 use Rattle.std.proofs.Common.{◌≡◌, ◌⊎◌, inl, inr, ℕ, zero, suc, ◌+◌, ◌<◌, ◌≤◌, List, [], ◌∷◌, ◌++◌, length, map, Option, Some, None, Bool, true, false, ℤ, refl, sym, ap, ◌∙◌, subst, arith}
 use Rattle.std.specs.Prelude.{slice_get, nat_lt}
 use Rattle.std.proofs.lemmas.Bool.Decides.{nat_tests}
@@ -61,7 +61,7 @@ cases_lt m zero a b = b m (let z : m ≡ 0 + m = omega arith in z)
 cases_lt zero (suc n) a b = a (let z : 0 < suc n = omega arith in z)
 cases_lt (suc m) (suc n) a b = cases_lt m n (λ lt. a (let z : suc m < suc n = omega (arith, lt) in z)) (λ k e. b k (let z : suc m ≡ suc n + k = omega (arith, e) in z))
 
--- ---- what lives while a call runs
+-- ---- the objects that live while a call runs
 
 -- the texts of the string literals; the types of the objects that were there before the call, of which `first` are string literals and static
 -- objects, and those of its own, each in their order; and the elements of the arrays that its array parameters refer to
@@ -103,7 +103,7 @@ pub record Fine (W : World) (s : machine.State) : Type 0 where
   pub arrays : (n : ℕ) (o : ObjectType) → slice_get W.rows n ≡ Some o → RefersToRows W o (slice_get s.arrays n)
   pub input : AreBytes s.input
 
--- what a part of a call leaves: the numbers of calls that wait, and those of its own that are not written to
+-- what a part of a call leaves unchanged: the numbers of calls that wait, and those of its own that are not written to
 pub record After (first : ℕ) (written : ℕ → Bool) (before s : machine.State) : Type 0 where
   pub base : s.base ≡ before.base
   pub arrays : s.arrays ≡ before.arrays
@@ -216,7 +216,7 @@ fine_put W x t v s e el h fine =
     fine_changed W (whole (s.base + x)) t t.lengths (Element (Some v)) s (own_at W s x t fine e) refl
     (subst (λ l. HasShape t.element l (Element (Some v))) (sym el) h) (own_apart W s x fine) fine
 
--- what is read of it
+-- the value read from it
 pub read_back : (W : World) (x : ℕ) (t : ObjectType) (v : ℤ) (s : machine.State) → slice_get W.own x ≡ Some t → Fine W s
     → value_at (put s.store (whole (s.base + x)) (Element (Some v))) (whole (s.base + x)) ≡ Some v
 read_back W x t v s e fine =
@@ -232,7 +232,7 @@ after_put w x new s e = record {
       (λ m. differ (sym h ∙ (ap w (let z : y ≡ x = omega (arith, m) in z) ∙ e)));
 }
 
--- a value that is read lies in the object's type
+-- a value that is read is one of the object's type
 value_fits : (t : ObjectType) (o : Option Tree) (v : ℤ) → ObjectFits t o → value_of o ≡ Some v → IsValueOf t.element v
 value_fits t None v h e = absurd h
 value_fits t (Some tree) v h e = value_in t.element t.lengths tree v h e

@@ -1,4 +1,4 @@
--- The code follows what clears elements of an array, a tick for each (ISO/IEC 9899:2011 6.7.9p10, p21).
+-- The code follows the clearing of elements of an array, a tick for each (ISO/IEC 9899:2011 6.7.9p10, p21).
 use Rattle.std.proofs.Common.{◌≡◌, ℕ, zero, suc, ◌+◌, ◌*◌, ◌^◌, ◌<◌, ◌≤◌, List, [], ◌∷◌, Option, Some, pos, inr, refl, sym, ap, ◌∙◌, subst, arith}
 use Rattle.std.specs.Prelude.{slice_get}
 use Rattle.ctypes.specs.declared.types.IntType.{IntType}
@@ -57,7 +57,7 @@ pub record IsArray (q : Program) (f n : ℕ) (o : ObjectType) : Type 0 where
   pub small : elements_in o.lengths < 2 ^ 32
 
 module _ (p : typed.Program) (call : Calling) (q : Program) (deep f : ℕ) (result : Option IntType) (n : ℕ) (o : ObjectType) (is : IsArray q f n o) (ws : List Call) where
-  -- what the array was, and element `first` of it
+  -- the former value of the array, and element `first` of it
   pub record Old (s : machine.State) (first : ℕ) : Type 0 where
     pub tree : Tree
     pub there : slice_get s.store (s.base + n) ≡ Some tree
@@ -118,7 +118,7 @@ module _ (p : typed.Program) (call : Calling) (q : Program) (deep f : ℕ) (resu
             (after_store W writes_all (whole (s.base + n)) o.element o.lengths tree s1 fine1 (refers_to s [] o.lengths fine refl));
       }
 
-  -- it stands where the abstract machine goes on
+  -- it is where the abstract machine goes on
   pub ends_changed : (s z : machine.State) (k pc hi : ℕ) (now : Scratch) (tree : Tree) → Fine (world p q f ws) s → HasShape o.element o.lengths tree
       → with_array s k tree ≡ z → 60 * k + 14 ≤ hi
       → Sim q 14 hi k (here f pc now ws (with_array s k tree)) (λ u. StandsAt p call q deep f result pc s ws) (Goes done z)

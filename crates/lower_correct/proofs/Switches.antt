@@ -1,4 +1,4 @@
--- The code follows `switch` (ISO/IEC 9899:2011 6.8.4.2), if it follows what it is made of.
+-- The code follows `switch` (ISO/IEC 9899:2011 6.8.4.2), if it follows its parts.
 use Rattle.std.proofs.Common.{◌≡◌, ℕ, zero, suc, ◌+◌, ◌*◌, ◌<◌, ◌≤◌, List, [], ◌∷◌, Option, Some, None, Bool, true, false, ◌&&◌, ℤ, refl, sym, ap, ◌∙◌, subst, arith}
 use Rattle.std.specs.Prelude.{nat_le, nat_lt, ◌-◌, ◌==◌, ◌++◌, int_le, length, map, slice_get, if◌then◌else◌}
 use Rattle.std.proofs.lemmas.Bool.Decides.{nat_tests}
@@ -53,7 +53,7 @@ abbrev pub IsPlace : List ℕ → (end : ℕ) → Option ℕ → ℕ → Type 0
 IsPlace places end None at = at ≡ end
 IsPlace places end (Some n) at = slice_get places n ≡ Some at
 
--- those of one statement, and those behind it
+-- those of one statement, and those after it
 pub place_first : (ls : List (Option ℤ)) (rest : List ℕ) (pc n at : ℕ) → nat_lt n (length ls) ≡ true → slice_get (map (λ l. pc) ls ++ rest) n ≡ Some at
     → at ≡ pc
 place_first [] rest pc n at h e = absurd (differ (let z : false ≡ true = grind (arith, nat_tests, h) in z))
@@ -78,7 +78,7 @@ module _ (p : typed.Program) (call : Calling) (q : Program) (deep f : ℕ) (resu
   all_after : (w : ℕ → Bool) (a b : machine.State) → After (first_automatic q) w a b → After (first_automatic q) writes_all a b
   all_after w a b h = record { base = h.base; arrays = h.arrays; below = h.below; still = λ x e. absurd (differ (sym e)) }
 
-  -- behind the tests: at the place of the label, in the same state but for the clock
+  -- after the tests: at the place of the label, in the same state but for the clock
   pub record Found (places : List ℕ) (end : ℕ) (now : Scratch) (ws : List Call) (before : machine.State) (label : Option ℕ) (s : machine.State) (z : State) :
       Type 0 where
     pub to : ℕ

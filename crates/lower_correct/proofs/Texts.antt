@@ -102,7 +102,7 @@ module _ (p : typed.Program) (tf : Function) (call : Calling) (q : Program) (dee
   abbrev Ended : ℕ → machine.State → Unit {0} → machine.State → State → Type 0
   Ended pc2 s u = StandsAt p call q deep f result pc2 s ws
 
-  -- c characters are copied; what is left of the row becomes zero
+  -- c characters are copied; the rest of the row becomes zero
   module _ (s : machine.State) (fine : Fine (world p q f ws) s) (old : Old p call q deep f result n o is ws s (number o.lengths path)) where
     all_there : (k2 pc2 hi : ℕ) (now : Scratch) → 60 * k2 + 14 ≤ hi
         → Sim q 14 hi k2 (here f pc2 now ws (array_with s k2 (written old.tree first count give))) (Ended pc2 s) (last (s.base + n) done (record s { clock = k2 }))

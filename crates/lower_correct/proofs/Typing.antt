@@ -1,4 +1,4 @@
--- What the constraints say of the parts of an expression.
+-- The facts that the constraints give of the parts of an expression.
 use Rattle.std.proofs.Common.{◌≡◌, ℕ, zero, suc, List, [], ◌∷◌, Option, Some, None, Bool, true, false, not, ◌&&◌, ◌||◌, refl, sym, ap, ◌∙◌, arith}
 use Rattle.std.specs.Prelude.{nat_eq, length, slice_get}
 use Rattle.std.proofs.lemmas.Bool.Decides.{nat_tests}
@@ -60,7 +60,7 @@ number_is objects x u (Some t) e h = record {
   lengths = no_length t.lengths (right_true (same_type u t.element) (nat_eq (length t.lengths) 0) h);
 }
 
--- what is called has a type, whose result is that of the call
+-- the callee has a type, whose result is that of the call
 pub record IsCalled (p : Program) (callee : Callee) (result : Option IntType) : Type 0 where
   pub type : FunctionType
   pub has : callee_type p callee ≡ Some type

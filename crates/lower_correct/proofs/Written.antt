@@ -42,7 +42,7 @@ set_elsewhere t l tree i j v h lt hv lj ne =
     (λ less. put_outside t p.path l [] tree (Element (Some v)) j h p.leads hv lj (inl (omega (arith, less, p.first))))
     (λ ge. put_outside t p.path l [] tree (Element (Some v)) j h p.leads hv lj (inr (omega (arith, above i j ge ne, p.first))))
 
--- ---- c elements from number `first` on, by what a function gives for each
+-- ---- c elements from number `first` on, by the values that a function gives for each
 
 abbrev pub written : Tree → (first c : ℕ) → (ℕ → ℤ) → Tree
 written tree first zero give = tree

@@ -90,7 +90,7 @@ zeroed t path l n rest (suc k) i tree h lead room hv =
       behind = λ j ge lt. more.behind j (omega (arith, ge, next, all)) lt ∙ put.behind j (omega (arith, ge, first, all)) lt;
     }
 
--- ---- what is written is known by its values
+-- ---- a written object is known by its values
 
 pub same_written : (t : IntType) (l : List ℕ) (old a b : Tree) (first c : ℕ) (give : ℕ → ℤ) → IsWritten t l old a first c give → IsWritten t l old b first c give → a ≡ b
 same_written t l old a b first c give h g =

@@ -1,4 +1,4 @@
--- What it is for instructions to be the code of a statement (ISO/IEC 9899:2011 6.8), of a function and of a program.
+-- The relation of instructions to the statement (ISO/IEC 9899:2011 6.8), the function or the program that they are the code of.
 --
 -- `out` and `again` are the positions where `break` and `continue` go. A function has one Return, which is long in machine code, at `back`.
 -- Each full expression has all temporaries and slots.
@@ -35,7 +35,7 @@ abbrev pub label_places : Statement → ℕ → List ℕ
 label_places x pc = map (λ l. pc) (labels_at x)
 
 module _ (code : List Instruction) where
-  -- 6.8.4.2p5: the tests of the labels, which stand at these places; the last default, or `default` where there is none
+  -- 6.8.4.2p5: the tests of the labels, which are at these places; the last default, or `default` where there is none
   abbrev pub Tests : Operand → List (Option ℤ) → List ℕ → (default : ℕ) → ℕ → ℕ → Type 0
   Tests o [] places default pc pc2 = One code (instruction.Jump default) pc pc2
   Tests o (l ∷ labels) [] default pc pc2 = ⊥
@@ -54,7 +54,7 @@ module _ (code : List Instruction) where
     abbrev pub Gives : IntType → Value → Target → ℕ → ℕ → Type 0
     Gives u e g pc pc2 = Converts code (keeps u e) (λ m a b. Into code (size_of_place p f) e m 0 0 a b) u (operand_of e 0 0) g pc pc2
 
-    -- object n, which is no array, gets its first value, which costs a tick behind its expression (6.7.9p11)
+    -- object n, which is no array, gets its first value, which costs a tick after its expression (6.7.9p11)
     abbrev pub InitialisesWord : Initialiser → ℕ → ℕ → ℕ → Type 0
     InitialisesWord (typed.one_value u e) n pc pc2 = (p1 : ℕ) × Gives u e (target.Object n) pc p1 × One code instruction.Nothing p1 pc2
     InitialisesWord (typed.text literal) n pc pc2 = ⊥
@@ -71,7 +71,7 @@ module _ (code : List Instruction) where
     Initialises None i n pc pc2 = pc ≡ pc2
     Initialises (Some t) i n pc pc2 = InitialisesObject t.element t.lengths i n pc pc2
 
-    -- what may be left out: nothing is evaluated; a loop goes on
+    -- an expression that may be left out: nothing is evaluated; a loop goes on
     abbrev pub Effects : Option Value → ℕ → ℕ → Type 0
     Effects None pc pc2 = pc ≡ pc2
     Effects (Some e) pc pc2 = Into code (size_of_place p f) e Nowhere 0 0 pc pc2
@@ -94,14 +94,14 @@ module _ (code : List Instruction) where
       Stands (typed.branches e a b) out again back pc pc2 =
           (p1 p2 p3 other : ℕ) × One code instruction.Nothing pc p1 × Into code (size_of_place p f) e (If false other) 0 0 p1 p2 × Stands a out again back p2 p3
           × One code (instruction.Jump pc2) p3 other × Stands b out again back other pc2
-      -- its objects are forgotten behind its value, which one of them cannot hold
+      -- its objects are forgotten after its value, which one of them cannot hold
       Stands (typed.switch u e first count all) out again back pc pc2 =
           let o = waits_in e (is_within first count) false 0 0 in
           (p1 p2 p3 p4 : ℕ) × (places : List ℕ) × One code instruction.Nothing pc p1 × Into code (size_of_place p f) e (mode_of o) 0 0 p1 p2
           × One code (instruction.Forget first count) p2 p3 × Tests o (labels_of all) places pc2 p3 p4 × StandAt all places pc2 again back p4 pc2
       Stands (typed.case v) out again back pc pc2 = One code instruction.Nothing pc pc2
       Stands typed.default out again back pc pc2 = One code instruction.Nothing pc pc2
-      -- a loop's test stands behind its body
+      -- a loop's test is after its body
       Stands (typed.while e a) out again back pc pc2 =
           (top at : ℕ) × One code (instruction.Jump at) pc top × Stands a pc2 at back top at × Into code (size_of_place p f) e (If true top) 0 0 at pc2
       Stands (typed.do_while a e) out again back pc pc2 =
@@ -130,14 +130,14 @@ module _ (code : List Instruction) where
   Idles zero pc pc2 = pc ≡ pc2
   Idles (suc n) pc pc2 = (p1 : ℕ) × One code instruction.Nothing pc p1 × Idles n p1 pc2
 
-  -- from the end of the body to the Return behind it; 5.1.2.2.3p1: the end of main's body returns 0
+  -- from the end of the body to the Return after it; 5.1.2.2.3p1: the end of main's body returns 0
   abbrev pub Closes : (is_main : Bool) → ℕ → ℕ → Type 0
   Closes true end back = One code (instruction.Move (target.Temporary 0) (operand.Constant 0)) end back
   Closes false end back = end ≡ back
 
 -- ---- functions
 
--- how many temporaries, and slots, an operand, a target and an instruction ask for
+-- how many temporaries, and slots, an operand, a target and an instruction need
 abbrev pub temporary_in : Operand → ℕ
 temporary_in (operand.Temporary k) = suc k
 temporary_in o = 0

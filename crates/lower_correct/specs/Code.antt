@@ -1,8 +1,8 @@
--- What it is for instructions to be the code of an expression: which stand from position pc on, up to pc2 (ISO/IEC 9899:2011 6.5).
+-- The relation of instructions, from position pc up to pc2, to the expression that they are the code of (ISO/IEC 9899:2011 6.5).
 --
 -- `t` and `k` are the first temporary and the first slot that may be written. Each node's code begins with an instruction of its own,
--- which costs nothing, and so does the element that is assigned to: the abstract machine takes a tick for each. An automatic object that is no
--- array is an operand; what lies in memory is found first (`Finds`), and loaded and stored.
+-- which costs nothing, and so does the element that is assigned to: the abstract machine takes a tick for each. An automatic object that is no array is an
+-- operand; a value in memory is found first (`Finds`), and loaded and stored.
 use Rattle.std.specs.Prelude.{◌≡◌, ℕ, ◌+◌, ◌-◌, ◌^◌, Bool, true, false, not, ◌||◌, ℤ, List, Option, Some, None, slice_get}
 use Rattle.ctypes.specs.declared.types.IntType.{IntType}
 use Rattle.ctypes.specs.declared.operators.BinOp.{BinOp}
@@ -46,7 +46,7 @@ abbrev pub test : Bool → Operand → ℕ → Instruction
 test true o to = instruction.Branch comparison.NotEqual reading.Signed o zero_word to
 test false o to = instruction.Branch comparison.Equal reading.Signed o zero_word to
 
--- an object of the call that is an operand, or else what lies in memory
+-- an object of the call that is an operand, or else a value in memory
 abbrev pub OnObject : Option ℕ → (ℕ → Type 0) → Type 0 → Type 0
 OnObject None P Memory = Memory
 OnObject (Some x) P Memory = P x
@@ -57,12 +57,12 @@ Either true A B = A
 Either false A B = B
 
 module _ (code : List Instruction) where
-  -- instruction i stands at pc, and pc2 is behind it
+  -- instruction i is at pc, and pc2 is after it
   pub record One (i : Instruction) (pc pc2 : ℕ) : Type 0 where
     pub at : slice_get code pc ≡ Some i
     pub next : pc + 1 ≡ pc2
 
-  -- the value is in o: what is to become of it
+  -- the value is in o: the use of it
   abbrev pub Ends : Mode → Operand → ℕ → ℕ → Type 0
   Ends Nowhere o pc pc2 = pc ≡ pc2
   Ends (To g) o pc pc2 = One (instruction.Move g o) pc pc2
@@ -79,7 +79,7 @@ module _ (code : List Instruction) where
   Constantly (To g) v pc pc2 = One (instruction.Move g (operand.Constant (word_for v))) pc pc2
   Constantly (If sense to) v pc pc2 = One (truth_jump (truth v) sense to) pc pc2
 
-  -- ---- operations (6.5.5 to 6.5.12); t is a temporary for what comes between
+  -- ---- operations (6.5.5 to 6.5.12); t is a temporary for intermediate values
 
   abbrev pub Computes : BinOp → Reading → Target → Operand → Operand → ℕ → ℕ → ℕ → Type 0
   Computes op.Mul r g a b t pc pc2 = One (instruction.Compute operation.Multiply r g a b) pc pc2
@@ -103,7 +103,7 @@ module _ (code : List Instruction) where
   Computes op.BitXor r g a b t pc pc2 = One (instruction.Compute operation.ExclusiveOr r g a b) pc pc2
   Computes op.BitOr r g a b t pc pc2 = One (instruction.Compute operation.Or r g a b) pc pc2
 
-  -- an operation, and what is to become of its value
+  -- an operation, and the use of its value
   abbrev pub Then : BinOp → Reading → Mode → Operand → Operand → ℕ → ℕ → ℕ → Type 0
   Then o r m a b t pc pc2 = (p1 : ℕ) × Computes o r (target_of m t) a b t pc p1 × Follows m t p1 pc2
 
@@ -174,7 +174,7 @@ module _ (code : List Instruction) where
   StepsBy typed.before wide o u of m x t pc pc2 = (p1 : ℕ) × Steps wide o u of x t pc p1 × Ends m (operand.Object x) p1 pc2
   StepsBy typed.after wide o u of m x t pc pc2 = StepsAfter wide o u of m x t pc pc2
 
-  -- ---- what lies in memory (6.5.2.1, 6.5.16): a is where its reference is
+  -- ---- values in memory (6.5.2.1, 6.5.16): a is where its reference is
 
   abbrev pub PartsNamed : Spot → Target → Operand → ℕ → ℕ → ℕ → ℕ → Type 0
   PartsNamed a g i size t pc pc2 =
@@ -204,7 +204,7 @@ module _ (code : List Instruction) where
       (p1 : ℕ) × Computes o (reading_of of) (target.Temporary j) (operand.Temporary j) b j pc p1
       × Puts (cuts u m || is_wide u) u (operand.Temporary j) a m j p1 pc2
 
-  -- the same beside the old value, which is the value
+  -- the same with the old value kept, which is the value
   abbrev pub AltersAside : BinOp → IntType → IntType → Spot → Mode → ℕ → ℕ → ℕ → Type 0
   AltersAside o u of a m j pc pc2 =
       (p1 p2 : ℕ) × Computes o (reading_of of) (target.Temporary (j + 1)) (operand.Temporary j) (operand.Constant 1) (j + 1) pc p1
@@ -246,7 +246,7 @@ module _ (code : List Instruction) where
   -- `size` has the bytes of each element and row
   module _ (size : Place → ℕ) where
     abbrev mutual
-      -- the reference is where `found` says; what is evaluated behind it calls, or not
+      -- the reference is where `found` says; the code evaluated after it contains a call, or not
       pub Finds : Place → (has_calls : Bool) → ℕ → ℕ → ℕ → ℕ → Type 0
       Finds (typed.named at what) c t k pc pc2 = One instruction.Nothing pc pc2
       Finds (typed.element at array index) c t k pc pc2 =
@@ -303,7 +303,7 @@ module _ (code : List Instruction) where
           let r = operand_of b (free_temporary l t) (free_kept l k) in
           (p1 p2 p3 : ℕ) × One instruction.Nothing pc p1 × Into a (mode_of l) t k p1 p2
           × Into b (mode_of r) (free_temporary l t) (free_kept l k) p2 p3 × Operates o (reading_of u) m l r t p3 pc2
-      -- 6.5.13p4, 6.5.14p4: what is not wanted is jumped over
+      -- 6.5.13p4, 6.5.14p4: an operand that is not needed is jumped over
       Into (typed.both_true a b) (If sense to) t k pc pc2 =
           (p1 p2 : ℕ) × One instruction.Nothing pc p1 × Into a (If false (choose sense pc2 to)) t k p1 p2 × Into b (If sense to) t k p2 pc2
       Into (typed.both_true a b) m t k pc pc2 =
@@ -326,7 +326,7 @@ module _ (code : List Instruction) where
       Into (typed.call at callee result used arguments) m t k pc pc2 =
           (p1 p2 : ℕ) × One instruction.Nothing pc p1 × Passes arguments 0 k p1 p2 × Calls callee m p2 pc2
 
-      -- argument i goes to temporary i, from t on; it waits for those behind it
+      -- argument i goes to temporary i, from t on; it waits for those after it
       pub Passes : Arguments → ℕ → ℕ → ℕ → ℕ → Type 0
       Passes typed.no_arguments t k pc pc2 = pc ≡ pc2
       Passes (typed.and_number u e more) t k pc pc2 =

@@ -1,5 +1,5 @@
 -- The code of initialisers of arrays (ISO/IEC 9899:2011 6.7.9): each element is written in a tick of its own, so that elements that
--- become zero, and characters, are written by loops. Elements are counted in the order in which they lie, across all rows of the array.
+-- become zero, and characters, are written by loops. Elements are counted in memory order, across all rows of the array.
 --
 -- Nothing is evaluated meanwhile: temporary 0 counts, temporary 1 is the reference of the first element, 2 that of the literal.
 use Rattle.std.specs.Prelude.{◌≡◌, ℕ, zero, suc, ◌+◌, ◌*◌, ◌-◌, min, nat_lt, Bool, true, false, ◌||◌, List, length, slice_get}
@@ -65,7 +65,7 @@ module _ (code : List Instruction) where
   ClearsRest true t count pc pc2 = ClearsTo t count pc pc2
   ClearsRest false t count pc pc2 = pc ≡ pc2
 
-  -- `count` elements become literal m, which has so many characters with its zero
+  -- `count` elements become literal m, which has `characters` characters with its zero
   abbrev pub Copies : IntType → (n i m count characters : ℕ) → ℕ → ℕ → Type 0
   Copies t n i m count characters pc pc2 =
       (p1 p2 p3 top rest : ℕ) × One code instruction.Nothing pc p1 × One code (instruction.Move (target.Temporary 0) zero_word) p1 p2
@@ -82,7 +82,7 @@ module _ (code : List Instruction) where
         × Puts code (cuts u Nowhere || keeps u e) u (operand_of e 0 0) (place.Element n i u) Nowhere 0 p1 pc2
 
     abbrev mutual
-      -- what begins at element i of array n, whose elements have type t, and has these lengths
+      -- an initialiser that begins at element i of array n, whose elements have type t, and has these lengths
       pub Fills : Initialiser → IntType → List ℕ → (n i : ℕ) → ℕ → ℕ → Type 0
       Fills (typed.one_value u e) t lengths n i pc pc2 = Sets u e n i pc pc2
       Fills (typed.text m) t lengths n i pc pc2 = Copies t n i m (first_length lengths) (length (text_or_none (slice_get texts m))) pc pc2

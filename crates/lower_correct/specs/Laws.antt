@@ -1,4 +1,4 @@
--- The code of a program does what the program does.
+-- The code of a program simulates the program.
 use Rattle.std.specs.Prelude.{◌≡◌, true, ℕ, List}
 use Rattle.typing_spec.specs.Program as typed
 use Rattle.tac_code.specs.Code.{Program}

@@ -34,12 +34,12 @@ named_spot (typed.static n) = place.Static n
 named_spot (typed.automatic n) = place.Array n
 named_spot (typed.parameter n) = place.At (operand.Parameter n)
 
--- what is evaluated behind it calls, or not; t and k are the first temporary and the first slot that are free
+-- the code evaluated after it contains a call, or not; t and k are the first temporary and the first slot that are free
 abbrev pub found : Place → (has_calls : Bool) → ℕ → ℕ → Spot
 found (typed.named at what) c t k = named_spot what
 found (typed.element at array index) c t k = place.At (pending c t k)
 
--- the first temporary, and slot, that are free beside it
+-- the first temporary, and slot, that are free in addition to it
 abbrev pub free_temporary_at : Spot → ℕ → ℕ
 free_temporary_at (place.Literal n) t = t
 free_temporary_at (place.Static n) t = t

@@ -1,4 +1,4 @@
--- Where values of expressions are, in three-address code: their words, and what an expression writes and calls.
+-- Where values of expressions are, in three-address code: their words, the objects that an expression writes, and whether it calls.
 use Rattle.std.specs.Prelude.{ℕ, ◌+◌, Bool, true, false, ◌&&◌, ◌||◌, nat_eq, ℤ, int_le, if◌then◌else◌, Option, Some, None}
 use Rattle.ctypes.specs.declared.types.IntType.{IntType}
 use Rattle.ctypes.specs.declared.types.IntType.TheVariants as ty
@@ -26,7 +26,7 @@ object_of (typed.named at (typed.static n)) = None
 object_of (typed.named at (typed.parameter n)) = None
 object_of (typed.element at array index) = None
 
--- ---- what an expression does
+-- ---- the effects of an expression
 
 -- a call makes all temporaries but its result unset
 abbrev mutual
@@ -89,7 +89,7 @@ abbrev mutual
 abbrev pub writes_none : ℕ → Bool
 writes_none x = false
 
--- the object that has the value behind an expression (6.5.16p3)
+-- the object that has the value after an expression (6.5.16p3)
 abbrev pub rests_in : Value → Option ℕ
 rests_in (typed.constant t v) = None
 rests_in (typed.read t place) = object_of place
@@ -187,15 +187,15 @@ abbrev pub constant_or : Option ℤ → Operand → Operand
 constant_or None o = o
 constant_or (Some v) o = operand.Constant (word_for v)
 
--- what is evaluated behind it writes some objects, and calls, or not. An object that is not written to is read later
+-- the code evaluated after it writes some objects, and contains a call, or not. An object that is not written to is read later
 abbrev pub waits_in : Value → (written : ℕ → Bool) → (has_calls : Bool) → ℕ → ℕ → Operand
 waits_in e written has_calls t k = constant_or (constant_of e) (at_rest (rests_in e) written (pending has_calls t k))
 
--- where nothing is evaluated behind it
+-- where nothing is evaluated after it
 abbrev pub operand_of : Value → ℕ → ℕ → Operand
 operand_of e t k = waits_in e writes_none false t k
 
--- the first temporary, and slot, that are free beside it
+-- the first temporary, and slot, that are free in addition to it
 abbrev pub free_temporary : Operand → ℕ → ℕ
 free_temporary (operand.Temporary j) t = t + 1
 free_temporary o t = t
@@ -204,7 +204,7 @@ abbrev pub free_kept : Operand → ℕ → ℕ
 free_kept (operand.Kept j) k = k + 1
 free_kept o k = k
 
--- ---- what becomes of a value: nothing; it goes to a target; where its truth is `sense` the code jumps to `to`, and goes on otherwise
+-- ---- the use of a value: none; it goes to a target; where its truth is `sense` the code jumps to `to`, and goes on otherwise
 pub data Mode : Type 0 where
   Nowhere : Mode
   To : (g : Target) → Mode

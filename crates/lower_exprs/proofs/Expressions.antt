@@ -23,7 +23,7 @@ use Rattle.lower_exprs.specs.layer.Sizes.{wait_shape, rest_shape, value_size}
 use Rattle.lower_exprs.specs.layer.Written.{WroteValue, WrotePasses, BothNumber, OneNumber, truth_size}
 use Rattle.lower_ops.proofs.Parts.{begins_on, as_wrote, three, four, five, plus_is, reach_three, reach_four, reach_five}
 
--- ---- sizes do not depend on what is free
+-- ---- sizes do not depend on the free temporaries and slots
 
 shape_pending : (b : Bool) (t k : ℕ) → shape_of (mode_of (pending b t k)) ≡ shape_of (mode_of (pending b 0 0))
 shape_pending true t k = refl

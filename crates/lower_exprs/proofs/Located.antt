@@ -25,7 +25,7 @@ use Rattle.lower_exprs.specs.layer.Written.{WroteValue, WrotePasses, WroteFinds,
 use Rattle.lower_ops.proofs.Parts.{two, three, four, five}
 use Rattle.lower_ops.proofs.Stored.{stored_by}
 
--- ---- sizes do not depend on what is free, nor on what waits
+-- ---- sizes do not depend on the free temporaries and slots, nor on the operands that wait
 
 pub same_part : (a : Place) (c : Bool) (t k : ℕ) → parts_size (found a c t k) ≡ parts_size (found a false 0 0)
 same_part (typed.named at what) c t k = refl
@@ -77,7 +77,7 @@ module _ (size : Place → ℕ) (place : Place) (m : Mode) (t k : ℕ) {c0 c1 : 
       → WroteStepMemory size moment b u of place m t k c0 c1 → WroteValue size (typed.stepped at moment o u of place) m t k c0 c1
   step_memory at moment o u of b e eb h = in_memory _ _ _ _ (object_of place) e (subst (λ n. WroteStepMemory size moment n u of place m t k c0 c1) eb h)
 
--- ---- what is found, and a value behind it
+-- ---- a place that was found, and a value after it
 
 module _ (size : Place → ℕ) where
   module _ (place : Place) (e : Value) (c : Bool) (t k t2 k2 : ℕ) (a : Spot) (o : Operand) (ec : c ≡ calls e) (ea : a ≡ found place c t k)

@@ -1,4 +1,4 @@
--- What the code of an expression is to be as it is written; nothing of it has to be believed.
+-- Properties of the code of an expression while it is written; none of them has to be believed.
 pub mod Given
 pub mod Ends
 pub mod Waiting

@@ -1,5 +1,5 @@
-//! Which of the arguments of a call are the last that call and that may assign, so that what stands behind an argument is not looked
-//! through for each argument anew.
+//! Which of the arguments of a call are the last that call and that may assign, so that the arguments after an argument are not
+//! searched for each argument anew.
 
 ghost use Rattle.std.specs.Prelude.{◌≡◌, ℕ, List, drop, map, false};
 ghost use Rattle.std.specs.Bool.{OnTrue};
@@ -12,7 +12,7 @@ ghost use Rattle.lower_exprs.specs.inside.Ends.{AreEnds, calling_in, write_nothi
 use crate::rests::{argument_calls, arguments_write};
 use typed_ast::{Argument, Place, Value};
 
-/// Of some arguments, where the last one stands that calls, and the last one that may assign to an object: counted from 1, and 0 where
+/// Of some arguments, the position of the last one that calls, and of the last one that may assign to an object: counted from 1, and 0 where
 /// there is none.
 #[derive(Clone, Copy)]
 pub(crate) struct Ends {
@@ -99,7 +99,7 @@ impl Ends {
         }
     }
 
-    /// Those of the arguments behind the first `count`.
+    /// Those of the arguments after the first `count`.
     pub(crate) fn behind(self, count: usize) -> Ends
         ensures { (arguments : List Argument) → AreEnds self arguments → AreEnds result (drop count arguments) }
     {

@@ -70,7 +70,7 @@ fn constant_of(e: &Value) -> Option<i64>
     }
 }
 
-/// Where the value of `e` waits for what is evaluated behind it, which writes its object, and calls, or not.
+/// Where the value of `e` waits for the expressions evaluated after it, which write its object, and call, or not.
 fn waits(e: &Value, written: bool, has_calls: bool, temporary: usize, slot: usize) -> Operand
     ensures { (w : ℕ → Bool) → written ≡ is_written (values.rests_in (value_of e.now)) w → result ≡ values.waits_in (value_of e.now) w has_calls temporary slot }
 {
@@ -130,7 +130,7 @@ pub(crate) fn waits_for(e: &Value, other: &Value, temporary: usize, slot: usize)
     )
 }
 
-/// While the arguments behind it are evaluated, whose ends these are.
+/// While the arguments after it are evaluated, whose ends these are.
 pub(crate) fn waits_for_arguments(
     e: &Value,
     others: &[Argument],
@@ -157,7 +157,7 @@ pub fn waits_for_objects(e: &Value, first: usize, count: usize) -> Operand
     waits(e, rests_within(e, first, count), false, 0, 0)
 }
 
-/// Where nothing is evaluated behind it.
+/// Where nothing is evaluated after it.
 pub fn operand_of(e: &Value, temporary: usize, slot: usize) -> Operand
     ensures { result ≡ values.operand_of (value_of e.now) temporary slot }
 {

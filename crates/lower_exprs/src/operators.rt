@@ -36,7 +36,7 @@ use tac_code::{Instruction, Operand, Reading, Target};
 use tree::PrefixOp;
 use typed_ast::Value;
 
-/// Of a sign: what is computed from the value, and 0 or all bits.
+/// Of a sign: the operation on the value, with 0 or all bits.
 #[cycle(value_code)]
 fn put_minus(
     scope: &Scope<'_>,
@@ -221,7 +221,7 @@ fn pick(sense: bool, one: usize, other: usize) -> usize
     if sense { one } else { other }
 }
 
-/// `&&` where a jump wants it.
+/// `&&` that decides a jump.
 #[cycle(value_code)]
 fn put_both_jump(
     scope: &Scope<'_>,
@@ -264,7 +264,7 @@ fn put_one_jump(
     Ok(())
 }
 
-/// `&&` where its value is wanted, or nothing.
+/// `&&` whose value is needed as a number, or unused.
 #[cycle(value_code)]
 fn put_both_number(
     scope: &Scope<'_>,

@@ -1,4 +1,4 @@
-//! The code of what reads and changes places.
+//! The code of expressions that read and change places.
 
 ghost use Rattle.std.specs.Prelude.{◌≡◌, OnOk, IfOk};
 ghost use Rattle.srcset.specs.declared.refusal.Pos.{Pos};
@@ -42,7 +42,7 @@ pub struct Free {
     pub slot: usize,
 }
 
-/// What is free beside a value that waits.
+/// The free temporaries and slots next to a value that waits.
 pub(crate) fn beside(operand: Operand, free: Free) -> Result<Free, AllocError>
     ensures { IfOk result (λ f. (f.temporary ≡ lowered.free_temporary operand free.temporary) × (f.slot ≡ lowered.free_kept operand free.slot)) }
 {
@@ -51,7 +51,7 @@ pub(crate) fn beside(operand: Operand, free: Free) -> Result<Free, AllocError>
     Ok(Free { temporary, slot })
 }
 
-/// What is free beside a reference that waits.
+/// The free temporaries and slots next to a reference that waits.
 fn beside_spot(spot: Spot, free: Free) -> Result<Free, AllocError>
     ensures { IfOk result (λ f. (f.temporary ≡ placed.free_temporary_at spot free.temporary) × (f.slot ≡ placed.free_kept_at spot free.slot)) }
 {
@@ -86,7 +86,7 @@ fn put_element(
     Ok(())
 }
 
-/// The code that finds a place, which waits for what calls, or not.
+/// The code that finds a place, which waits for an expression that calls, or not.
 #[cycle(value_code)]
 pub(crate) fn put_found(
     scope: &Scope<'_>,

@@ -1,4 +1,4 @@
-//! What an expression calls and writes, and which object has its value behind it.
+//! The calls and writes of an expression, and the object that has its value after it.
 
 ghost use Rattle.std.specs.Prelude.{◌≡◌, map, ℕ, ◌^◌, ◌<◌};
 ghost use Rattle.typed_ast.specs.View.{place_of, value_of, argument_of, arguments_of, moment_of};
@@ -140,7 +140,7 @@ fn stepped_rests(moment: Moment, place: &Place) -> Option<usize>
     }
 }
 
-/// The object that has the value behind an expression (6.5.16p3).
+/// The object that has the value after an expression (6.5.16p3).
 pub(crate) fn rests_in(e: &Value) -> Option<usize>
     ensures { result ≡ values.rests_in (value_of e.now) }
 {

@@ -222,7 +222,7 @@ fn number_size(ty: IntType, e: &Value, more: &[Argument], ends: Ends) -> usize
     )
 }
 
-/// How many instructions an argument has, beside those behind it.
+/// The number of instructions of an argument, without those after it.
 #[cycle(value_sizes)]
 fn argument_size(argument: &Argument, more: &[Argument], ends: Ends) -> usize
     requires { AreEnds ends more.now }

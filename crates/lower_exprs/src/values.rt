@@ -34,7 +34,7 @@ use std::alloc::AllocError;
 use tac_code::{Instruction, Operand, Target};
 use typed_ast::{Argument, Callee, Place, Value};
 
-/// A value into the operand that it is in where nothing is evaluated behind it.
+/// A value into the operand that it is in where nothing is evaluated after it.
 #[cycle(value_code)]
 pub fn put_rested(
     scope: &Scope<'_>,
@@ -148,7 +148,7 @@ fn put_cast_node(
     Ok(())
 }
 
-/// The value of an argument, where it waits for the arguments behind it, and what is free beside it.
+/// The value of an argument, where it waits for the arguments after it, and the temporaries and slots free next to it.
 #[cycle(value_code)]
 #[inline(never)]
 fn put_waiting_number(
@@ -190,7 +190,7 @@ fn put_number_load(
     Ok(())
 }
 
-/// What finds an array, where its reference waits for the arguments behind it, and what is free beside it.
+/// The code that finds an array, where its reference waits for the arguments after it, and the temporaries and slots free next to it.
 #[cycle(value_code)]
 #[inline(never)]
 fn put_waiting_array(
@@ -232,7 +232,7 @@ fn put_array_reference(
     Ok(())
 }
 
-/// An argument, where it waits for those behind it, and what is free beside it.
+/// An argument, where it waits for those after it, and the temporaries and slots free next to it.
 #[cycle(value_code)]
 fn put_waiting(
     scope: &Scope<'_>,
@@ -280,7 +280,7 @@ fn put_fetched(
     }
 }
 
-/// The arguments, each where it waits, and what was free before each.
+/// The arguments, each where it waits, and the temporaries and slots that were free before each.
 #[cycle(value_code)]
 fn put_all_waiting(
     scope: &Scope<'_>,
@@ -322,7 +322,7 @@ fn put_all_fetched(
     Ok(())
 }
 
-/// The arguments behind the first `count`.
+/// The arguments after the first `count`.
 fn behind<'a>(arguments: &'a [Argument], count: usize) -> &'a [Argument]
     ensures { result.now ≡ drop count arguments.now }
 {

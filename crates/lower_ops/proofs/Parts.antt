@@ -1,4 +1,4 @@
--- Parts of code, one behind the other.
+-- Parts of code, one after the other.
 use Rattle.std.proofs.Common.{◌≡◌, ℕ, ◌+◌, ◌<◌, ◌≤◌, List, [], ◌∷◌, ◌++◌, length, slice_get, Some, Bool, true, refl, ap, sym, ◌∙◌, subst, append_assoc, append-nil, length-append, arith}
 use Rattle.std.specs.Prelude.{nat_lt}
 use Rattle.std.proofs.lemmas.Bool.Decides.{nat_tests}
@@ -16,7 +16,7 @@ pub sum_two : (n m a b c : ℕ) → b ≡ a + n → c ≡ b + m → c < 46116860
 unfolding plus
 sum_two n m a b c e f l = omega arith
 
--- where a sum that was computed before comes to, once it is reached
+-- a position that was computed before as a sum is correct once it is reached
 pub reach_one : (e l n k : ℕ) → e ≡ plus l n → k ≡ l + n → k < 4611686018427387904 → e ≡ k
 unfolding plus
 reach_one e l n k h g b = omega arith

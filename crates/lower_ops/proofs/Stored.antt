@@ -1,4 +1,4 @@
--- Parts of what is stored.
+-- Parts of a stored value.
 use Rattle.std.proofs.Common.{◌≡◌, ℕ, ◌+◌, Bool, true, false, ◌||◌, List, refl, ap, sym, ◌∙◌, subst}
 use Rattle.ctypes.specs.declared.types.IntType.{IntType}
 use Rattle.ctypes.specs.declared.operators.BinOp.{BinOp}

@@ -1,4 +1,4 @@
-//! Truths of parts.
+//! Truth values of parts.
 
 ghost use Rattle.std.specs.Prelude.{◌≡◌, ◌||◌};
 

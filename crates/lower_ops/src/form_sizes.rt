@@ -15,7 +15,7 @@ use tac_code::{Operand, Place as Spot};
 use tree::StepOp;
 use typed_ast::{Callee, Moment};
 
-/// The sum, as far as a word counts.
+/// The sum, saturating at 2^64 - 1.
 pub fn plus(a: usize, b: usize) -> usize
     ensures { result ≡ parts.plus a b }
 {
@@ -34,7 +34,7 @@ pub fn ends_size(shape: Shape) -> usize
     }
 }
 
-/// Of what comes behind an instruction that has put its value: the jump, where the value is to decide one.
+/// Of the code after an instruction that has put its value: the jump, where the value is to decide one.
 pub fn follows_size(shape: Shape) -> usize
     ensures { result ≡ size.follows_size shape }
 {
@@ -70,7 +70,7 @@ pub fn computes_size(op: BinOp) -> usize
     }
 }
 
-/// Of an operation and what comes behind it.
+/// Of an operation and the code that uses its value.
 pub fn then_size(op: BinOp, shape: Shape) -> usize
     ensures { result ≡ size.then_size op shape }
 {
@@ -134,7 +134,7 @@ pub fn step_operation(op: StepOp) -> BinOp
     }
 }
 
-/// Of `x++` of a local object whose old value is kept beside and then put where it is wanted.
+/// Of `x++` of a local object whose old value is kept aside and then put where it is wanted.
 pub fn steps_aside_size(wide: bool, op: BinOp, shape: Shape) -> usize
     ensures { result ≡ size.steps_aside_size wide op shape }
 {
@@ -179,7 +179,7 @@ pub fn loads_size(kept: bool, operand: Operand) -> usize
     }
 }
 
-/// Of a call behind its arguments.
+/// Of a call after its arguments.
 pub fn calls_size(callee: Callee, shape: Shape) -> usize
     ensures { result ≡ size.calls_size (callee_of callee) shape }
 {
@@ -192,7 +192,7 @@ pub fn calls_size(callee: Callee, shape: Shape) -> usize
     }
 }
 
-// ---- what lies in memory
+// ---- parts of memory
 
 /// Of the reference to an element of an array.
 pub fn parts_size(spot: Spot) -> usize
@@ -229,7 +229,7 @@ pub fn puts_size(kept: bool, shape: Shape) -> usize
     }
 }
 
-/// Of a compound assignment to an element, behind its operands.
+/// Of a compound assignment to an element, after its operands.
 pub fn alters_size(op: BinOp, ty: IntType, shape: Shape) -> usize
     ensures { result ≡ size.alters_size op ty shape }
 {

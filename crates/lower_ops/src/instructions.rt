@@ -24,7 +24,7 @@ pub fn convert_to(to: IntType, target: Target, source: Operand) -> Instruction
     Instruction::Convert { to, target, source }
 }
 
-/// What an operation of two operands gives is put into the target.
+/// The result of an operation of two operands is put into the target.
 pub fn compute(
     operation: Operation,
     reading: Reading,

@@ -1,4 +1,4 @@
-//! What lies in memory: parts of arrays, loads and stores (6.5.2.1, 6.5.16).
+//! Code for memory: parts of arrays, loads and stores (6.5.2.1, 6.5.16).
 
 ghost use Rattle.std.specs.Prelude.{◌≡◌, true, OnOk};
 ghost use Rattle.typing_spec.specs.Program as typed;
@@ -92,7 +92,7 @@ fn put_part_at(
     Ok(())
 }
 
-/// A part of an array of so many bytes, by way of a temporary.
+/// A part of an array of `size` bytes, by way of a temporary.
 pub fn put_part(
     code: &mut Code,
     spot: Spot,
@@ -133,7 +133,7 @@ pub fn put_part(
 
 // ---- loads and stores
 
-/// The value of an element, and what becomes of it.
+/// The value of an element, and its use by a mode.
 pub fn put_get(
     code: &mut Code,
     ty: IntType,
@@ -214,7 +214,7 @@ pub fn put_altered(
     Ok(())
 }
 
-/// One more or less beside the old value, which is the value.
+/// One more or less, with the old value kept aside, which is the value.
 fn put_altered_aside(
     code: &mut Code,
     change: Alteration,

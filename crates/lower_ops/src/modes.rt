@@ -1,4 +1,4 @@
-//! What becomes of a value.
+//! The mode of a value: how its value is used.
 
 ghost use Rattle.std.specs.Prelude.{◌≡◌};
 ghost use Rattle.lower_correct.specs.Values as lowered;
@@ -6,7 +6,7 @@ ghost use Rattle.lower_ops.specs.layer.Parts.{meant, shape_of};
 
 use tac_code::{Operand, Target};
 
-/// Nothing; it goes to a target; where its truth is so, the code jumps, and goes on otherwise.
+/// Nothing; it goes to a target; where its truth is as given, the code jumps, and continues otherwise.
 #[derive(Clone, Copy, Debug)]
 pub enum Mode {
     Nowhere,
@@ -14,7 +14,7 @@ pub enum Mode {
     If(bool, usize),
 }
 
-/// What of a mode decides how many instructions there are: nothing; it goes to a temporary or a slot; to an object; a jump.
+/// The part of a mode that decides the number of instructions: nothing; it goes to a temporary or a slot; to an object; a jump.
 #[derive(Clone, Copy, Debug)]
 pub enum Shape {
     Nowhere,
@@ -23,7 +23,7 @@ pub enum Shape {
     Jump,
 }
 
-/// So that the value is in this operand.
+/// The mode that puts the value in this operand.
 pub fn mode_of(operand: Operand) -> Mode
     ensures { meant result ≡ lowered.mode_of operand }
 {

@@ -1,4 +1,4 @@
-//! Operations, and what becomes of their values.
+//! Operations, and the uses of their values by a mode.
 
 ghost use Rattle.std.specs.Prelude.{◌≡◌, true, false, OnOk};
 ghost use Rattle.lower_correct.specs.Code as relation;
@@ -16,7 +16,7 @@ use ctypes::BinOp;
 use std::alloc::AllocError;
 use tac_code::{Instruction, Operand, Operation, Reading, Target};
 
-/// What becomes of a value that is in an operand.
+/// The use, by a mode, of a value that is in an operand.
 pub fn put_end(code: &mut Code, mode: Mode, operand: Operand) -> Result<(), AllocError>
     ensures { OnOk result (Wrote (λ w p q. relation.Ends w (meant mode) operand p q) (size.ends_size (shape_of (meant mode))) code.old.list.items code.new.list.items) }
 {
@@ -127,7 +127,7 @@ pub fn put_operation(
     }
 }
 
-/// An operation, and what becomes of its value.
+/// An operation, and the use of its value by a mode.
 pub fn put_then(
     code: &mut Code,
     op: BinOp,

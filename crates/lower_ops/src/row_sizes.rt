@@ -19,7 +19,7 @@ pub struct Scope<'p> {
     pub function: &'p Function,
 }
 
-/// The product, if a word counts it.
+/// The product, if it fits a word.
 pub fn times(count: usize, length: u32) -> Result<usize, AllocError>
     ensures { IfOk result (λ n. n ≡ length * count) }
 {
@@ -45,7 +45,7 @@ fn object_size(element: IntType, lengths: &[u32]) -> Result<usize, AllocError>
     times(elements(lengths)?, size_of(element))
 }
 
-/// The bytes of what is so many elements deep in an object of these lengths.
+/// The bytes of a part that is `depth` elements deep in an object of these lengths.
 fn size_at(depth: usize, element: IntType, lengths: &[u32]) -> Result<usize, AllocError>
     ensures { IfOk result (λ n. n ≡ rows.size_at depth element lengths.now) }
 {
@@ -142,7 +142,7 @@ fn named_size(scope: &Scope<'_>, depth: usize, what: Storage) -> Result<usize, A
     }
 }
 
-/// The bytes of what is so many elements deep in a place.
+/// The bytes of a part that is `depth` elements deep in a place.
 fn deep_size(scope: &Scope<'_>, depth: usize, place: &Place) -> Result<usize, AllocError>
     ensures { IfOk result (λ n. n ≡ rows.deep_size depth (typed.type_of_place (program_of scope.now.program.now) (function_of scope.now.function.now) (place_of place.now))) }
 {

@@ -1,4 +1,4 @@
-//! Where the reference is that a place gives, and what is free beside it.
+//! Where the reference is that a place gives, and which temporaries and slots are free next to it.
 
 ghost use Rattle.std.specs.Prelude.{◌≡◌, IfOk};
 ghost use Rattle.typed_ast.specs.View.{place_of, storage_of};
@@ -15,7 +15,7 @@ use std::alloc::AllocError;
 use tac_code::{Operand, Place as Spot, Target};
 use typed_ast::{Place, Storage};
 
-/// Over a call in a slot, else in a temporary.
+/// A slot where the value has to survive a call, else a temporary.
 pub fn target_for(has_calls: bool, temporary: usize, slot: usize) -> Target
     ensures { result ≡ places.target_for has_calls temporary slot }
 {
@@ -37,7 +37,7 @@ fn named_spot(what: Storage) -> Spot
     }
 }
 
-/// Where the reference is while what comes next is evaluated, which calls or not.
+/// Where the reference is while the next part is evaluated, which calls or not.
 pub fn found(place: &Place, has_calls: bool, temporary: usize, slot: usize) -> Spot
     ensures { result ≡ places.found (place_of place.now) has_calls temporary slot }
 {
@@ -47,7 +47,7 @@ pub fn found(place: &Place, has_calls: bool, temporary: usize, slot: usize) -> S
     }
 }
 
-/// The first temporary that is free beside a reference.
+/// The first free temporary after that of a reference.
 pub fn free_temporary_at(spot: Spot, temporary: usize) -> Result<usize, AllocError>
     ensures { IfOk result (λ n. n ≡ places.free_temporary_at spot temporary) }
 {
@@ -64,7 +64,7 @@ pub fn free_temporary_at(spot: Spot, temporary: usize) -> Result<usize, AllocErr
     }
 }
 
-/// The first slot that is free beside a reference.
+/// The first free slot after that of a reference.
 pub fn free_slot_at(spot: Spot, slot: usize) -> Result<usize, AllocError>
     ensures { IfOk result (λ n. n ≡ places.free_kept_at spot slot) }
 {

@@ -1,4 +1,4 @@
-//! Where a value is while others are evaluated, and what is free beside it.
+//! Where a value is while others are evaluated, and which temporaries and slots are free next to it.
 
 ghost use Rattle.std.specs.Prelude.{◌≡◌, ◌+◌, ℕ, Bool, IfOk};
 ghost use Rattle.lower_correct.specs.Values as values;
@@ -8,7 +8,7 @@ use crate::words::word_of;
 use std::alloc::AllocError;
 use tac_code::Operand;
 
-/// Over a call in a slot, else in a temporary.
+/// A slot where the value has to survive a call, else a temporary.
 pub fn pending(has_calls: bool, temporary: usize, slot: usize) -> Operand
     ensures { result ≡ values.pending has_calls temporary slot }
 {
@@ -50,7 +50,7 @@ pub fn constant_or(constant: Option<i64>, operand: Operand) -> Operand
     }
 }
 
-/// The next number. An error where a word does not count so far.
+/// The next number. An error where it does not fit a word.
 pub fn next(number: usize) -> Result<usize, AllocError>
     ensures { IfOk result (λ n. n ≡ number + 1) }
 {
@@ -60,7 +60,7 @@ pub fn next(number: usize) -> Result<usize, AllocError>
     }
 }
 
-/// The first temporary that is free beside an operand.
+/// The first free temporary after that of an operand.
 pub fn free_temporary(operand: Operand, temporary: usize) -> Result<usize, AllocError>
     ensures { IfOk result (λ n. n ≡ values.free_temporary operand temporary) }
 {
@@ -73,7 +73,7 @@ pub fn free_temporary(operand: Operand, temporary: usize) -> Result<usize, Alloc
     }
 }
 
-/// The first slot that is free beside an operand.
+/// The first free slot after that of an operand.
 pub fn free_slot(operand: Operand, slot: usize) -> Result<usize, AllocError>
     ensures { IfOk result (λ n. n ≡ values.free_kept operand slot) }
 {

@@ -9,14 +9,14 @@ use crate::form_sizes::plus;
 use std::alloc::AllocError;
 use tac_code::Instruction;
 
-/// The code of a function, no longer than a word counts.
+/// The code of a function, of fewer than 2^62 instructions.
 #[derive(Drop)]
 pub struct Code {
     pub list: Vec<Instruction>,
     ghost short: { length list.items < 4611686018427387904 },
 }
 
-/// Whether one more instruction keeps the code so short: beside a lack of memory this alone is refused.
+/// Whether one more instruction keeps the code that short: apart from a lack of memory only this is refused.
 fn has_room(code: &Code) -> bool
     ensures { result ≡ nat_lt (length code.now.list.items) 4611686018427387902 }
 {
@@ -34,7 +34,7 @@ pub fn put(code: &mut Code, instruction: Instruction) -> Result<(), AllocError>
     Ok(())
 }
 
-/// The position so many instructions ahead.
+/// The position `size` instructions ahead.
 pub fn ahead(code: &Code, size: usize) -> usize
     ensures { result ≡ parts.plus (length code.now.list.items) size }
 {

@@ -1,4 +1,4 @@
--- What is asked of statements besides their types holds of those that the checker's rules give (6.8).
+-- The requirements on statements in addition to their types hold for those that the checker's rules give (6.8).
 use Rattle.std.proofs.Common.{◌≡◌, ℕ, ◌-◌, length, Bool, true, false, ◌&&◌, ◌||◌, ℤ, List, [], ◌∷◌, ◌++◌, Option, Some, None, refl, sym, subst}
 use Rattle.std.specs.Prelude.{if◌then◌else◌, nat_lt}
 use Rattle.std.specs.List.{list_all}
@@ -152,7 +152,7 @@ declaration_asked : (s : Scope) (t : DeclarationTree) → IfFine DeclaredAsked (
 declaration_asked s (declared at ss items) = then_any DeclaredAsked (declarations.specified_for s at ss items) _ (λ d. items_asked d.class d.base items d.scope)
 declaration_asked s (assertion at e text) = then_any DeclaredAsked (declarations.asserted s at e) _ (λ u. tt)
 
--- ---- labels that fit the switch in whose block they stand
+-- ---- labels that fit the switch whose block contains them
 
 abbrev ValuesFit : IntType → List (Option ℤ) → Type 0
 ValuesFit t vs = list_all (label_fits t) vs ≡ true

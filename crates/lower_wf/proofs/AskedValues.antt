@@ -1,4 +1,4 @@
--- Operands of typed expressions have promoted types, and what is used gives a value (6.3.1.8, 6.5).
+-- Operands of typed expressions have promoted types, and a used expression gives a value (6.3.1.8, 6.5).
 use Rattle.std.proofs.Common.{◌≡◌, ℕ, Bool, true, false, ◌&&◌, List, [], ◌∷◌, length, Option, Some, None, refl}
 use Rattle.std.specs.Prelude.{if◌then◌else◌}
 use Rattle.std.proofs.lemmas.Bool.{and_from}
@@ -71,7 +71,7 @@ operands_wide op.BitAnd a b = usual_wide a b
 operands_wide op.BitXor a b = usual_wide a b
 operands_wide op.BitOr a b = usual_wide a b
 
--- ---- what is asked of a value, also of one that goes unused
+-- ---- the requirements on a value, also on one that goes unused
 
 abbrev A : Value → Bool
 A e = value_is_asked e

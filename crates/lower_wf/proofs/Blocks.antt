@@ -1,4 +1,4 @@
--- Declarations in a block are typed (6.7), and leave names that stand for what the program has.
+-- Declarations in a block are typed (6.7), and their names denote entities of the program.
 use Rattle.std.proofs.Common.{◌≡◌, ◌<◌, ℕ, zero, suc, Bool, true, false, not, nat_eq, List, [], ◌∷◌, ◌++◌, length, Option, Some, None, refl, sym, ap, ◌∙◌, subst, ◌⊎◌, inl, inr, arith}
 use Rattle.std.specs.Prelude.{slice_get, if◌then◌else◌}
 use Rattle.std.proofs.lemmas.Bool.Decides.{nat_tests}
@@ -41,7 +41,7 @@ put_last_static : (xs : List StaticObject) (y z : StaticObject) → put_static (
 put_last_static [] y z = refl
 put_last_static (x ∷ xs) y z = ap (λ l. x ∷ l) (put_last_static xs y z)
 
--- ---- what has begun: an automatic object, or a static one
+-- ---- the object that has begun: an automatic or a static one
 
 abbrev automatic_begun : Scope → Pos → ℕ → StorageClass → Option Init → DeclaredType → Begun
 automatic_begun s at n class init t = record { at = at; name = n; class = class; type = t; what = typed.automatic (length s.objects); init = init; scope = with_automatic s n t }

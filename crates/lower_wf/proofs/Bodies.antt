@@ -1,4 +1,4 @@
--- A function whose file's names stand for what the program has is typed (6.9.1).
+-- A function whose file's names denote entities of the program is typed (6.9.1).
 use Rattle.std.proofs.Common.{◌≡◌, ◌≤◌, ℕ, ◌+◌, ◌-◌, true, ◌&&◌, nat_lt, nat_eq, List, [], ◌∷◌, ◌++◌, length, take, None, refl, sym, ap, ◌∙◌, subst, arith}
 use Rattle.std.specs.Prelude.{slice_get}
 use Rattle.std.proofs.lemmas.Bool.{false≢true, and_from}

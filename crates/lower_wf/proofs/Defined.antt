@@ -1,4 +1,4 @@
--- What is typed and present designates defined objects alone (6.9p3, p5).
+-- Typed and present code designates only defined objects (6.9p3, p5).
 use Rattle.std.proofs.Common.{◌≡◌, Bool, true, false, ◌&&◌, List, [], ◌∷◌, ◌++◌, Option, Some, None, refl}
 use Rattle.std.specs.Prelude.{slice_get}
 use Rattle.std.proofs.lemmas.Bool.{false≢true, and_from}

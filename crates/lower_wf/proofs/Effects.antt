@@ -1,4 +1,4 @@
--- A value that goes unused is typed as it was, also where its call says that it goes unused.
+-- A value that goes unused is typed as it was, also where its call is marked as unused.
 use Rattle.std.proofs.Common.{◌≡◌, Bool, true, false, not, ◌&&◌, ◌||◌, ◌++◌, Option, Some, None, refl, ap, ◌∙◌, subst}
 use Rattle.std.proofs.lemmas.Bool.{and_from}
 use Rattle.srcset.specs.declared.code.Code.{Code}

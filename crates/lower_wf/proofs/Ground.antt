@@ -1,4 +1,4 @@
--- What the checker's names, places and values are in a typed program.
+-- The checker's names, places and values, seen in a typed program.
 use Rattle.std.proofs.Common.{◌≡◌, ◌≤◌, ◌<◌, ℕ, zero, suc, ◌+◌, ◌*◌, Bool, true, false, ◌&&◌, nat_lt, List, [], ◌∷◌, ◌++◌, length, Option, Some, None, pos, refl, ap, ◌∙◌, arith}
 use Rattle.std.proofs.lemmas.Bool.{false≢true, and_from}
 use Rattle.std.proofs.lemmas.Bool.Decides.{nat_tests}
@@ -92,7 +92,7 @@ row_sized_by b (suc n) (suc k) h l = (omega arith, let e : b * (suc n * suc k) �
 pub row_sized : (e : IntType) (k : Bool) (n : ℕ) (l : List ℕ) → let t : ObjectType = record { element = e; constant = k; lengths = n ∷ l } in let u : ObjectType = record { element = e; constant = k; lengths = l } in Sized t → Sized u
 row_sized e k n l h = row_sized_by (bytes_of e) n (elements_in l) h.0 h.1
 
--- ---- what is typed
+-- ---- properties that say that code is typed
 
 abbrev pub PlaceTyped : Setting → Place → Type 0
 PlaceTyped W a = Present W.program (uses_in_place a) → place_is_typed W.program W.function a ≡ true

@@ -31,7 +31,7 @@ fits_room n r h = grind (arith, nat_tests, h)
 le_test : (n r : ℕ) → n ≤ r → nat_le n r ≡ true
 le_test n r h = grind (arith, nat_tests, h)
 
--- ---- what an array of m elements asks of its initialiser, where its room is known or not
+-- ---- the requirements of an array of m elements on its initialiser, where its room is known or not
 
 abbrev pub TextRoom : Scope → Option ℕ → ℕ → Tree → Type 0
 TextRoom s room m (string own n) = exceeds (length (literal_of s n)) room ≡ false → length (literal_of s n) ≤ m
@@ -85,7 +85,7 @@ module _ (W : Setting) where
   abbrev IsShort : ℕ → Option (List ℕ) → Type 0
   IsShort m text = (t : List ℕ) → text ≡ Some t → length t ≤ m + 1
 
-  -- an initialiser's form beside the lengths of its object
+  -- an initialiser's form, and the lengths of its object
   abbrev pub Shape : List ℕ → Initialiser → Type 0
   Shape l (typed.one_value u e) = l ≡ []
   Shape [] (typed.text k) = ⊥
@@ -168,7 +168,7 @@ module _ (W : Setting) where
       refused_number (fine x) = tt
       refused_number v = tt
 
-  -- the text that stands alone in braces is the list's one part
+  -- a text alone in braces is the list's one part
   alone : (parts : Inits) (e : Tree) (rest : List ℕ) → TextsEnd W (rest ++ strings_of_all parts) → text_alone parts ≡ Some e → TextsEnd W (rest ++ strings e)
   alone (and_init (one_init (string own n)) no_inits) e rest T h = subst (λ x. TextsEnd W (rest ++ strings x)) (same_some (string own n) e h) (front W rest (n ∷ []) [] T)
   alone parts e rest T h = absurd (let z : ⊥ = cc in z)

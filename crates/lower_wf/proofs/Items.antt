@@ -1,4 +1,4 @@
--- What a declarator leaves (6.7): its statement, its first values, its name.
+-- The effects of a declarator (6.7): its statement, its first values, its name.
 use Rattle.std.proofs.Common.{◌≡◌, ◌≤◌, ◌<◌, ℕ, zero, suc, ◌+◌, ℤ, Bool, true, false, ◌&&◌, nat_le, nat_lt, List, [], ◌∷◌, ◌++◌, length, Option, Some, None, refl, sym, ap, ◌∙◌, subst, arith}
 use Rattle.std.specs.Prelude.{slice_get}
 use Rattle.std.proofs.lemmas.Bool.{and_from}
@@ -82,7 +82,7 @@ module _ (W : Setting) where
   pub nothing_done : (s : Scope) → ItemGood s s no_effects
   nothing_done s = (stays s, λ N E. (N, λ lo hi l k. tt, tt))
 
-  -- ---- an item whose scope behind it is known
+  -- ---- an item after which the scope is known
 
   abbrev EG : Scope → Scope → Effects → Type 0
   EG s u e = EffectsGood (length s.objects) (length u.objects) e × InitialsGood e.initial

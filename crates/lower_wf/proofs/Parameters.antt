@@ -1,4 +1,4 @@
--- A function's parameters stand for its first objects and its references, so its body is typed (6.9.1).
+-- A function's parameters denote its first objects and its references, so its body is typed (6.9.1).
 use Rattle.std.proofs.Common.{◌≡◌, ℕ, suc, Bool, true, ◌&&◌, nat_eq, List, [], ◌∷◌, ◌++◌, length, Option, Some, None, refl, sym, ap, ◌∙◌, subst, append_assoc, append-nil, arith}
 use Rattle.std.specs.Prelude.{slice_get}
 use Rattle.std.proofs.lemmas.Bool.{and_from}
@@ -23,7 +23,7 @@ use Rattle.lower_wf.proofs.Scopes.{Extends, extends_none, extends_on, ObjectsEnd
 use Rattle.lower_wf.proofs.Specifiers.{SizesGood, sizes_good, number_sized}
 use Rattle.lower_wf.proofs.Items.{object_fits}
 
--- ---- what a parameter is
+-- ---- the properties of a parameter
 
 abbrev IsParameter : ParameterObject → Type 0
 IsParameter (a_number t) = (t.lengths ≡ []) × Sized t
@@ -63,7 +63,7 @@ one_more_reference (elements u ∷ before) (a_number t) = ap suc (one_more_refer
 one_more_reference (elements u ∷ before) (a_reference t) = let e = one_more_reference before (a_reference t) in omega (arith, e)
 
 module _ (W : Setting) where
-  -- the parameters that come behind those of `before`, from scope s on
+  -- the parameters that follow those of `before`, from scope s on
   pub record Stand (before : List ParameterType) (s : Scope) (p : Parameters) : Type 0 where
     pub texts : p.scope.texts ≡ s.texts
     pub definitions : p.scope.definitions ≡ s.definitions

@@ -1,5 +1,5 @@
--- What a scope has is sized (6.7p7, 6.7.6.2p1, 6.9.2): objects of the function, those with static storage, and what names stand for. Behind a
--- declaration it still is.
+-- The entries of a scope are sized (6.7p7, 6.7.6.2p1, 6.9.2): objects of the function, those with static storage, and the meanings of names.
+-- A declaration preserves that.
 use Rattle.std.proofs.Common.{◌≡◌, ◌≤◌, ◌<◌, ℕ, zero, suc, ◌*◌, Bool, true, false, not, ◌&&◌, ℤ, pos, ◌+ℤ◌, nat_eq, List, [], ◌∷◌, ◌++◌, Option, Some, None, sym, subst, arith}
 use Rattle.std.specs.Prelude.{if◌then◌else◌}
 use Rattle.srcset.specs.declared.code.Code.TheVariants as code
@@ -24,7 +24,7 @@ use Rattle.lower_wf.proofs.Typings.{product_positive, sized_part}
 use Rattle.lower_wf.proofs.Specifiers.{declared_good}
 use Rattle.lower_wf.proofs.Items.{LengthGood, length_good}
 
--- ---- what is sized
+-- ---- properties that say that entries are sized
 
 abbrev pub AllSized : List ObjectType → Type 0
 AllSized [] = Unit {0}

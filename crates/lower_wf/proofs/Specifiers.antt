@@ -1,4 +1,4 @@
--- Specifiers and declarators: the scope behind them, and types of a size (6.7.2, 6.7.6).
+-- Specifiers and declarators: the scope after them, and types of a size (6.7.2, 6.7.6).
 use Rattle.std.proofs.Common.{◌≡◌, ◌<◌, ℕ, ◌*◌, ℤ, pos, ◌+ℤ◌, Bool, true, false, not, List, [], ◌∷◌, Option, Some, None, refl, arith}
 use Rattle.std.proofs.lemmas.Bool.{true≢false}
 use Rattle.srcset.specs.declared.code.Code.TheVariants as code
@@ -38,7 +38,7 @@ value_good s next at None = fits_int_good at next
 value_good s next at (Some e) = then_any IsInt (constant_value s e) (λ c. rules.fits_int at c.v) (λ c. fits_int_good at c.v)
 
 module _ (W : Setting) where
-  -- a scope further on, whose names stand for what the program has
+  -- a later scope, whose names denote entities of the program
   abbrev pub Leads : Scope → Scope → Type 0
   Leads s u = Grown s u × (Names W s → Names W u)
 

@@ -68,7 +68,7 @@ module _ (W : Setting) where
   carried : (s u : Scope) → Grown s u → u.bindings ≡ s.bindings → Names W s → Names W u
   carried s u g e N = (g.texts ∙ N.0, g.definitions ∙ N.1, subst (AllFit W) (sym e) N.2)
 
-  -- ---- expressions, once it is known what the program has
+  -- ---- expressions, once the entities of the program are known
 
   abbrev Known : Scope → Tree → Type 0
   Known s e = Names W s × TextsEnd W (s.literals ++ strings e)
@@ -140,7 +140,7 @@ module _ (W : Setting) where
         ),
       )
 
-  -- ---- one statement behind an expression
+  -- ---- one statement after an expression
 
   from_past : (s : Scope) (e : Tree) (d : Done) → DoneGood (past s e) d → DoneGood s d
   from_past s e d g = (onwards s (past s e) d.scope (literals_grow s (strings e)) g.0, g.1, g.2)

@@ -89,7 +89,7 @@ named_in_good s (type_name at specifiers sizes) =
     both_any HasElements SizedOption (base_type s at specifiers) (rules.lengths_in s at sizes) (rules.type_of at) (lengths_good s at sizes) (λ b ns h. array_type_good at b.type b.constant ns h)
 
 module _ (W : Setting) where
-  -- ---- literals, one behind another
+  -- ---- literals, one after another
 
   pub texts_left : (xs ys : List ℕ) → TextsEnd W (xs ++ ys) → TextsEnd W xs
   texts_left xs ys h n k e = h n k (get_left xs ys n k e)

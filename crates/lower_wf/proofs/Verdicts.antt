@@ -1,4 +1,4 @@
--- What holds of parts that are fine holds of the whole.
+-- A property that holds of the parts that are fine holds of the whole.
 use Rattle.std.proofs.Common.{◌≡◌, Bool, true, false, refl, subst}
 use Rattle.srcset.specs.declared.code.Code.{Code}
 use Rattle.srcset.specs.declared.refusal.Pos.{Pos}
@@ -20,7 +20,7 @@ pub both_any : {A B C : Type 0} (Q : B → Type 0) (R : C → Type 0) (v : Verdi
 both_any Q R (fine a) w go g h = then_some Q R w (go a) g (h a)
 both_any Q R (broken vs) w go g h = tt
 
--- a part behind a test
+-- a part after a test
 pub part : {A : Type 0} (P : A → Type 0) (test : Verdict (Unit {0})) (v : Verdict A) → IfFine P v → IfFine P (provided test v)
 part P test v h = both_any P P test v (λ u a. fine a) h (λ u a p. p)
 
@@ -57,7 +57,7 @@ pub both_of : {A : Type 0} (P Q : A → Type 0) (v : Verdict A) → IfFine P v �
 both_of P Q (fine a) p q = (p, q)
 both_of P Q (broken vs) p q = tt
 
--- what holds of the whole under a premise holds of each part of it
+-- a property of the whole under a premise holds of each part of it
 pub delayed : {A : Type 0} {H : Type 0} (P : H → A → Type 0) (v : Verdict A) → ((h : H) → IfFine (P h) v) → IfFine (λ a. (h : H) → P h a) v
 delayed P (fine a) g = g
 delayed P (broken vs) g = tt

@@ -1,5 +1,5 @@
--- What lowering asks of a typed program besides `IsChecked`: the constraints of ISO/IEC 9899:2011 6.3, 6.5, 6.7 and 6.8 that the typed form
--- would let pass, each with its section.
+-- The requirements of lowering on a typed program in addition to `IsChecked`: the constraints of ISO/IEC 9899:2011 6.3, 6.5, 6.7 and 6.8 that the
+-- typed form would let pass, each with its section.
 use Rattle.std.specs.Prelude.{◌≡◌, ℕ, ℤ, Bool, true, false, ◌&&◌, nat_le, nat_lt, List, Option, Some, None}
 use Rattle.std.specs.List.{list_all}
 use Rattle.ctypes.specs.declared.types.IntType.{IntType}
@@ -28,7 +28,7 @@ is_wide ty.UInt = true
 is_wide ty.Long = true
 is_wide ty.ULong = true
 
--- its value may be used: a call says so (6.5.2.2, 6.9.1p12), a void `?:` has none
+-- its value may be used: a call is marked so (6.5.2.2, 6.9.1p12), a void `?:` has none
 abbrev pub gives : Value → Bool
 gives (typed.constant t v) = true
 gives (typed.read t place) = true
@@ -47,7 +47,7 @@ gives (typed.discarded e) = true
 gives (typed.call at callee result used passed) = used
 
 abbrev mutual
-  -- operands are converted to promoted types (6.3.1.8, 6.5.3.3p3, 6.5.7p3, 6.5.15p5, 6.5.16.2p3), and what is used gives a value
+  -- operands are converted to promoted types (6.3.1.8, 6.5.3.3p3, 6.5.7p3, 6.5.15p5, 6.5.16.2p3), and a used expression gives a value
   pub value_is_asked : Value → Bool
   value_is_asked (typed.constant t v) = true
   value_is_asked (typed.read t place) = place_is_asked place
@@ -96,7 +96,7 @@ abbrev mutual
   initialisers_are_asked typed.no_initialisers = true
   initialisers_are_asked (typed.and_initialiser i more) = initialiser_is_asked i && initialisers_are_asked more
 
--- what declares an object (6.8.5.3p1: a declaration, which never leaves the `for`)
+-- statements that declare an object (6.8.5.3p1: a declaration, which never leaves the `for`)
 abbrev pub declares : Statement → Bool
 declares (typed.declare n) = true
 declares (typed.define n i) = true
@@ -160,7 +160,7 @@ bodies_are_asked p = list_all (λ f. statement_is_asked f.body) p.functions
 abbrev pub is_sized : ObjectType → Bool
 is_sized t = nat_lt 0 (elements_in t.lengths) && nat_le (size_of_object t) object_limit
 
--- 6.7.6.3p7: what an array parameter refers to
+-- 6.7.6.3p7: the object that an array parameter refers to
 abbrev pub parameter_is_sized : ParameterType → Bool
 parameter_is_sized (number t) = true
 parameter_is_sized (elements t) = is_sized t

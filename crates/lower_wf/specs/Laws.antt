@@ -1,4 +1,4 @@
--- What a unit that breaks no constraint gives, of all that lowering asks for (`IsChecked`).
+-- The guarantees of a unit that breaks no constraint, of all that lowering requires (`IsChecked`).
 use Rattle.std.specs.Prelude.{◌≡◌, ◌≤◌, ◌<◌, ℕ, List, [], length, slice_get, Some}
 use Rattle.srcset.specs.declared.refusal.Pos.{Pos}
 use Rattle.ctypes.specs.declared.types.IntType.TheVariants as ty
@@ -12,7 +12,7 @@ use Rattle.tac_code.specs.Sound.{AreBytes, data_bytes}
 use Rattle.tac_code.specs.Spans.{own_bytes}
 use Rattle.tree.specs.Limits.{function_node_limit}
 
--- ---- what is known of a unit
+-- ---- the facts known of a unit
 
 -- the characters of names and literals are bytes (5.1.1.2, 6.4.5p6)
 abbrev pub AreTexts : List (List ℕ) → Type 0
@@ -22,7 +22,7 @@ AreTexts texts = (k : ℕ) (text : List ℕ) → slice_get texts k ≡ Some text
 abbrev pub IsWithinNodes : List ExternalTree → Type 0
 IsWithinNodes unit = (k : ℕ) (f : FunctionTree) → slice_get unit k ≡ Some (definition f) → function_nodes f ≤ function_node_limit
 
--- ---- what is counted of its program
+-- ---- the measures of its program
 
 -- the weight is that of the tree's nodes and of the objects, the typed nodes are no more than the tree's
 pub record FunctionIsMeasured (f : Function) : Type 0 where

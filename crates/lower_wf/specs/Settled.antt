@@ -1,4 +1,4 @@
--- When the names of a scope stand for what a program has, and what a scope has is the program's in the end.
+-- When the names of a scope denote entities of a program, and the entries of a scope are the program's in the end.
 use Rattle.std.specs.Prelude.{◌≡◌, ◌≤◌, ◌<◌, ℕ, Bool, true, List, [], ◌∷◌, ◌++◌, length, Option, Some, None, slice_get}
 use Rattle.ctypes.specs.declared.types.IntType.{IntType}
 use Rattle.ctypes.specs.declared.types.IntType.TheVariants as ty
@@ -18,14 +18,14 @@ use Rattle.typing_spec.specs.Units.{Built, function_typed, numbers_in}
 use Rattle.tac_code.specs.Designated.{in_statement, in_statements}
 use Rattle.typing_spec.specs.Expressions.{object_limit}
 
--- a program, a function of it, and what its names and definitions are
+-- a program, a function of it, and its names and definitions
 pub record Setting : Type 0 where
   pub program : Program
   pub function : Function
   pub texts : List (List ℕ)
   pub definitions : List ℕ
 
--- ---- what is used has a definition
+-- ---- used entities have definitions
 
 abbrev pub IsPresent : Program → Used → Type 0
 IsPresent p (uses.an_object n) = (o : Static) → slice_get p.statics n ≡ Some o → o.defined ≡ true
@@ -35,7 +35,7 @@ abbrev pub Present : Program → List Use → Type 0
 Present p [] = Unit {0}
 Present p (u ∷ us) = IsPresent p u.what × Present p us
 
--- ---- what a place of a type may be found to have: a number that type, an array such rows
+-- ---- the types that a place of a type may have: a number that type, an array such rows
 
 abbrev pub RowsAre : ObjectType → Option DeclaredType → Type 0
 RowsAre u T = (is_array T ≡ true) × (rows_of T ≡ Some u)
@@ -60,7 +60,7 @@ SizedType (unknown_size t) = Sized t
 abbrev pub callee_in : List (List ℕ) → List ℕ → ℕ → Callee
 callee_in texts definitions n = callee_of (file_scope texts definitions) n
 
--- a call of what has no definition is not evaluated
+-- a call of a function without a definition is not evaluated
 abbrev pub CalleeFits : Program → Callee → FunctionType → Type 0
 CalleeFits p (typed.missing n) t = Unit {0}
 CalleeFits p (typed.function f) t = callee_type p (typed.function f) ≡ Some t
@@ -101,7 +101,7 @@ abbrev pub IsWider : ObjectType → Option Static → Type 0
 IsWider t None = ⊥
 IsWider t (Some o) = Wider t o.type
 
--- ---- what a scope has is what the program has in the end
+-- ---- the entries of a scope are those of the program in the end
 
 abbrev pub StaticsEnd : Setting → List StaticObject → Type 0
 StaticsEnd W os = (n : ℕ) (o : StaticObject) → slice_get os n ≡ Some o → IsWider o.type (slice_get W.program.statics n)
@@ -114,16 +114,16 @@ Ends W s = TextsEnd W s.literals × StaticsEnd W s.statics × ObjectsEnd W s.obj
 
 -- ---- the laws
 
--- The items of a block of a function are typed, and designate what is defined, where what they use is present: as soon as the names before
--- them stand for what the program has, and the scope behind them is the program's in the end.
+-- The items of a block of a function are typed, and designate defined entities, where the entities that they use are present: as soon as the
+-- names before them denote entities of the program, and the scope after them is the program's in the end.
 abbrev pub BlockIsTyped : Type 0
 BlockIsTyped = (W : Setting) (around : Around) (direct : Option IntType) (s : Scope) (ps : Pieces) (all : AllDone) → around.result ≡ W.function.type.result → (s.level ≡ 0 → ⊥)
     → pieces around direct s ps ≡ fine all → Names W s → Ends W all.scope → (lo hi : ℕ) → lo ≤ length s.objects → length all.scope.objects ≤ hi → Present W.program (uses_in_statements all.statements)
     → (statements_are_typed W.program W.function lo hi all.statements ≡ true) × (in_statements W.program all.statements ≡ true)
 
--- The function that a definition adds is typed, and designates what is defined (6.9.1): as soon as the names of the file behind it stand for
--- what the program has, its string literals and its objects with static storage are the program's in the end, and what its body uses
--- is present.
+-- The function that a definition adds is typed, and designates defined entities (6.9.1): as soon as the names of the file after it denote entities
+-- of the program, its string literals and its objects with static storage are the program's in the end, and the entities that its body uses
+-- are present.
 abbrev pub FunctionIsTyped : Type 0
 FunctionIsTyped = (W : Setting) (b c : Built) (f : FunctionTree) → function_typed b f ≡ fine c → c.functions ≡ b.functions ++ W.function ∷ [] → Names W c.scope → TextsEnd W c.scope.literals → StaticsEnd W c.scope.statics
     → Present W.program (uses_in_statement W.function.body)

@@ -1,5 +1,5 @@
-//! What the checker's definition gives of all that lowering asks for: what is counted of a program, blocks that are typed,
-//! and what the typed form would let pass besides.
+//! The properties of the checker's definition that lowering requires: the measures of a program, blocks that are typed,
+//! and the constraints that the typed form would let pass.
 #![tactic(auto)]
 
 ghost use Rattle.lower_wf.specs.Asked.{ProgramIsAsked};
@@ -11,17 +11,17 @@ pub fn program_is_measured()
     ensures { ProgramIsMeasured }
 {}
 
-/// The items of a block are typed, where its names stand for what the program has.
+/// The items of a block are typed, where its names denote entities of the program.
 pub fn block_is_typed()
     ensures { BlockIsTyped }
 {}
 
-/// Operands have promoted types, what is used gives a value, a `for` declares, cases are values of their switch's type, and types are sized.
+/// Operands have promoted types, a used expression gives a value, a `for` declares, cases are values of their switch's type, and types are sized.
 pub fn program_is_asked()
     ensures { ProgramIsAsked }
 {}
 
-/// The function that a definition adds is typed, where the names of its file stand for what the program has.
+/// The function that a definition adds is typed, where the names of its file denote entities of the program.
 pub fn function_is_typed()
     ensures { FunctionIsTyped }
 {}

@@ -1,4 +1,4 @@
--- What a name stands for behind a new binding, and types of which one may be longer.
+-- The meaning of a name after a new binding, and types of which one may be longer.
 use Rattle.std.proofs.Common.{◌≡◌, ◌≤◌, ◌<◌, ℕ, ◌*◌, zero, suc, Bool, true, false, nat_eq, List, [], ◌∷◌}
 use Rattle.std.proofs.Common.{Option, Some, None, refl, sym, ap, ◌∙◌, subst, ◌⊎◌, inl, inr, arith}
 use Rattle.std.specs.Prelude.{if◌then◌else◌}
@@ -19,7 +19,7 @@ use Rattle.lower_wf.proofs.Scopes.{wider_fits}
 use Rattle.lower_wf_units.proofs.Files.{Stands}
 use Rattle.lower_wf_units.proofs.FileSteps.{wider_self}
 
--- ---- a name behind a new binding
+-- ---- a name after a new binding
 
 abbrev pub Means : Option Binding → Meaning → Type 0
 Means o m = (b : Binding) × (o ≡ Some b) × (b.meaning ≡ m)

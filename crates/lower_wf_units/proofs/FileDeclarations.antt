@@ -28,7 +28,7 @@ module _ (p : Program) (texts : List (List ℕ)) (definitions : List ℕ) where
   abbrev Declares : Scope → Declared → Type 0
   Declares s d = DeclaredReaches p texts definitions s d
 
-  -- what comes behind a step without first values
+  -- the result after a step without first values
   behind_step : (s u : Scope) (v : Verdict Declared) → Leads s u → IfFine (Declares u) v → IfFine (Declares s) v
   behind_step s u v g h = more_of (Declares u) (Declares s) v (λ d k. reaches_on p texts definitions s u d.scope [] d.effects.initial g k) h
 

@@ -1,4 +1,4 @@
--- What a file's scope has at the end of a unit is the program's.
+-- A file's scope at the end of a unit agrees with the program.
 use Rattle.std.proofs.Common.{◌≡◌, ◌≤◌, ℕ, zero, suc, ◌+◌, Bool, true, false, ◌&&◌, nat_eq, nat_le, ℤ, List, [], ◌∷◌, ◌++◌, length, Option, Some, None, refl, sym, ap, ◌∙◌, subst, arith}
 use Rattle.std.specs.Prelude.{slice_get, codes, if◌then◌else◌}
 use Rattle.std.proofs.lemmas.Bool.{and_from}
@@ -68,7 +68,7 @@ placed_at from (d ∷ ds) n k e = by (nat_eq d n) refl e (placed_at (from + 1) d
     by true f g h = (zero, (let z = same_some from k g in omega (arith, z)), ap Some (same_number d n (sym f)))
     by false f g h = let r = h g in (suc r.0, (let z = r.1 in omega (arith, z)), r.2)
 
--- a name stands for one function type
+-- a name denotes one function type
 one_type : (s : Scope) (n : ℕ) (t u : FunctionType) → Stands s n (a_function t) → Stands s n (a_function u) → t ≡ u
 one_type s n t u h k = by h.0 k.0 (same_some h.0 k.0 (sym h.1 ∙ k.1)) h.2 k.2
   where

@@ -1,4 +1,4 @@
--- The functions and declarations of a unit, one behind the other (6.9).
+-- The functions and declarations of a unit, one after the other (6.9).
 use Rattle.std.proofs.Common.{ℕ, List, [], ◌∷◌, refl, sym, append-nil}
 use Rattle.tree.specs.Tree.{DeclarationTree, ExternalTree, definition, declaration}
 use Rattle.typing_spec.specs.Program.{Program}

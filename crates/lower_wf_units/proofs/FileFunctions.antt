@@ -76,11 +76,11 @@ module _ (p : Program) (texts : List (List ℕ)) (definitions : List ℕ) where
   abbrev In : Function → Setting
   In g = in_function p texts definitions g
 
-  -- the scope behind a definition
+  -- the scope after a definition
   abbrev behind_body : Scope → AllDone → Scope
   behind_body file all = record file { literals = all.scope.literals; statics = all.scope.statics; objects = [] }
 
-  -- what the body of a function grows, and gives first values to
+  -- the additions of a function's body to the scope, and its first values
   abbrev Gives : FunctionType → Type 0
   Gives t = (W : Setting) × (W.function.type.result ≡ t.result)
 

@@ -26,7 +26,7 @@ use Rattle.lower_wf.proofs.Scopes.{extends_none}
 use Rattle.lower_wf_units.proofs.Files.{Stands, IsOfFile, IsFile, in_function, Final, Reaches}
 use Rattle.lower_wf_units.proofs.FileSteps.{statics_self, of_file_on, reaches_self, reaches_on, reaches_literals, reaches_tag}
 
--- ---- a part behind a test that is fine
+-- ---- a part after a test that is fine
 
 pub guarded : {A : Type 0} (P : A → Type 0) (test : Verdict (Unit {0})) (v : Verdict A) → (test ≡ fine tt → IfFine P v) → IfFine P (provided test v)
 guarded P (fine u) v h = part P (fine u) v (h refl)
@@ -48,7 +48,7 @@ value_good : (s : Scope) (next : ℤ) (at : Pos) (e : Option Tree) → IfFine Is
 value_good s next at None = fits_int_good at next
 value_good s next at (Some e) = then_any IsInt (constant_value s e) (λ c. rules.fits_int at c.v) (λ c. fits_int_good at c.v)
 
--- ---- a name that is fresh stands for nothing at file scope (6.7p3)
+-- ---- a name that is fresh denotes nothing at file scope (6.7p3)
 
 number_self : (n : ℕ) → nat_eq n n ≡ true
 number_self n = grind (arith, nat_tests)
@@ -102,7 +102,7 @@ object_again s n m l state z k what t h =
     by_name (Stands s k (an_object what t)) (new_name s n m l state) (lookup s k) (an_object what t) n k (nat_eq n k) refl
     (λ e f. absurd (subst NoObject f z)) (λ g. g) h
 
--- a name that is no object's, and that stood for no function of another type, in front of a file's names
+-- a name that is no object's, and that denoted no function of another type, in front of a file's names
 module _ (p : Program) (texts : List (List ℕ)) (definitions : List ℕ) where
   pub name_reaches : (s : Scope) (n : ℕ) (m : Meaning) (l : Linkage) (state : State) → IsFile s → NoObject m → IsOfFile s n m →
       ((t : FunctionType) → Stands s n (a_function t) → m ≡ a_function t) →

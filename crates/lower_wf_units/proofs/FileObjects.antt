@@ -1,4 +1,4 @@
--- Objects declared at file scope (6.9.2): their names stand for what the program has, and there is room for their first values.
+-- Objects declared at file scope (6.9.2): their names denote objects of the program, and there is room for their first values.
 use Rattle.std.proofs.Common.{◌≡◌, ◌<◌, ℕ, zero, suc, Bool, true, false, not, ◌&&◌, List, [], length, Option, Some, None, refl, sym, ap, ◌∙◌, subst}
 use Rattle.std.specs.Prelude.{slice_get, if◌then◌else◌}
 use Rattle.srcset.specs.declared.code.Code.TheVariants as code
@@ -28,7 +28,7 @@ use Rattle.lower_wf_units.proofs.FileSteps.{reaches_self, reaches_on, reaches_li
 use Rattle.lower_wf_units.proofs.FileBindings.{newest, declared_fits, longer_array, IfTyped, composite_good}
 use Rattle.lower_wf_units.proofs.FileStorage.{MayStand, stands_new, stands_again, object_of, put_scope, put_binding, put_is_file, put_onward}
 
--- ---- what a declaration leaves: an object's number and type
+-- ---- the result of a declaration: an object's number and type
 
 abbrev MayMean : Scope → ℕ → Meaning → Type 0
 MayMean s n m = (i : ℕ) × (t : DeclaredType) × (m ≡ an_object (typed.static i) t) × MayStand s n i t
@@ -183,7 +183,7 @@ module _ (p : Program) (texts : List (List ℕ)) (definitions : List ℕ) where
   abbrev Leads : Scope → Scope → Effects → Type 0
   Leads s u e = Reaches p texts definitions s e.initial u
 
-  -- ---- the scope behind a declaration
+  -- ---- the scope after a declaration
 
   put_reaches : (s : Scope) → IsFile s → (n i : ℕ) (t : DeclaredType) (l : Linkage) (state : State) (d : Bool) → MayStand s n i t →
       Reaches p texts definitions s [] (put_scope s n i t l state d)
@@ -195,7 +195,7 @@ module _ (p : Program) (texts : List (List ℕ)) (definitions : List ℕ) where
         (λ g. let w = N g in (w.0, w.1, ((fits g, M.sized), w.2)), λ g. tt),
   )
 
-  -- ---- first values, and the declarators behind them
+  -- ---- first values, and the declarators after them
 
   abbrev Goes : Scope → Verdict Declared → Type 0
   Goes s v = IfFine (DeclaredReaches s) v
@@ -276,7 +276,7 @@ module _ (p : Program) (texts : List (List ℕ)) (definitions : List ℕ) where
           (known a u v r (λ N E g. static_complete (In g) a at t i init (N g) (E.literals g) (E.statics g i (object_of (complete t) d) here)))
           (rest u r.1)
 
-      -- the array of m elements stands where the array of unknown size stood
+      -- the array of m elements takes the place of the array of unknown size
       abbrev ArrayReaches : ObjectType → Scope → ℕ → Scope → Type 0
       ArrayReaches t a m u = Reaches p texts definitions a [] u × (slice_get u.statics i ≡ Some (object_of (complete (array_of m t)) true))
 

@@ -1,4 +1,4 @@
--- What is behind a part of a unit: its scope, its functions, its first values (6.9).
+-- The result after a part of a unit: its scope, its functions, its first values (6.9).
 use Rattle.std.proofs.Common.{◌≡◌, ℕ, true, false, List, [], ◌∷◌, ◌++◌, length, None, refl, sym, ap, ◌∙◌, append_assoc, append-nil}
 use Rattle.typing_spec.specs.Program as typed
 use Rattle.typing_spec.specs.Program.{Function, Program}
@@ -37,18 +37,18 @@ each_of P Q (g ∷ gs) go h = (go g h.0, each_of P Q gs go h.1)
 pub no_function : Function
 no_function = record { name = 0; type = record { result = None; constant = false; parameters = [] }; objects = []; body = typed.empty; nodes = 0; weight = 0 }
 
--- a function stands for its name at file scope
+-- a function is the meaning of its name at file scope
 abbrev pub StandsIn : Scope → Function → Type 0
 StandsIn s g = Stands s g.name (a_function g.type)
 
 module _ (p : Program) (texts : List (List ℕ)) (definitions : List ℕ) where
-  -- the body is typed where what it uses is present
+  -- the body is typed where the objects and functions it uses are present
   abbrev pub BodyTyped : Function → Type 0
   BodyTyped g =
       Present p (uses_in_statement g.body) →
       (parameters_are_first g.type.parameters g.objects ≡ true) × (statement_is_typed p g (numbers_in g.type.parameters) (length g.objects) g.body ≡ true)
 
-  -- from b on, past what defines functions of these names, to c
+  -- from b on, past the definitions of functions of these names, to c
   pub record Passed (b : Built) (names : List ℕ) (c : Built) : Type 0 where
     pub more : List Initial
     pub initial : c.initial ≡ b.initial ++ more

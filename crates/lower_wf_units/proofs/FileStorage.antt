@@ -1,4 +1,4 @@
--- An object with static storage is declared at file scope, for the first time or once more (6.9.2): the objects, and the scope behind it.
+-- An object with static storage is declared at file scope, for the first time or once more (6.9.2): the objects, and the scope after it.
 use Rattle.std.proofs.Common.{◌≡◌, ℕ, zero, suc, Bool, List, [], ◌∷◌, ◌++◌, length, Some, None, refl, sym, ap, ◌∙◌, subst, inl, inr}
 use Rattle.std.specs.Prelude.{slice_get}
 use Rattle.typing_spec.specs.Types.{DeclaredType, FunctionType}
@@ -15,7 +15,7 @@ use Rattle.lower_wf_units.proofs.Files.{Stands, HasStatic, IsStatic, IsOfFile, I
 use Rattle.lower_wf_units.proofs.FileSteps.{wider_self}
 use Rattle.lower_wf_units.proofs.FileBindings.{OneOf, one_of, means_still, level_behind, one_meaning, no_function, one_static, nothing_there}
 
--- ---- objects beside one that is new, or has another type
+-- ---- objects other than one that is new, or has another type
 
 pub record PutFits (os : List StaticObject) (n : ℕ) (x : StaticObject) : Type 0 where
   pub here : slice_get (put_static os n x) n ≡ Some x
@@ -67,7 +67,7 @@ no_more : (os : List StaticObject) (o : StaticObject) → slice_get os (length o
 no_more [] o e = none_there 0 o e
 no_more (y ∷ os) o e = no_more os o e
 
--- ---- a name may stand for this object
+-- ---- a name may denote this object
 
 abbrev pub object_of : DeclaredType → Bool → StaticObject
 object_of t d = record { type = completed t; defined = d }
@@ -99,7 +99,7 @@ stands_again s F n i old t h z w =
       alone = λ k u g. F.apart k n i u old g h;
     }
 
--- ---- the scope behind its declaration
+-- ---- the scope after its declaration
 
 abbrev pub put_scope : Scope → ℕ → ℕ → DeclaredType → Linkage → State → Bool → Scope
 put_scope s n i t l state d = record (with_name s n (an_object (typed.static i) t) l state) { statics = put_static s.statics i (object_of t d) }

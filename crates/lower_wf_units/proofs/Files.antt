@@ -1,4 +1,4 @@
--- Scopes of a file: what declarations at file scope keep, and what the program has in the end.
+-- Scopes of a file: the invariant of declarations at file scope, and the final program.
 use Rattle.std.proofs.Common.{◌≡◌, ℕ, true, List, Some}
 use Rattle.std.specs.Prelude.{slice_get}
 use Rattle.ctypes.specs.declared.types.IntType.TheVariants as ty
@@ -15,7 +15,7 @@ use Rattle.lower_wf.proofs.Items.{InitialsGood}
 
 -- ---- the names of a file
 
--- the newest declaration of a name says that it stands for this
+-- the newest declaration of a name gives it this meaning
 abbrev pub Stands : Scope → ℕ → Meaning → Type 0
 Stands s n m = (b : Binding) × (lookup s n ≡ Some b) × (b.meaning ≡ m)
 
@@ -29,7 +29,7 @@ IsStatic s (typed.literal i) t = ⊥
 IsStatic s (typed.automatic i) t = ⊥
 IsStatic s (typed.parameter i) t = ⊥
 
--- what a name of a file may stand for: an object with static storage, a function, which has a built-in's type where it has its name, an enumerator
+-- the possible meanings of a name of a file: an object with static storage, a function, which has a built-in's type where it has its name, an enumerator
 abbrev pub IsOfFile : Scope → ℕ → Meaning → Type 0
 IsOfFile s n (an_object what t) = IsStatic s what t × SizedType t
 IsOfFile s n (an_array_parameter k u) = ⊥
@@ -58,19 +58,19 @@ pub record Onward (s u : Scope) : Type 0 where
   pub statics : StaticsWider s.statics u.statics
   pub functions : (n : ℕ) (t : FunctionType) → Stands s n (a_function t) → Stands u n (a_function t)
 
--- ---- what the program has in the end
+-- ---- the final program
 
 module _ (p : Program) (texts : List (List ℕ)) (definitions : List ℕ) where
   abbrev pub in_function : Function → Setting
   in_function g = record { program = p; function = g; texts = texts; definitions = definitions }
 
-  -- what the scope has is the program's
+  -- the contents of the scope are the program's
   pub record Final (u : Scope) : Type 0 where
     pub literals : (g : Function) → TextsEnd (in_function g) u.literals
     pub statics : (g : Function) → StaticsEnd (in_function g) u.statics
     pub functions : (n : ℕ) (t : FunctionType) → Stands u n (a_function t) → CalleeFits p (callee_in texts definitions n) t
 
-  -- the names of a file stand for what the program has, in each of its functions
+  -- the names of a file denote objects and functions of the program, in each of its functions
   abbrev pub Named : Scope → Type 0
   Named s = (g : Function) → Names (in_function g) s
 

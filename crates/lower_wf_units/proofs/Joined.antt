@@ -1,4 +1,4 @@
--- All that lowering asks for, of a typed program.
+-- A typed program satisfies all assumptions of lowering.
 use Rattle.lower_wf.proofs.Measured.{program_is_measured}
 use Rattle.lower_wf_units.specs.Objects.{TypedIsChecked}
 use Rattle.lower_wf_units.proofs.Present.{designated_are_defined}

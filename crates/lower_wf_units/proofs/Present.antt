@@ -1,4 +1,4 @@
--- What is used is present at the end of the unit (6.9p3, p5).
+-- The objects and functions used are present at the end of the unit (6.9p3, p5).
 use Rattle.std.proofs.Common.{◌≡◌, ℕ, zero, suc, ◌+◌, Bool, true, false, not, ◌&&◌, ◌||◌, nat_le, nat_lt, List, [], ◌∷◌, length, Some, refl, sym, subst}
 use Rattle.std.specs.Prelude.{slice_get}
 use Rattle.std.proofs.lemmas.Bool.{true≢false}
@@ -21,7 +21,7 @@ use Rattle.lower_wf.proofs.Ground.{first, second, same_some}
 use Rattle.lower_wf.proofs.Defined.{statement_defined}
 use Rattle.lower_wf_units.specs.Objects.{UsesArePresent, DesignatedAreDefined}
 
--- ---- what was found to have a definition
+-- ---- uses that were found to have a definition
 
 abbrev IsFound : Scope → Used → Type 0
 IsFound s what = is_undefined s what ≡ false
@@ -120,7 +120,7 @@ uses_are_present stack texts whole unit p e =
     let start : Built = record { stack = stack; scope = file_scope texts (units.definitions_in unit); functions = []; initial = [] } in
     of_fine AllPresent (unit_typed stack texts whole unit) p e (then_any AllPresent (externals_typed start unit) (whole_program whole) (λ c. whole_present whole c))
 
--- ---- what is typed and present is defined
+-- ---- a use that is typed and present is defined
 
 body_typed : (p : Program) (fs : List Function) (k : ℕ) (f : Function) → slice_get fs k ≡ Some f → functions_are_typed p fs ≡ true →
     statement_is_typed p f (numbers_in f.type.parameters) (length f.objects) f.body ≡ true

@@ -1,4 +1,4 @@
--- A unit that breaks no constraint has a program that is typed, and is all that lowering asks for.
+-- A unit that breaks no constraint has a program that is typed, and satisfies all assumptions of lowering.
 use Rattle.std.specs.Prelude.{◌≡◌, ◌≤◌, ℕ, true, List}
 use Rattle.srcset.specs.declared.refusal.Pos.{Pos}
 use Rattle.tree.specs.Tree.{ExternalTree}
@@ -14,7 +14,7 @@ abbrev pub ProgramIsTyped : Type 0
 ProgramIsTyped = (stack : ℕ) (texts : List (List ℕ)) (whole : Pos) (unit : List ExternalTree) (p : Program) → stack ≤ weight_limit → AreTexts texts → IsWithinNodes unit
     → unit_typed stack texts whole unit ≡ fine p → is_typed p ≡ true
 
--- the program of a unit is all that lowering asks for
+-- the program of a unit satisfies all assumptions of lowering
 abbrev pub ProgramIsChecked : Type 0
 ProgramIsChecked = (stack : ℕ) (texts : List (List ℕ)) (whole : Pos) (unit : List ExternalTree) (p : Program) → stack ≤ weight_limit → AreTexts texts → IsWithinNodes unit
     → unit_typed stack texts whole unit ≡ fine p → IsChecked p

@@ -1,4 +1,4 @@
-//! What the checker's definition gives: the program of a unit that breaks no constraint is typed, its objects have bytes, and what is used of them is
+//! Consequences of the checker's definition: the program of a unit that breaks no constraint is typed, its objects have bytes, and those used are
 //! defined.
 #![tactic(auto)]
 
@@ -10,18 +10,18 @@ pub fn objects_are_sized()
     ensures { ObjectsAreSized }
 {}
 
-/// What a function uses has a definition.
+/// The objects and functions that a function uses have a definition.
 pub fn uses_are_present()
     ensures { UsesArePresent }
 {}
 
-/// What a function of a typed program designates is defined.
+/// Each designation in a function of a typed program is defined.
 pub fn designated_are_defined()
     ensures { DesignatedAreDefined }
 {}
 
-/// A unit that breaks no constraint, within the limit of nodes and with texts of bytes, has a program that is all that lowering asks for
-/// as soon as it is typed.
+/// A unit that breaks no constraint, within the limit of nodes and with texts of bytes, has a program that satisfies all assumptions of
+/// lowering as soon as it is typed.
 pub fn typed_is_checked()
     ensures { TypedIsChecked }
 {}
@@ -31,7 +31,7 @@ pub fn program_is_typed()
     ensures { ProgramIsTyped }
 {}
 
-/// It is all that lowering asks for.
+/// It satisfies all assumptions of lowering.
 pub fn program_is_checked()
     ensures { ProgramIsChecked }
 {}

@@ -16,7 +16,7 @@ struct Included {
     file: usize,
 }
 
-/// The work with a program of so many files: how many tokens the preprocessor has in hand, each counted as often as macros copy it, once more for each
+/// The work with a program of `files` files: how many tokens the preprocessor handles, each counted as often as macros copy it, once more for each
 /// call around it, and as often as its file may be included. A file that begins with `#ifndef` counts once.
 pub fn work_of(alloc: Global, index: &Index, files: usize) -> Result<u64, AllocError> {
     let macros = Macros::of(alloc, index, files)?;
@@ -49,7 +49,7 @@ fn own_work(alloc: Global, index: &Index, macros: &Macros, file: usize) -> Resul
     Ok(size.saturating_add(directives))
 }
 
-/// Puts what a file includes, but files that are guarded.
+/// Puts the files that a file includes, but files that are guarded.
 fn put_includes(
     index: &Index,
     file: usize,

@@ -5,8 +5,8 @@ use crate::meter::{Meter, Scaled};
 use lsp_names::{Class, Index, Word};
 use std::alloc::{AllocError, Global};
 
-/// How often the sizes of macros are computed anew at most. Each turn goes over them forwards and backwards, so that two are enough where each macro
-/// stands before or behind those that it names.
+/// The maximum number of times that the sizes of macros are computed anew. Each turn goes over them forwards and backwards, so that two are enough where each
+/// macro precedes or follows those that it names.
 const TURNS: usize = 16;
 
 /// The most parameters that a macro may have (the limit of the compiler).
@@ -46,7 +46,7 @@ pub(crate) struct Macros {
 }
 
 impl Macros {
-    /// Finds the macros of so many files, and computes their sizes.
+    /// Finds the macros of `files` files, and computes their sizes.
     pub(crate) fn of(alloc: Global, index: &Index, files: usize) -> Result<Macros, AllocError> {
         let mut macros = Macros {
             list: Vec::new(alloc),
@@ -73,7 +73,7 @@ impl Macros {
         self.list.get(number).copied()
     }
 
-    /// How often a macro has the argument of this number; those behind the last parameter belong to it.
+    /// How often a macro has the argument of this number; those after the last parameter belong to it.
     pub(crate) fn copies(&self, it: Macro, argument: usize) -> u64 {
         let last = it.parameters.saturating_sub(1);
         let number = it.first_parameter.saturating_add(argument.min(last));
@@ -150,7 +150,7 @@ impl Macros {
         self.keep(it)
     }
 
-    /// Adds the parameters between parentheses, the first of which has this number; returns the number of the token behind them.
+    /// Adds the parameters between parentheses, the first of which has this number; returns the number of the token after them.
     fn add_parameters(
         &mut self,
         words: &[Word],
@@ -232,7 +232,7 @@ impl Macros {
         Ok(())
     }
 
-    /// What the body of a macro comes to.
+    /// The size of the body of a macro.
     fn measured(&self, alloc: Global, it: Macro, body: &[Word]) -> Result<Measured, AllocError> {
         let mut meter = Meter::new(alloc, self, Some(it.name));
         let mut copies = Vec::new(alloc);
@@ -251,7 +251,7 @@ impl Macros {
     }
 }
 
-/// What a body comes to: its tokens, and for each parameter, by its number, how often its argument stands in them.
+/// The size of a body: its tokens, and for each parameter, by its number, how often its argument appears in them.
 #[derive(Drop)]
 struct Measured {
     size: u64,

@@ -8,7 +8,7 @@ use std::alloc::{AllocError, Global};
 #[derive(Clone, Copy)]
 struct Call {
     called: Macro,
-    /// How often what stands around the call is copied.
+    /// How often the tokens around the call are copied.
     around: u64,
     /// How often the present argument is.
     factor: u64,
@@ -41,7 +41,7 @@ impl<'m> Meter<'m> {
         }
     }
 
-    /// What the tokens that were taken come to.
+    /// The size of the tokens that were taken.
     pub(crate) fn scaled(&self) -> Scaled {
         Scaled(self.sum)
     }
@@ -54,7 +54,7 @@ impl<'m> Meter<'m> {
         }
     }
 
-    /// Takes a token; `next` is the one behind it.
+    /// Takes a token; `next` is the one after it.
     pub(crate) fn take(&mut self, word: Word, next: Option<&Word>) -> Result<(), AllocError> {
         match word.class {
             Class::Identifier => self.name(word, next),
@@ -153,7 +153,7 @@ impl<'m> Meter<'m> {
         }
     }
 
-    /// Counts so many tokens that stand here.
+    /// Counts `tokens` tokens at this place.
     fn count(&mut self, tokens: u64) {
         let around = (self.calls.len() as u64).saturating_add(1);
         let more = tokens.saturating_mul(self.factor()).saturating_mul(around);

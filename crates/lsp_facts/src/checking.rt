@@ -5,7 +5,7 @@ use srcset::{Code, Fault, FileSet, Names};
 use std::alloc::{AllocError, Global};
 use typed_ast::{Program, Static};
 
-/// A typed program, with the names that it is told in.
+/// A typed program, with the names to print it with.
 #[derive(Drop)]
 pub(crate) struct Checked {
     pub(crate) names: Names,
@@ -28,7 +28,7 @@ impl Checked {
     }
 }
 
-/// The typed program of a set; `None` where the compiler refuses it.
+/// The typed program of a set; `None` where the compiler rejects it.
 pub(crate) fn check_program(
     alloc: Global,
     set: &FileSet,
@@ -42,7 +42,7 @@ pub(crate) fn check_program(
     }
 }
 
-/// What is known of files that the compiler refuses: nothing, but want of memory is told.
+/// The facts about files that the compiler rejects: none, but out of memory is reported.
 pub(crate) fn none_of<T>(fault: &Fault) -> Result<Option<T>, AllocError> {
     if fault.code == Code::OutOfMemory.number() {
         Err(AllocError)

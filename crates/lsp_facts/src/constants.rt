@@ -1,4 +1,4 @@
-//! The values of integer constant expressions (ISO/IEC 9899:2011 6.6), which the compiler computes as initialisers behind the program.
+//! The values of integer constant expressions (ISO/IEC 9899:2011 6.6), which the compiler computes as initialisers after the program.
 
 use crate::checking::{Checked, check_program};
 use crate::insertions::{Insertion, is_added, set_with};
@@ -20,8 +20,8 @@ const MAX_EXPRESSION: usize = 2_000;
 /// The values of a type of 32 bits.
 const WRAP: i64 = 0x1_0000_0000;
 
-/// The value of an expression, whose tokens have spaces between, behind the whole program. No name in it is a macro, unless `are_replaced`. `None` where the
-/// compiler takes it as no integer constant expression.
+/// The value of an expression, whose tokens have spaces between, after the whole program. No name in it is a macro, unless `are_replaced`. `None` where the
+/// compiler does not accept it as an integer constant expression.
 pub fn value_of(
     alloc: Global,
     unit: Unit<'_>,
@@ -40,8 +40,8 @@ pub fn value_of(
     }
 }
 
-/// The value of an enumerator of a block. Another one of the same value is declared directly behind it, so that it has a value nowhere but where the enumerator
-/// has one; it is the initialiser of an object at the end of the block. `None` where the compiler refuses that.
+/// The value of an enumerator of a block. Another one of the same value is declared directly after it, so that it has a value nowhere but where the enumerator
+/// has one; it is the initialiser of an object at the end of the block. `None` where the compiler rejects that.
 pub fn enumerator_value(
     alloc: Global,
     unit: Unit<'_>,
@@ -72,7 +72,7 @@ pub fn enumerator_value(
     }
 }
 
-/// Whether a brace that ends a block stands at an offset, however it is spelled (ISO/IEC 9899:2011 5.2.1.1, 6.4.6).
+/// Whether there is a brace that ends a block at an offset, however it is spelled (ISO/IEC 9899:2011 5.2.1.1, 6.4.6).
 fn is_block_end(bytes: &[u8], at: usize) -> bool {
     let rest = bytes.get(at..).unwrap_or_default();
     rest.starts_with(b"}".as_slice())
@@ -150,10 +150,10 @@ fn is_name(token: &str) -> bool {
     }
 }
 
-/// What the object says.
+/// The value that the object holds.
 fn value_in(whole: &Checked) -> Option<i64> {
     let object = whole.only_static(OBJECT)?;
-    // Elements behind the last that is written are zero.
+    // Elements after the last that is written are zero.
     let is_negative = object.values.first().copied().unwrap_or(0) != 0;
     let bits = object.values.get(1).copied().unwrap_or(0);
     if is_negative {

@@ -46,7 +46,7 @@ fn constant_of(initialiser: &Initialiser) -> Option<i64> {
     }
 }
 
-/// Puts the declarators of statements. The compiler limits how deep these stand in one another.
+/// Appends the declarators of statements. The compiler limits the nesting of these.
 #[cycle(declared_statements)]
 fn put_statements(all: &[Statement], found: &mut Vec<Declarator>) -> Result<(), AllocError> {
     for statement in all {

@@ -1,4 +1,4 @@
-//! What the preprocessor makes of a call of a macro at a place.
+//! The result of the preprocessor for a call of a macro at a place.
 
 use crate::checking::none_of;
 use crate::sources::files_of;
@@ -12,11 +12,11 @@ use std::alloc::{AllocError, Global};
 /// How many bytes of an expansion are shown at most.
 const MAX_SHOWN: usize = 2_000;
 
-/// What is behind an expansion that is longer.
+/// The text after an expansion that is cut.
 const CUT: &str = " ...";
 
-/// The tokens that come of the tokens in a part of a file, with one space between; the first time where the file is included several times. It is empty
-/// where there are none, as in a group that is skipped. `None` where the preprocessor refuses the program, or where a file depends on its lines, so that it cannot be laid out with a token a line.
+/// The tokens that result from those in a part of a file, with one space between; the first time where the file is included several times. It is empty
+/// where there are none, as in a group that is skipped. `None` where the preprocessor rejects the program, or where a file depends on its lines, so that it cannot be laid out with a token a line.
 pub fn expansion_of(
     alloc: Global,
     unit: Unit<'_>,
@@ -36,7 +36,7 @@ pub fn expansion_of(
     }
 }
 
-/// The first tokens in a row that come of the part.
+/// The first tokens in a row that result from the part.
 fn text_of(
     alloc: Global,
     files: &Files<'_>,
@@ -64,7 +64,7 @@ fn text_of(
     Ok(text)
 }
 
-/// Whether a token stands in a part of a file, or came of the name of a macro there.
+/// Whether a token is in a part of a file, or resulted from the name of a macro there.
 fn comes_of(files: &Files<'_>, names: &Names, token: &PpToken<'_>, part: Part<'_>) -> bool {
     let pos = token.pos();
     let name = names.file_name(pos.file);

@@ -1,4 +1,4 @@
-//! Functions: their types, and what they take of the stack.
+//! Functions: their types, and the stack that they take.
 
 use crate::checking::{Checked, check_program, none_of};
 use crate::sources::stack_of;
@@ -18,7 +18,7 @@ impl Checked {
     }
 }
 
-/// What the compiler knows of the function of this name; `None` where it refuses the program, or where the function has no body.
+/// The compiler's facts about the function of this name; `None` where it rejects the program, or where the function has no body.
 pub fn function_fact(
     alloc: Global,
     unit: Unit<'_>,

@@ -1,10 +1,10 @@
-//! Programs in which something more is declared, so that the compiler tells of it.
+//! Programs with an additional declaration, so that the compiler reports facts about it.
 
 use lsp_program::Unit;
 use srcset::{Code, Fault, FileSet};
 use std::alloc::{AllocError, Global};
 
-/// What is put into a file, and before which of its bytes.
+/// A text to insert into a file, and the offset of the byte before which it goes.
 #[derive(Drop)]
 pub(crate) struct Insertion {
     pub(crate) at: usize,
@@ -33,7 +33,7 @@ pub(crate) fn set_with(
     Ok(Some(set))
 }
 
-/// Whether a set took a file; want of memory is told.
+/// Whether a set accepted a file; out of memory is reported.
 pub(crate) fn is_added(answer: Result<(), Fault>) -> Result<bool, AllocError> {
     match answer {
         Ok(()) => Ok(true),

@@ -1,4 +1,4 @@
-//! What the compiler knows of the names of a program: types, values, expansions of macros, weights and frames.
+//! The compiler's facts about the names of a program: types, values, expansions of macros, weights and frames.
 #![tactic(auto)]
 
 mod checking;

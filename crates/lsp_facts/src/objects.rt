@@ -14,9 +14,9 @@ use typed_ast::{Function, ObjectType, ParameterType, Static};
 /// The name of an object that is declared like another one.
 const OBJECT: &str = "zkc_like_object";
 
-/// What the compiler knows of an object or a parameter; `None` where it refuses the program, or where the declaration is not sure. That of an automatic
+/// The compiler's facts about an object or a parameter; `None` where it rejects the program, or where the declaration is not sure. That of an automatic
 /// object is found by its token, and one of the whole unit by its name, if no other object with static storage has it. For another one, a like object is
-/// declared behind it.
+/// declared after it.
 pub fn object_fact(
     alloc: Global,
     unit: Unit<'_>,
@@ -44,7 +44,7 @@ pub fn object_fact(
 }
 
 /// Of an object with static storage that is declared in a block, or has not its name alone: of one more with a like declarator and initialiser directly
-/// behind its own.
+/// after its own.
 fn like_fact(
     alloc: Global,
     unit: Unit<'_>,
@@ -69,7 +69,7 @@ fn like_fact(
     }
 }
 
-/// Where a declarator with its initialiser ends, where the `;` may stand behind it.
+/// Where a declarator with its initialiser ends, where the `;` may follow it.
 fn declarator_end(bytes: &[u8], end: usize) -> usize {
     let last = end.saturating_sub(1);
     if bytes.get(last).copied() == Some(b';') {

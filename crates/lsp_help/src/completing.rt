@@ -1,4 +1,4 @@
-//! Completion: the names in scope and the keywords, the directives, the macros, or the names of headers, by what the line begins with.
+//! Completion: the names in scope and the keywords, the directives, the macros, or the names of headers, by the beginning of the line.
 
 use crate::headers::bracketed_names;
 use crate::hovering::declaration;
@@ -26,7 +26,7 @@ const DIRECTIVES: [&str; 12] = [
     "pragma", "undef",
 ];
 
-/// `textDocument/completion`. The client picks those that go on with what is written.
+/// `textDocument/completion`. The client selects those that continue the text written.
 pub fn completion<H: Host>(inquiry: &Inquiry<'_, H>, spot: Spot) -> Result<Outcome, AllocError> {
     let alloc = inquiry.alloc;
     let view = inquiry.view;
@@ -109,7 +109,7 @@ fn put_words(alloc: Global, words: &[&str], out: &mut String) -> Result<(), Allo
     Ok(())
 }
 
-/// Puts names of headers. Each replaces what is written behind the last `/`, up to the cursor.
+/// Puts names of headers. Each replaces the text after the last `/`, up to the cursor.
 fn put_headers(
     alloc: Global,
     view: &View,

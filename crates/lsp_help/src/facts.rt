@@ -1,4 +1,4 @@
-//! What the compiler knows of a name, in words.
+//! The compiler's facts about a name, in words.
 
 use crate::inquiry::Inquiry;
 use lsp_names::{Class, Mention, Place, Role, Symbol, SymbolKind, Word};
@@ -6,7 +6,7 @@ use lsp_program::{Declared, Enumerated, Host, Part, Spot, Unit, View, names_of, 
 use std::alloc::AllocError;
 
 impl<'a, H: Host> Inquiry<'a, H> {
-    /// What is known of the symbol of a mention, in Markdown; empty where nothing is sure.
+    /// The facts known of the symbol of a mention, in Markdown; empty where nothing is certain.
     pub(crate) fn facts(&self, spot: Spot, mention: Mention) -> Result<String, AllocError> {
         let mut out = String::new(self.alloc);
         let view = self.view;
@@ -87,7 +87,7 @@ impl<'a, H: Host> Inquiry<'a, H> {
         }
     }
 
-    /// An enumerator of the whole unit has its value behind the program too, and one of a block at the end of the block, unless a macro has its name.
+    /// An enumerator of the whole unit has its value after the program too, and one of a block at the end of the block, unless a macro has its name.
     fn put_enumerator(
         &self,
         unit: Unit<'_>,
@@ -258,7 +258,7 @@ fn has_token(text: &str, token: &str) -> bool {
     false
 }
 
-/// Puts a line of its own: a word, and what it says as code.
+/// Puts a line of its own: a word, and its text as code.
 fn put_line(word: &str, text: &str, out: &mut String) -> Result<(), AllocError> {
     out.push_str("\n\n")?;
     out.push_str(word)?;

@@ -12,8 +12,8 @@ const BUILT_IN: [&str; 4] = ["iso646.h", "limits.h", "rvio.h", "stdbool.h"];
 const MAX_NAMES: usize = 2_000;
 
 impl<'a, H: Host> Inquiry<'a, H> {
-    /// The last parts of names that may stand in quotes in the file at a path, behind the folders that are written already: those of sources and of folders
-    /// with a `/` behind them.
+    /// The last parts of names that may appear in quotes in the file at a path, after the folders that are written already: those of sources and of folders
+    /// with a `/` after them.
     pub(crate) fn quoted_names(
         &self,
         path: &str,
@@ -32,7 +32,7 @@ impl<'a, H: Host> Inquiry<'a, H> {
         Ok(names)
     }
 
-    /// Puts what a folder below another one has, each name once.
+    /// Puts the entries of a folder below another one, each name once.
     fn put_entries(
         &self,
         folder: &str,
@@ -53,7 +53,7 @@ impl<'a, H: Host> Inquiry<'a, H> {
     }
 }
 
-/// The names that may stand in angle brackets.
+/// The names that may appear in angle brackets.
 pub(crate) fn bracketed_names(alloc: Global) -> Result<Vec<String>, AllocError> {
     let mut names = Vec::new(alloc);
     for name in BUILT_IN.as_slice() {

@@ -1,4 +1,4 @@
-//! What is shown of a name: its declaration as it is written, and what the compiler knows of it.
+//! The text shown for a name: its declaration as it is written, and the compiler's facts about it.
 
 use crate::inquiry::Inquiry;
 use lsp_names::{Symbol, SymbolKind};
@@ -13,7 +13,7 @@ const MAX_WHOLE: usize = 160;
 /// How many bytes are shown at most.
 const MAX_SHOWN: usize = 2_000;
 
-/// What the analysis tells of a place: where it is, and which numbers are possible there.
+/// The analysis result for a place: where it is, and which numbers are possible there.
 #[derive(Clone, Copy)]
 pub struct Interval<'a> {
     pub span: Span,
@@ -21,7 +21,7 @@ pub struct Interval<'a> {
     pub numbers: &'a str,
 }
 
-/// `textDocument/hover`, with the interval that stands there; null where neither that is known nor a name.
+/// `textDocument/hover`, with the interval at that place; null where neither that is known nor a name.
 pub fn hover<H: Host>(
     inquiry: &Inquiry<'_, H>,
     spot: Spot,
@@ -51,7 +51,7 @@ pub fn hover<H: Host>(
     Ok(Outcome::Answer(out))
 }
 
-/// Puts what the analysis tells of a place.
+/// Puts the analysis result for a place.
 fn put_interval(interval: Interval<'_>, text: &mut String) -> Result<(), AllocError> {
     text.push_str(if text.is_empty() { "" } else { "\n\n" })?;
     text.push_str(interval.title)?;
@@ -60,7 +60,7 @@ fn put_interval(interval: Interval<'_>, text: &mut String) -> Result<(), AllocEr
     text.push_str("`")
 }
 
-/// Puts the declaration of a symbol in a block of Markdown, and what the symbol is.
+/// Puts the declaration of a symbol in a block of Markdown, and the kind of the symbol.
 fn put_symbol(
     alloc: Global,
     view: &View,

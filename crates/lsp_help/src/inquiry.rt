@@ -1,9 +1,9 @@
-//! What answers are made of.
+//! The data that responses are made from.
 
 use lsp_program::{Options, View};
 use std::alloc::Global;
 
-/// A program about which a client asks, and the host, which knows of it.
+/// A program that a client's request is about, and the host, which knows of it.
 #[derive(Drop)]
 pub struct Inquiry<'a, H> {
     pub alloc: Global,

@@ -1,4 +1,4 @@
-//! What is shown and offered at a place of a program: the answers to requests for hover and completion.
+//! The text shown and the items offered at a place of a program: the responses to requests for hover and completion.
 #![tactic(auto)]
 
 mod completing;

@@ -1,6 +1,6 @@
-//! What a line begins with up to the cursor, where that decides what is offered: a directive, or a header's name.
+//! The beginning of a line up to the cursor, where that decides the items offered: a directive, or a header's name.
 
-/// What stands on a line before the cursor.
+/// The text of a line before the cursor.
 #[derive(Clone, Copy, Debug, PartialEq, Eq)]
 pub(crate) enum LineStart<'t> {
     /// `#` and the beginning of a directive's name.
@@ -36,7 +36,7 @@ pub(crate) fn line_start(before: &[u8]) -> LineStart<'_> {
     }
 }
 
-/// What stands behind a `#`, however it is spelled (ISO/IEC 9899:2011 5.2.1.1, 6.4.6).
+/// The text after a `#`, however it is spelled (ISO/IEC 9899:2011 5.2.1.1, 6.4.6).
 fn behind_hash(text: &str) -> Option<&str> {
     for hash in ["#", "%:", "??="] {
         if let Some(rest) = text.strip_prefix(hash) {

@@ -11,7 +11,7 @@ pub struct CallSite {
     pub argument: usize,
 }
 
-/// Returns the innermost call whose parentheses stand around an offset in these tokens. It looks no further back than the statement.
+/// Returns the innermost call whose parentheses enclose an offset in these tokens. It looks no further back than the statement.
 pub fn call_at(words: &[Word], offset: usize) -> Option<CallSite> {
     let count = words.partition_point(|word| word.end <= offset);
     let before = words.get(..count).unwrap_or_default();
@@ -33,7 +33,7 @@ pub fn call_at(words: &[Word], offset: usize) -> Option<CallSite> {
     None
 }
 
-/// The token of the name that stands before the parenthesis with this number.
+/// The token of the name before the parenthesis with this number.
 fn called(words: &[Word], open: usize) -> Option<usize> {
     let number = open.checked_sub(1)?;
     let word = words.get(number)?;

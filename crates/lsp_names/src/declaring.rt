@@ -1,4 +1,4 @@
-//! What an identifier is where it stands: declared, used, or a part of specifiers.
+//! The role of an identifier at its place: declared, used, or a part of specifiers.
 
 use crate::frames::{Inside, Stage};
 use crate::scanner::{At, Scanner};
@@ -24,7 +24,7 @@ impl Scanner {
         }
     }
 
-    /// Whether a name behind specifiers is one of them, or a macro.
+    /// Whether a name after specifiers is one of them, or a macro.
     fn is_specifier(&self, at: At) -> bool {
         self.table.macro_of(at.word.name).is_some()
             || matches!(at.next, Class::Identifier | Class::TypeWord)
@@ -43,7 +43,7 @@ impl Scanner {
         self.table.use_name(at.file, at.word, false)
     }
 
-    /// Whether a name stands for a type: a macro for one, or a name that nothing declares with a name behind it.
+    /// Whether a name denotes a type: a macro for one, or a name that nothing declares and that a name follows.
     fn begins_declaration(&self, at: At) -> bool {
         let name = at.word.name;
         let is_unknown = self.table.macro_of(name).is_none()
@@ -51,7 +51,7 @@ impl Scanner {
         self.table.is_type(name) || is_unknown && at.next == Class::Identifier
     }
 
-    /// The tag behind `enum`: with braces behind it a declaration.
+    /// The tag after `enum`: followed by braces it is a declaration.
     fn tag(&mut self, at: At) -> Result<(), AllocError> {
         if at.next != Class::OpenBrace && self.table.meant(at.word.name, true).is_some() {
             return self.table.use_name(at.file, at.word, true);

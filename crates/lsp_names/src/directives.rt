@@ -6,7 +6,7 @@ use crate::words::{Class, Word};
 use srcset::Names;
 use std::alloc::AllocError;
 
-/// What a directive is about.
+/// The kind of a directive.
 #[derive(Clone, Copy, PartialEq, Eq)]
 enum DirectiveKind {
     Define,
@@ -15,12 +15,12 @@ enum DirectiveKind {
     Other,
 }
 
-/// What follows from a directive for the walk.
+/// The consequence of a directive for the walk.
 #[derive(Clone, Copy)]
 pub(crate) enum Step {
     /// Nothing.
     Pass,
-    /// The file that this name in quotes or angle brackets stands for is included.
+    /// The file that this name in quotes or angle brackets denotes is included.
     Include(Word),
 }
 
@@ -57,7 +57,7 @@ fn included(line: &[Word]) -> Step {
     }
 }
 
-/// The names in a condition, or behind `#ifdef` and `#undef`.
+/// The names in a condition, or after `#ifdef` and `#undef`.
 fn use_names(table: &mut Table, file: usize, words: &[Word]) -> Result<(), AllocError> {
     for word in words {
         if word.class == Class::Identifier {
@@ -91,7 +91,7 @@ fn define(table: &mut Table, file: usize, line: &[Word]) -> Result<(), AllocErro
     Ok(())
 }
 
-/// The parameters of a macro, where `(` stands directly behind its name; returns how many tokens they take.
+/// The parameters of a macro, where `(` directly follows its name; returns how many tokens they take.
 fn parameters(
     table: &mut Table,
     number: usize,
@@ -133,7 +133,7 @@ fn parameter(table: &mut Table, file: usize, word: Word) -> Result<(), AllocErro
     })
 }
 
-/// Notes a macro that stands for a type: its body begins with a word of one.
+/// Notes a macro that denotes a type: its body begins with a word of one.
 fn note_type(table: &mut Table, name: Word, body: &[Word]) {
     let is_type = match body.first() {
         Some(word) => matches!(word.class, Class::TypeWord | Class::Enum)
@@ -145,7 +145,7 @@ fn note_type(table: &mut Table, name: Word, body: &[Word]) {
     }
 }
 
-/// The names in the body of a macro: its parameters, and what the unit has in the end.
+/// The names in the body of a macro: its parameters, and the names that the unit has in the end.
 fn body_names(table: &mut Table, file: usize, body: &[Word]) -> Result<(), AllocError> {
     for word in body {
         if word.class == Class::Identifier {

@@ -1,4 +1,4 @@
-//! Parts of a file that an editor may hide: what stands in braces, and groups of conditional inclusion.
+//! Parts of a file that an editor may hide: the text in braces, and groups of conditional inclusion.
 
 use crate::words::{Class, Word};
 use srcset::Names;
@@ -55,7 +55,7 @@ fn group(
     Ok(())
 }
 
-/// Ends what was begun last.
+/// Ends the part that was begun last.
 fn close(open: &mut Vec<u32>, last: u32, found: &mut Vec<Fold>) -> Result<(), AllocError> {
     if let Some(first) = open.pop() {
         if first < last {

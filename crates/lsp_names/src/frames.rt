@@ -1,21 +1,21 @@
-//! What stands in what: the stack of a walk over tokens.
+//! Nesting of the parts of a file: the stack of a walk over tokens.
 
 use crate::symbols::Place;
 use std::alloc::{AllocError, Global};
 
-/// How deep frames stand in one another at most; what stands deeper counts for its surroundings.
+/// The maximum depth of nested frames; deeper parts count for their surroundings.
 const MAX_DEPTH: usize = 2_048;
 
-/// What a part of a file is.
+/// The kind of a part of a file.
 #[derive(Clone, Copy, Debug, PartialEq, Eq)]
 pub(crate) enum Inside {
     File,
     Block,
     /// The parentheses of a function's declarator.
     Parameters,
-    /// The parentheses behind `for`.
+    /// The parentheses after `for`.
     ForHead,
-    /// The statement behind them.
+    /// The statement after them.
     ForBody,
     /// The braces of an enumeration.
     Enumerators,
@@ -30,9 +30,9 @@ pub(crate) enum Inside {
 pub(crate) enum Stage {
     Start,
     Specifiers,
-    /// Behind a comma between declarators.
+    /// After a comma between declarators.
     Declarator,
-    /// Behind a declared name.
+    /// After a declared name.
     Behind,
     Initialiser,
     Expression,
@@ -75,7 +75,7 @@ impl Frame {
         }
     }
 
-    /// Whether declarations may stand here.
+    /// Whether declarations may appear here.
     pub(crate) fn takes_declarations(self) -> bool {
         matches!(
             self.inside,

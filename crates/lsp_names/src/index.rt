@@ -16,7 +16,7 @@ pub struct Source<'a> {
     pub text: &'a [u8],
 }
 
-/// The names of a set of files, with what each of them means.
+/// The names of a set of files, with the meaning of each.
 #[derive(Drop)]
 pub struct Index {
     names: Names,
@@ -121,7 +121,7 @@ impl Index {
             .position(|parameter| parameter.whole.contains(place))
     }
 
-    /// Whether each macro has one definition, and none is undefined, so that each means the same behind the whole program as where it is defined.
+    /// Whether each macro has one definition, and none is undefined, so that each means the same after the whole program as where it is defined.
     pub fn are_macros_fixed(&self) -> bool {
         let mut defined: usize = 0;
         for mention in &self.mentions {
@@ -144,7 +144,7 @@ impl Index {
         }
     }
 
-    /// The number of the file that a header's name in quotes or brackets stands for.
+    /// The number of the file that a header's name in quotes or brackets denotes.
     pub fn file_of(&self, name: usize) -> Option<usize> {
         self.files
             .iter()
@@ -202,7 +202,7 @@ impl Index {
         folds(alloc, &self.names, self.words(file))
     }
 
-    /// The place of the header's name at an offset of a file, where an `#include` stands there, and the number of the file that it names.
+    /// The place of the header's name at an offset of a file, where an `#include` is there, and the number of the file that it names.
     pub fn included_at(&self, file: usize, offset: usize) -> Option<(Place, usize)> {
         let word = self.words(file).iter().find(|word| word.in_directive
             && word.start <= offset

@@ -1,4 +1,4 @@
-//! What the names of a program mean, for an editor: declarations, uses and scopes, found by the tokens of its files.
+//! The meaning of a program's names, for an editor: declarations, uses and scopes, found by the tokens of its files.
 #![tactic(auto)]
 
 mod calls;

@@ -1,6 +1,6 @@
 //! Declarations, uses and scopes (ISO/IEC 9899:2011 6.2.1), found token by token. The profile has no typedef, no structure and no pointer, so
-//! that the words alone tell a declaration; a macro that stands for a type counts as one of them. Sources that are not right are followed
-//! as far as braces and semicolons tell.
+//! the words alone identify a declaration; a macro that denotes a type counts as one of them. Incorrect sources are followed
+//! as far as braces and semicolons allow.
 
 use crate::frames::{Frame, Frames, Inside, Stage};
 use crate::symbols::{Parameter, Place};
@@ -8,7 +8,7 @@ use crate::table::Table;
 use crate::words::{Class, Word};
 use std::alloc::{AllocError, Global};
 
-/// A token with what stands around it.
+/// A token with its surroundings.
 #[derive(Clone, Copy)]
 pub(crate) struct At {
     pub(crate) file: usize,
@@ -24,7 +24,7 @@ pub(crate) struct Scanner {
     pub(crate) frames: Frames,
     /// The number of the spelling `void`.
     void: Option<usize>,
-    /// Behind the parentheses of a function: how many symbols were bound before them.
+    /// After the parentheses of a function: how many symbols were bound before them.
     prototype: Option<usize>,
     /// The token before, and the class of the one before that.
     last: Option<Word>,
@@ -160,7 +160,7 @@ impl Scanner {
         Ok(())
     }
 
-    /// The end of a function's parameters. Their scope ends behind the body, where one follows.
+    /// The end of a function's parameters. Their scope ends after the body, where one follows.
     fn close_parameters(&mut self, at: At) -> Result<(), AllocError> {
         self.end_parameter(at.file)?;
         self.prototype = Some(self.frames.top().mark);
@@ -228,7 +228,7 @@ impl Scanner {
         self.push(Inside::Block)
     }
 
-    /// A `}` ends the innermost part with braces, and what was left open in it.
+    /// A `}` ends the innermost part with braces, and any part left open in it.
     fn close_brace(&mut self, at: At) -> Result<(), AllocError> {
         for _ in 0..self.frames.len() {
             let top = self.frames.top();
@@ -286,7 +286,7 @@ impl Scanner {
         self.end_statement(at)
     }
 
-    /// Ends what a `;` may not stand in.
+    /// Ends the parts in which a `;` may not appear.
     fn close_open(&mut self, end: usize) {
         for _ in 0..self.frames.len() {
             if self.frames.top().is_sequence() {
@@ -332,7 +332,7 @@ impl Scanner {
         }
     }
 
-    /// A `=` behind a declared name: an initialiser follows.
+    /// A `=` after a declared name: an initialiser follows.
     fn assign(&mut self) -> Result<(), AllocError> {
         let top = self.frames.top();
         if top.stage != Stage::Behind {

@@ -1,6 +1,6 @@
 //! Symbols and where they are mentioned.
 
-/// What a symbol is.
+/// The kind of a symbol.
 #[derive(Clone, Copy, Debug, PartialEq, Eq)]
 pub enum SymbolKind {
     Function,
@@ -35,7 +35,7 @@ pub struct Symbol {
     pub whole: Place,
     /// Whether its scope is the file, or the rest of the unit.
     pub is_global: bool,
-    /// How many tokens of the unit were read where its scope began: behind its tag, the line of its macro, or the token with which its declarator or
+    /// The number of tokens of the unit read when its scope began: after its tag, the line of its macro, or the token with which its declarator or
     /// its enumerator ended (ISO/IEC 9899:2011 6.2.1p7).
     pub(crate) scope_begin: usize,
     /// Whether it began; until then it counts from the name on.
@@ -51,7 +51,7 @@ pub struct Symbol {
     pub(crate) shadowed: Option<usize>,
 }
 
-/// What a mention of a symbol does.
+/// The role of a mention of a symbol.
 #[derive(Clone, Copy, Debug, PartialEq, Eq)]
 pub enum Role {
     Declares,
@@ -73,7 +73,7 @@ pub struct Unresolved {
     pub place: Place,
     /// The number of the name.
     pub name: usize,
-    /// Whether it stands in a directive, as in the body of a macro.
+    /// Whether it is in a directive, as in the body of a macro.
     pub in_directive: bool,
 }
 
@@ -96,12 +96,12 @@ pub struct Parameter {
 }
 
 impl Place {
-    /// Whether an offset in a file stands in this part, or directly behind it.
+    /// Whether an offset in a file is in this part, or directly after it.
     pub fn touches(self, file: usize, offset: usize) -> bool {
         self.file == file && self.start <= offset && offset <= self.end
     }
 
-    /// Whether this part begins before or at an offset in a file; files stand in the order of their numbers.
+    /// Whether this part begins before or at an offset in a file; files are ordered by their numbers.
     pub fn begins_by(self, file: usize, offset: usize) -> bool {
         self.file < file || self.file == file && self.start <= offset
     }

@@ -4,14 +4,14 @@ use crate::symbols::{Mention, Parameter, Place, Role, Symbol, SymbolKind, Unreso
 use crate::words::Word;
 use std::alloc::{AllocError, Global};
 
-/// What names mean, and what was found so far.
+/// The meanings of names, and the symbols found so far.
 #[derive(Drop)]
 pub(crate) struct Table {
     pub(crate) symbols: Vec<Symbol>,
     pub(crate) mentions: Vec<Mention>,
     pub(crate) unresolved: Vec<Unresolved>,
     pub(crate) parameters: Vec<Parameter>,
-    /// For each name, what it means among ordinary identifiers, tags and macros (ISO/IEC 9899:2011 6.2.3).
+    /// For each name, its meaning among ordinary identifiers, tags and macros (ISO/IEC 9899:2011 6.2.3).
     ordinary: Vec<Option<usize>>,
     tags: Vec<Option<usize>>,
     macros: Vec<Option<usize>>,
@@ -25,7 +25,7 @@ pub(crate) struct Table {
     pub(crate) read: usize,
 }
 
-/// What a declaration says of a name.
+/// The contents of a declaration of a name.
 #[derive(Clone, Copy)]
 pub(crate) struct Declared {
     pub(crate) kind: SymbolKind,
@@ -36,7 +36,7 @@ pub(crate) struct Declared {
     pub(crate) is_global: bool,
 }
 
-/// What a walk found.
+/// The result of a walk.
 #[derive(Drop)]
 pub(crate) struct Found {
     pub(crate) symbols: Vec<Symbol>,
@@ -46,7 +46,7 @@ pub(crate) struct Found {
 }
 
 impl Table {
-    /// What was found.
+    /// The symbols and mentions found.
     pub(crate) fn found(self) -> Found {
         Found {
             symbols: self.symbols,
@@ -56,7 +56,7 @@ impl Table {
         }
     }
 
-    /// Makes a table without symbols for so many names.
+    /// Makes a table without symbols for `names` names.
     pub(crate) fn new(alloc: Global, names: usize) -> Result<Table, AllocError> {
         let mut table = Table {
             symbols: Vec::new(alloc),
@@ -78,7 +78,7 @@ impl Table {
         Ok(table)
     }
 
-    /// What a name means where it is used, macros aside.
+    /// The meaning of a name where it is used, macros aside.
     pub(crate) fn meant(&self, name: usize, is_tag: bool) -> Option<usize> {
         let list = if is_tag { &self.tags } else { &self.ordinary };
         let number = list.get(name).copied().flatten()?;
@@ -88,7 +88,7 @@ impl Table {
         }
     }
 
-    /// What the name of a symbol meant before, while its own scope has not begun.
+    /// The previous meaning of a symbol's name, while its own scope has not begun.
     fn meant_before(&self, number: usize) -> Option<usize> {
         let symbol = self.symbols.get(number)?;
         if symbol.has_begun {
@@ -123,7 +123,7 @@ impl Table {
         }
     }
 
-    /// Notes that so many tokens were read.
+    /// Notes that `more` tokens were read.
     pub(crate) fn count(&mut self, more: usize) {
         self.read = self.read.saturating_add(more);
     }
@@ -198,7 +198,7 @@ impl Table {
         give_at(list, declared.name, meaning)
     }
 
-    /// Ends the scopes of all symbols but so many; `end` is an offset in their file.
+    /// Ends the scopes of all symbols but the first `mark`; `end` is an offset in their file.
     pub(crate) fn unbind(&mut self, mark: usize, end: usize) {
         for _ in mark..self.bound.len() {
             if let Some(number) = self.bound.pop() {
@@ -365,7 +365,7 @@ fn has_no_declarator(kind: SymbolKind) -> bool {
     )
 }
 
-/// Where a token stands.
+/// The place of a token.
 pub(crate) fn place_of(file: usize, word: Word) -> Place {
     Place {
         file,
@@ -374,7 +374,7 @@ pub(crate) fn place_of(file: usize, word: Word) -> Place {
     }
 }
 
-/// Writes an entry; returns what it was.
+/// Writes an entry; returns its previous value.
 fn give_at(list: &mut Vec<Option<usize>>, name: usize, meaning: Option<usize>) -> Option<usize> {
     let Some(entry) = list.get_mut(name) else {
         return None;

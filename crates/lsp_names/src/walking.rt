@@ -131,7 +131,7 @@ impl Walk {
         }
     }
 
-    /// Begins a stretch, unless the file of the last one goes on.
+    /// Begins a stretch, unless the file of the last one continues.
     fn note_stretch(&mut self, reader: Reader, before: usize) -> Result<(), AllocError> {
         if self.last == Some(reader.file) {
             return Ok(());

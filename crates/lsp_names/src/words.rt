@@ -1,15 +1,15 @@
-//! The tokens of a file, reduced to what scopes depend on.
+//! The tokens of a file, reduced to the properties that scopes depend on.
 
 use explain_places::{Spot, Tokens};
 use phases::{Kind, PpToken};
 use srcset::Names;
 use std::alloc::{AllocError, Global};
 
-/// What a token is to the analysis of names.
+/// The class of a token for the analysis of names.
 #[derive(Clone, Copy, Debug, PartialEq, Eq)]
 pub enum Class {
     Identifier,
-    /// A keyword that begins or goes on with declaration specifiers, but `enum`.
+    /// A keyword that begins or continues declaration specifiers, but `enum`.
     TypeWord,
     Enum,
     For,
@@ -39,7 +39,7 @@ pub struct Word {
     pub class: Class,
     /// The number of its spelling in the table of names.
     pub name: usize,
-    /// How many bytes of the file stand before it, and before its end.
+    /// The number of bytes of the file before it, and before its end.
     pub start: usize,
     pub end: usize,
     /// Its physical line, counted from 1.

@@ -8,7 +8,7 @@ use lsp_wire::{Outcome, RpcError};
 use serde_json::Value;
 use std::alloc::{AllocError, Global};
 
-/// How many arguments of a call are looked at, and how many tokens behind its parenthesis, so that calls within calls take no more time than others.
+/// How many arguments of a call are examined, and how many tokens after its parenthesis, so that calls within calls take no more time than others.
 const MAX_ARGUMENTS: usize = 64;
 
 const MAX_TOKENS: usize = 4_096;
@@ -34,7 +34,7 @@ pub fn inlay_hints(
     Ok(Outcome::Answer(out))
 }
 
-/// Whether a name with `(` behind it has this number.
+/// Whether a name followed by `(` has this number.
 fn is_call(words: &[Word], number: usize) -> bool {
     match (words.get(number), words.get(number.saturating_add(1))) {
         (Some(word), Some(next)) => {
@@ -46,7 +46,7 @@ fn is_call(words: &[Word], number: usize) -> bool {
     }
 }
 
-/// Whether a token stands on the lines of a range.
+/// Whether a token is on the lines of a range.
 fn is_in(view: &View, file: usize, word: Word, span: Span) -> bool {
     let at = view.span(Place {
         file,
@@ -56,7 +56,7 @@ fn is_in(view: &View, file: usize, word: Word, span: Span) -> bool {
     span.start.line <= at.start.line && at.start.line <= span.end.line
 }
 
-/// Puts the hints of the call whose name has this number; none of a declaration.
+/// Prints the hints of the call whose name has this number; none of a declaration.
 fn put_hints(
     alloc: Global,
     view: &View,
@@ -92,7 +92,7 @@ fn is_declared_at(view: &View, file: usize, number: usize) -> bool {
     }
 }
 
-/// Puts a hint before each argument, of which these tokens are the first.
+/// Prints a hint before each argument, of which these tokens are the first.
 fn put_arguments(
     alloc: Global,
     view: &View,
@@ -122,7 +122,7 @@ fn put_arguments(
     Ok(())
 }
 
-/// The tokens behind the comma that ends an argument; `None` where it is the last one.
+/// The tokens after the comma that ends an argument; `None` where it is the last one.
 fn behind_comma(words: &[Word]) -> Option<&[Word]> {
     let mut depth: usize = 0;
     for (number, word) in words.iter().enumerate() {

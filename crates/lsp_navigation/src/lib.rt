@@ -1,4 +1,4 @@
-//! What stands where in a program: the answers to requests for definitions, uses, renaming, calls, and what a file has.
+//! Navigation in a program: the answers to requests for definitions, uses, renaming, calls, and the symbols of a file.
 #![tactic(auto)]
 
 mod hints;

@@ -65,7 +65,7 @@ fn target(view: &View, spot: Spot) -> Option<Place> {
     })
 }
 
-/// Puts the location of a place as an item of a list that begins behind so many bytes; none of a built-in header.
+/// Prints the location of a place as an item of a list that begins after `begin` bytes; none of a built-in header.
 fn put_place(
     alloc: Global,
     view: &View,
@@ -82,7 +82,7 @@ fn put_place(
     }
 }
 
-/// Puts a `DocumentHighlight`: of kind 3 (write) for a declaration, and 2 (read) for a use.
+/// Prints a `DocumentHighlight`: of kind 3 (write) for a declaration, and 2 (read) for a use.
 fn put_highlight(
     alloc: Global,
     view: &View,

@@ -1,11 +1,11 @@
-//! What a file has: its symbols, and the parts that an editor may hide.
+//! The contents of a file: its symbols, and the parts that an editor may hide.
 
 use lsp_names::{Fold, Mention, Symbol, SymbolKind};
 use lsp_program::{View, put_comma, put_span, put_text_member};
 use lsp_wire::{Outcome, put_number};
 use std::alloc::{AllocError, Global};
 
-/// `textDocument/documentSymbol`: what a file has for the whole unit, in the order of the places.
+/// `textDocument/documentSymbol`: the symbols that a file has for the whole unit, in the order of the places.
 pub fn document_symbols(alloc: Global, view: &View, file: usize) -> Result<Outcome, AllocError> {
     let mut out = String::from_str(alloc, "[")?;
     for mention in &view.index.mentions {

@@ -23,8 +23,8 @@ pub fn prepare_rename(alloc: Global, view: &View, spot: Spot) -> Result<Outcome,
     Ok(Outcome::Answer(out))
 }
 
-/// `textDocument/rename`. It is refused where the new name is no identifier or stands in one of the files already, where the name is that
-/// of a built-in header, and where the body of a macro may mean it.
+/// `textDocument/rename`. It is refused where the new name is no identifier or already occurs in one of the files, where the name is that of a built-in header,
+/// and where the body of a macro may mean it.
 pub fn rename(
     alloc: Global,
     view: &View,

@@ -5,7 +5,7 @@ use lsp_program::{Host, Spot, View, put_comma, put_text_member};
 use lsp_wire::{Outcome, put_number, put_string};
 use std::alloc::{AllocError, Global};
 
-/// `textDocument/signatureHelp`; null where no call of a known name stands.
+/// `textDocument/signatureHelp`; null where there is no call of a known name.
 pub fn signature_help(alloc: Global, view: &View, spot: Spot) -> Result<Outcome, AllocError> {
     let found = call_at(view.index.words(spot.file), spot.offset);
     let Some(call) = found else {

@@ -32,7 +32,7 @@ pub fn put_legend(out: &mut String) -> Result<(), AllocError> {
     out.push_str("],\"tokenModifiers\":[]}")
 }
 
-/// What was put of a file's tokens.
+/// The tokens of a file that were printed so far.
 #[derive(Drop)]
 struct Data {
     alloc: Global,
@@ -60,7 +60,7 @@ pub fn semantic_tokens(alloc: Global, view: &View, file: usize) -> Result<Outcom
     Ok(Outcome::Answer(out))
 }
 
-/// Puts the tokens of a file.
+/// Prints the tokens of a file.
 fn put_words(view: &View, file: usize, data: &mut Data) -> Result<(), AllocError> {
     for word in view.index.words(file) {
         let place = Place {
@@ -75,7 +75,7 @@ fn put_words(view: &View, file: usize, data: &mut Data) -> Result<(), AllocError
     Ok(())
 }
 
-/// What the name at a place means. The mentions stand in the order of their places.
+/// The kind of the name at a place. The mentions are in the order of their places.
 fn kind_at(view: &View, place: Place) -> Option<SymbolKind> {
     let mentions = view.index.mentions.as_slice();
     let next = mentions.partition_point(|mention| {
@@ -91,7 +91,7 @@ fn kind_at(view: &View, place: Place) -> Option<SymbolKind> {
 }
 
 impl Data {
-    /// Puts the five numbers of a token.
+    /// Prints the five numbers of a token.
     fn put(&mut self, view: &View, place: Place, kind: u32) -> Result<(), AllocError> {
         let span = view.span(place);
         if span.start.line != span.end.line {

@@ -7,7 +7,7 @@ use lsp_wire::{Outcome, RpcError, put_string};
 use serde_json::Value;
 use std::alloc::{AllocError, Global};
 
-/// `textDocument/codeAction`: a quick fix for each problem that has one, where the problem or what mends it stands in the range.
+/// `textDocument/codeAction`: a quick fix for each problem that has one, where the problem or its fix is in the range.
 pub fn code_actions(
     alloc: Global,
     problems: &[Problem],
@@ -59,7 +59,7 @@ fn put_action(
     out.push_str("]}}}")
 }
 
-/// What an action does, in words.
+/// The title of an action.
 fn title(alloc: Global, fix: &Fix) -> Result<String, AllocError> {
     let text = fix.text.as_str();
     if text.is_empty() {

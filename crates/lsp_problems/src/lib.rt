@@ -1,4 +1,4 @@
-//! What the compiler finds in a program, as diagnostics with the changes that mend it.
+//! The compiler's findings in a program, as diagnostics with the changes that mend it.
 #![tactic(auto)]
 
 mod actions;

@@ -1,4 +1,4 @@
-//! Diagnostics: what the compiler finds, with the places that the protocol has.
+//! Diagnostics: the compiler's findings, with the places that the protocol has.
 
 use lsp_program::{
     MAX_WORK, Origin, UnitFile, beginning, number_at, put_comma, put_span, put_text_member, text_at,
@@ -34,9 +34,9 @@ pub struct Problem {
     pub severity: Severity,
     pub code: String,
     pub text: String,
-    /// The numbers that the analysis found possible there; empty where it tells none.
+    /// The numbers that the analysis found possible there; empty where it reports none.
     pub interval: String,
-    /// What mends it, where that is sure.
+    /// The change that mends it, where that is sure.
     pub fix: Option<Fix>,
 }
 
@@ -50,7 +50,7 @@ impl Problem {
 /// How many findings of one kind are shown of a program.
 const MAX_PROBLEMS: usize = 500;
 
-/// Reads findings, an object of JSON on each line. One about a file that no person wrote stands at the beginning of the main file.
+/// Reads findings, an object of JSON on each line. One about a file that no person wrote is placed at the beginning of the main file.
 pub fn read_problems(
     alloc: Global,
     lines: &str,
@@ -149,7 +149,7 @@ fn file_named<'f>(files: &'f [UnitFile], name: &str) -> Option<&'f UnitFile> {
     files.iter().find(|file| file.name.as_str() == name && file.origin == Origin::Written)
 }
 
-/// The numbers that a finding tells.
+/// The numbers that a finding reports.
 fn interval_of(alloc: Global, value: &Value) -> Result<String, AllocError> {
     let mut text = String::new(alloc);
     let Some(notes) = value.pointer("/notes").and_then(Value::as_array) else {
@@ -230,7 +230,7 @@ fn whole_text(alloc: Global, value: &Value) -> Result<String, AllocError> {
     Ok(text)
 }
 
-/// Where the thing stands of which a note speaks.
+/// Appends the place to which a note refers.
 fn put_note_place(alloc: Global, note: &Value, text: &mut String) -> Result<(), AllocError> {
     let file = text_at(note, "/file").unwrap_or_default();
     let line = number_at(note, "/line").unwrap_or(0);

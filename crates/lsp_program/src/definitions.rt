@@ -6,7 +6,7 @@ use std::alloc::{AllocError, Global};
 /// The name of the file that defines them and includes the main file.
 pub(crate) const MADE_FILE: &str = "options";
 
-/// Whether a text is a name, with parameters or without, and a value behind `=` or none, on one line.
+/// Whether a text is a name, with parameters or without, and a value after `=` or none, on one line.
 pub(crate) fn is_definition(text: &str) -> bool {
     let name = macro_name(text);
     let behind = text.get(name.len()..).unwrap_or_default();
@@ -51,7 +51,7 @@ pub(crate) fn made_text(
     Ok(text)
 }
 
-/// Puts the definition of a macro; faults in it name the option.
+/// Appends the definition of a macro; faults in it name the option.
 fn put_definition(alloc: Global, definition: &str, text: &mut String) -> Result<(), AllocError> {
     let (defined, value) = match definition.split_once('=') {
         Some(parts) => parts,

@@ -1,4 +1,4 @@
-//! What the server asks of the program that runs it.
+//! The requests of the server to the program that runs it.
 
 use srcset::FileSet;
 use std::alloc::{AllocError, Global};
@@ -17,14 +17,14 @@ pub struct Unit<'a> {
     pub stack: u32,
 }
 
-/// What is asked of a program.
+/// A question about a program.
 #[derive(Clone, Copy, Debug, PartialEq, Eq)]
 pub enum Question {
-    /// Why it is refused: at most so many faults.
+    /// The faults for which it is rejected: at most this many.
     Faults(usize),
-    /// What it may have by mistake. It is asked of programs that are not refused.
+    /// Its warnings. Requested only for programs that are not rejected.
     Warnings,
-    /// Where undefined behaviour is not ruled out. It is asked of programs that are not refused.
+    /// The places where undefined behaviour is not ruled out. Requested only for programs that are not rejected.
     Unverified,
 }
 
@@ -42,7 +42,7 @@ pub struct Declared<'a> {
     pub name: &'a str,
     /// The name where it is declared.
     pub at: Part<'a>,
-    /// Where its declarator ends, with the initialiser and the `;` behind it.
+    /// Where its declarator ends, with the initialiser and the `;` after it.
     pub end: usize,
     /// Whether it is declared for the whole unit.
     pub is_global: bool,
@@ -60,7 +60,7 @@ pub struct Enumerated<'a> {
     pub scope_end: usize,
 }
 
-/// What is known of an object.
+/// The facts about an object.
 #[derive(Drop)]
 pub struct ObjectFact {
     /// Its type, as C spells it.
@@ -69,7 +69,7 @@ pub struct ObjectFact {
     pub value: Option<i64>,
 }
 
-/// What is known of a function.
+/// The facts about a function.
 #[derive(Drop)]
 pub struct FunctionFact {
     /// Its type, as C spells it.
@@ -80,16 +80,16 @@ pub struct FunctionFact {
     pub weight: u32,
 }
 
-/// A program that runs a server. What it knows of names is none where that is not sure, and where the compiler refuses the program. Each method fails
+/// A program that runs a server. Its facts about names are none where they are not sure, and where the compiler rejects the program. Each method fails
 /// where memory runs out.
 pub trait Host {
     /// The bytes of the file at a path; `None` where there is none that can be read.
     fn read(&self, alloc: Global, path: &str) -> Result<Option<Vec<u8>>, AllocError>;
 
-    /// The names of what a folder has, those of folders with `/` behind them; none where it cannot be read.
+    /// The names of the entries of a folder, those of folders with `/` after them; none where it cannot be read.
     fn entries(&self, alloc: Global, folder: &str) -> Result<Vec<String>, AllocError>;
 
-    /// What is found of a program: an object of JSON on each line, with the members that `zkc explain --json` has.
+    /// The findings in a program: an object of JSON on each line, with the members that `zkc explain --json` has.
     fn findings(
         &self,
         alloc: Global,
@@ -97,7 +97,7 @@ pub trait Host {
         unit: Unit<'_>,
     ) -> Result<String, AllocError>;
 
-    /// What is known of an object or a parameter.
+    /// The facts about an object or a parameter.
     fn object(
         &self,
         alloc: Global,
@@ -105,7 +105,7 @@ pub trait Host {
         declared: Declared<'_>,
     ) -> Result<Option<ObjectFact>, AllocError>;
 
-    /// What is known of the function of this name.
+    /// The facts about the function of this name.
     fn function(
         &self,
         alloc: Global,
@@ -121,7 +121,7 @@ pub trait Host {
         part: Part<'_>,
     ) -> Result<Option<String>, AllocError>;
 
-    /// The value of an integer constant expression, in which no name is a macro, behind the whole program.
+    /// The value of an integer constant expression, in which no name is a macro, after the whole program.
     fn value(
         &self,
         alloc: Global,

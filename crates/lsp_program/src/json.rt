@@ -44,7 +44,7 @@ pub fn put_edit(alloc: Global, span: Span, text: &str, out: &mut String) -> Resu
     out.push_str("}")
 }
 
-/// Puts a comma between items of a list: before each but the first, at which the list is as long as at its beginning.
+/// Appends a comma between items of a list: before each but the first, at which the list is as long as at its beginning.
 pub fn put_comma(begin: usize, out: &mut String) -> Result<(), AllocError> {
     if out.len() > begin {
         return out.push_str(",");

@@ -1,4 +1,4 @@
-//! A program as an editor has it: its options, its files, its names, and what is asked of the compiler.
+//! A program as an editor has it: its options, its files, its names, and the questions to the compiler.
 #![tactic(auto)]
 
 mod definitions;

@@ -1,4 +1,4 @@
-//! What a client says of itself and of the program when a session begins.
+//! The settings of the client and of the program, which a client sends when a session begins.
 
 use crate::definitions::{is_definition, is_macro_name};
 use crate::params::{flag_at, number_at, text_at};
@@ -14,14 +14,14 @@ const USUAL_STACK: u32 = 1_048_576;
 #[derive(Drop)]
 pub struct Options {
     pub encoding: Encoding,
-    /// The folders in which includes are looked for.
+    /// The folders that are searched for includes.
     pub folders: Vec<String>,
     /// The path of the main file; empty where each open file that no other includes is one.
     pub main: String,
     /// The macros that are defined, as `NAME`, `NAME=VALUE` or `NAME(PARAMETERS)=VALUE`, and those that are left out.
     pub defined: Vec<String>,
     pub undefined: Vec<String>,
-    /// What the options have that is no macro.
+    /// The entries of the options that are no macros.
     pub wrong: Vec<String>,
     /// The bytes of the stack.
     pub stack: u32,
@@ -30,7 +30,7 @@ pub struct Options {
 }
 
 impl Options {
-    /// The options of a client that says nothing.
+    /// The options of a client that sends none.
     pub fn usual(alloc: Global) -> Options {
         Options {
             encoding: Encoding::Utf16,
@@ -64,7 +64,7 @@ impl Options {
         !self.defined.is_empty() || !self.undefined.is_empty()
     }
 
-    /// Takes the options `define` and `undefine`.
+    /// Reads the options `define` and `undefine`.
     fn put_macros(&mut self, alloc: Global, params: &Value) -> Result<(), AllocError> {
         for text in texts_at(alloc, params, "/initializationOptions/define")? {
             if is_definition(text.as_str()) {
@@ -120,7 +120,7 @@ fn folders_of(alloc: Global, root: &str, params: &Value) -> Result<Vec<String>, 
     Ok(folders)
 }
 
-/// The texts in the array at a pointer; what is no text is passed over.
+/// The texts in the array at a pointer; other values are skipped.
 fn texts_at(alloc: Global, params: &Value, pointer: &str) -> Result<Vec<String>, AllocError> {
     let mut texts = Vec::new(alloc);
     let Some(listed) = params.pointer(pointer).and_then(Value::as_array) else {

@@ -1,4 +1,4 @@
-//! The files of a program: the main one, and those that it includes, as they stand in the editor or else on the disk.
+//! The files of a program: the main one, and those that it includes, as they are in the editor or else on the disk.
 
 use crate::definitions::{MADE_FILE, made_text};
 use crate::documents::OpenDocument;
@@ -69,7 +69,7 @@ pub fn is_part(programs: &[Program], number: usize) -> bool {
     false
 }
 
-/// Where files are looked for.
+/// The places that are searched for files.
 #[derive(Drop)]
 pub struct Places<'a, H> {
     pub host: &'a H,
@@ -136,7 +136,7 @@ fn is_name_of(files: &[UnitFile], name: &str) -> bool {
     false
 }
 
-/// Finds a file beside the one that includes it, in a folder of the options, or among the built-in headers.
+/// Finds a file in the folder of the one that includes it, in a folder of the options, or among the built-in headers.
 fn find<H: Host>(
     alloc: Global,
     places: &Places<'_, H>,

@@ -1,4 +1,4 @@
-//! The names of a program, as requests look at them.
+//! The names of a program, as requests use them.
 
 use crate::unit_files::{Origin, UnitFile};
 use lsp_budget::work_of;
@@ -6,7 +6,7 @@ use lsp_names::{Index, Lookup, Place, Source, Symbol, SymbolKind};
 use lsp_text::{Encoding, Position, Span};
 use std::alloc::{AllocError, Global};
 
-/// What a request is about: a file of a program, and an offset in it.
+/// The subject of a request: a file of a program, and an offset in it.
 #[derive(Clone, Copy)]
 pub struct Spot {
     pub file: usize,
@@ -27,7 +27,7 @@ pub struct View {
 pub const MAX_WORK: u64 = 16_000_000;
 
 impl View {
-    /// Looks at the files of a program.
+    /// Indexes the files of a program.
     pub fn of(alloc: Global, files: Vec<UnitFile>, encoding: Encoding) -> Result<View, AllocError> {
         let index = index_of(alloc, files.as_slice())?;
         let work = work_of(alloc, &index, files.len())?;
@@ -75,7 +75,7 @@ impl View {
         self.index.lookup(spot.file, spot.offset)
     }
 
-    /// Whether `(` stands directly behind the name of a macro where it is defined.
+    /// Whether `(` directly follows the name of a macro where it is defined.
     pub fn has_parameters(&self, symbol: &Symbol) -> bool {
         let behind = Place {
             file: symbol.at.file,
@@ -166,7 +166,7 @@ fn index_of(alloc: Global, files: &[UnitFile]) -> Result<Index, AllocError> {
     Index::of(alloc, sources.as_slice(), main)
 }
 
-/// What stands before the first character of a file.
+/// The empty range before the first character of a file.
 pub fn beginning() -> Span {
     let start = Position {
         line: 0,

@@ -1,4 +1,4 @@
-//! Which request and which notification is answered by what.
+//! The handlers of requests and notifications.
 
 use crate::server::{Phase, Server};
 use lsp_help::{Inquiry, Interval, completion, hover};
@@ -17,7 +17,7 @@ use std::alloc::{AllocError, Global};
 const COMMAND: &str = "workspace/executeCommand";
 
 impl<H: Host + Drop> Server<H> {
-    /// Answers a request.
+    /// Responds to a request.
     pub(crate) fn request(&mut self, id: &Id, call: &Call) -> Result<(), AllocError> {
         if self.phase == Phase::Running && call.method.as_str() == COMMAND {
             self.note_command(&call.params)?;
@@ -68,7 +68,7 @@ impl<H: Host + Drop> Server<H> {
         self.note_change(path.as_str(), self.options.verifies)
     }
 
-    /// What a request is answered.
+    /// The response to a request.
     fn outcome(&mut self, call: &Call) -> Result<Outcome, AllocError> {
         match call.method.as_str() {
             "initialize" => self.initialize(&call.params),
@@ -112,7 +112,7 @@ impl<H: Host + Drop> Server<H> {
         about_spot(self.alloc, view, method, params, spot)
     }
 
-    /// Requests for what is shown or offered at a place.
+    /// Requests for texts or completions at a place.
     fn help<'a>(&'a self, view: &'a View, method: &str, spot: Spot) -> Result<Outcome, AllocError> {
         let inquiry = Inquiry {
             alloc: self.alloc,
@@ -126,7 +126,7 @@ impl<H: Host + Drop> Server<H> {
         completion(&inquiry, spot)
     }
 
-    /// What the analysis tells of a place.
+    /// The result of the analysis for a place.
     fn interval_at(&self, view: &View, spot: Spot) -> Option<Interval<'_>> {
         let uri = view.uri(spot.file)?;
         let problem = self.problems.iter().find(|problem| !problem.interval.is_empty()
@@ -178,7 +178,7 @@ fn about_file(
     }
 }
 
-/// Requests about what stands at a place.
+/// Requests about the token at a place.
 fn about_spot(
     alloc: Global,
     view: &View,
@@ -196,7 +196,7 @@ fn about_spot(
     }
 }
 
-/// Whether a place stands in a range, or directly behind it.
+/// Whether a place is in a range, or directly after it.
 fn is_at(view: &View, span: Span, spot: Spot) -> bool {
     view.offset(spot.file, span.start) <= spot.offset
         && spot.offset <= view.offset(spot.file, span.end)

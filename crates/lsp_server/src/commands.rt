@@ -6,11 +6,11 @@ use lsp_wire::{Outcome, RpcError};
 use serde_json::Value;
 use std::alloc::AllocError;
 
-/// Has the programs with a file verified, as their texts stand in the editor; its argument is the URI of the file.
+/// Has the programs with a file verified, with their texts in the editor; its argument is the URI of the file.
 pub(crate) const VERIFY: &str = "zikorape.verify";
 
 impl<H: Host + Drop> Server<H> {
-    /// Notes that the programs with the file of a command are to be verified when changes are looked at.
+    /// Notes that the programs with the file of a command are to be verified when changes are examined.
     pub(crate) fn note_command(&mut self, params: &Value) -> Result<(), AllocError> {
         let Some(uri) = verified_file(params) else {
             return Ok(());
@@ -19,7 +19,7 @@ impl<H: Host + Drop> Server<H> {
         self.note_change(path.as_str(), true)
     }
 
-    /// Answers a command, behind which changes were looked at.
+    /// Responds to a command, after changes were examined.
     pub(crate) fn command(&self, params: &Value) -> Result<Outcome, AllocError> {
         if verified_file(params).is_none() {
             return Ok(Outcome::Refused(RpcError::InvalidParams, RpcError::InvalidParams.text()));

@@ -9,16 +9,16 @@ use lsp_program::{
 use lsp_wire::notification;
 use std::alloc::{AllocError, Global};
 
-/// How many programs are looked at beside one another.
+/// How many programs are examined at most.
 const MAX_PROGRAMS: usize = 32;
 
-/// How many faults of a program are asked for at most.
+/// How many faults of a program are requested at most.
 const MAX_FAULTS: u64 = 10;
 
-/// How much work these may be. The compiler is asked several times for each.
+/// How much work these may be. The compiler is run several times for each.
 const FAULT_WORK: u64 = 1_000_000;
 
-/// What is done with a program when files changed.
+/// The action on a program when files changed.
 #[derive(Clone, Copy, PartialEq, Eq)]
 enum Plan {
     /// It has a file that changed.
@@ -46,7 +46,7 @@ impl<H: Host + Drop> Server<H> {
         Ok(())
     }
 
-    /// Looks at each program that has a file which changed, and tells what is found.
+    /// Examines each program that has a file which changed, and publishes its problems.
     pub(crate) fn look_at_changes(&mut self) -> Result<(), AllocError> {
         if self.changes.is_empty() {
             return Ok(());
@@ -66,7 +66,7 @@ impl<H: Host + Drop> Server<H> {
         self.publish()
     }
 
-    /// The programs that are looked at.
+    /// The programs that are examined.
     pub(crate) fn programs(&self) -> Result<Vec<Program>, AllocError> {
         let mut programs = Vec::new(self.alloc);
         for root in self.roots()? {
@@ -116,7 +116,7 @@ impl<H: Host + Drop> Server<H> {
         Ok(())
     }
 
-    /// Asks for faults of a program, or else for warnings and, where that is wanted, for what is not verified.
+    /// Requests the faults of a program, or else its warnings and, where that is wanted, the parts that are not verified.
     fn ask_all(
         &mut self,
         files: &[UnitFile],
@@ -164,7 +164,7 @@ impl<H: Host + Drop> Server<H> {
         Ok(())
     }
 
-    /// Forgets what was found in a program.
+    /// Forgets the problems of a program.
     fn drop_problems_of(&mut self, root: &str) -> Result<(), AllocError> {
         let old = std::mem::replace(&mut self.problems, Vec::new(self.alloc));
         for problem in old {
@@ -175,7 +175,7 @@ impl<H: Host + Drop> Server<H> {
         Ok(())
     }
 
-    /// Forgets what was found in programs that are looked at no more.
+    /// Forgets the problems of programs that are no longer examined.
     fn forget_closed(&mut self) -> Result<(), AllocError> {
         let roots = self.roots()?;
         let old = std::mem::replace(&mut self.problems, Vec::new(self.alloc));
@@ -187,7 +187,7 @@ impl<H: Host + Drop> Server<H> {
         Ok(())
     }
 
-    /// Tells the problems of each file that has some, and that those of other files are gone.
+    /// Publishes the problems of each file that has some, and that those of other files are gone.
     fn publish(&mut self) -> Result<(), AllocError> {
         let alloc = self.alloc;
         let mut uris = Vec::new(alloc);
@@ -218,13 +218,13 @@ impl<H: Host + Drop> Server<H> {
     }
 }
 
-/// How many faults of a program are asked for, by the work that it is.
+/// How many faults of a program are requested, by its work.
 fn faults_within(work: u64) -> usize {
     let count = FAULT_WORK.checked_div(work).unwrap_or(MAX_FAULTS);
     usize::try_from(count.min(MAX_FAULTS).max(1)).unwrap_or(1)
 }
 
-/// What is done with each program. One whose main file another includes is a part of that.
+/// The action on each program. One whose main file another includes is a part of that.
 fn plans_of(
     alloc: Global,
     programs: &[Program],

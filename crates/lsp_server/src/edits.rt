@@ -54,7 +54,7 @@ impl<H: Host + Drop> Server<H> {
         self.note_change(path.as_str(), false)
     }
 
-    /// `textDocument/didClose`: the file counts as it stands on the disk.
+    /// `textDocument/didClose`: the file on the disk counts.
     pub(crate) fn close(&mut self, params: &Value) -> Result<(), AllocError> {
         let Some(uri) = text_at(params, "/textDocument/uri") else {
             return Ok(());

@@ -1,4 +1,4 @@
-//! The language server: the state of a session, and what each message of a client is answered.
+//! The language server: the state of a session, and the response to each message of a client.
 #![tactic(auto)]
 
 mod answering;

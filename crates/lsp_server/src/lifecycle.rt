@@ -59,7 +59,7 @@ impl<H: Host + Drop> Server<H> {
         Ok(Outcome::Answer(String::from_str(self.alloc, "null")?))
     }
 
-    /// `exit`: the status is 0 behind `shutdown`, and else 1.
+    /// `exit`: the status is 0 after `shutdown`, and else 1.
     pub(crate) fn exit(&mut self) {
         self.phase = match self.phase {
             Phase::ShutDown => Phase::Ended(0),

@@ -11,9 +11,9 @@ pub(crate) enum Phase {
     /// Before `initialize`.
     Fresh,
     Running,
-    /// Behind `shutdown`.
+    /// After `shutdown`.
     ShutDown,
-    /// Behind `exit`, with this status of the process.
+    /// After `exit`, with this status of the process.
     Ended(u8),
 }
 
@@ -25,19 +25,19 @@ pub struct Server<H> {
     pub(crate) phase: Phase,
     pub(crate) options: Options,
     pub(crate) documents: Vec<OpenDocument>,
-    /// What was found in the programs that are looked at.
+    /// The problems of the programs that are examined.
     pub(crate) problems: Vec<Problem>,
     /// The URIs of files for which the client has diagnostics.
     pub(crate) shown: Vec<String>,
-    /// The program that was looked at last, while nothing changes.
+    /// The program that was examined last, while nothing changes.
     pub(crate) view: Option<View>,
-    /// What changed since programs were looked at.
+    /// The changes since programs were examined.
     pub(crate) changes: Vec<Change>,
-    /// What is to be sent.
+    /// The messages that are to be sent.
     pub(crate) outbox: Vec<String>,
 }
 
-/// That a file changed, or is to be verified: its programs are looked at before the next request is answered.
+/// That a file changed, or is to be verified: its programs are examined before the response to the next request.
 #[derive(Drop)]
 pub(crate) struct Change {
     pub(crate) path: String,
@@ -75,7 +75,7 @@ impl<H: Host + Drop> Server<H> {
     }
 
     /// Looks at the programs that changed; returns the bodies of the messages that are to be sent. It is called where no message waits, so that of
-    /// several changes in a row only the last is looked at.
+    /// several changes in a row only the last is examined.
     pub fn settle(&mut self) -> Result<Vec<String>, AllocError> {
         self.look_at_changes()?;
         Ok(self.sent())

@@ -1,4 +1,4 @@
-//! How many units stand before each block of a text, so that a place in a long line is found as fast as one in a short line.
+//! How many units precede each block of a text, so that a place in a long line is found as fast as one in a short line.
 
 use crate::units::{Encoding, units_of};
 use std::alloc::{AllocError, Global};
@@ -6,7 +6,7 @@ use std::alloc::{AllocError, Global};
 /// The bytes of a block.
 pub(crate) const BLOCK: usize = 256;
 
-/// How many units stand somewhere before.
+/// How many units precede a place.
 #[derive(Clone, Copy)]
 pub(crate) struct Counts {
     utf8: u32,

@@ -25,8 +25,8 @@ impl Document {
         self.text.as_slice()
     }
 
-    /// Replaces what stands in a range. Positions outside of the text mean its nearest ones, and a range whose end stands before its
-    /// beginning is empty. Where memory runs out, the document is as it was.
+    /// Replaces the text in a range. Positions outside of the text mean its nearest ones, and a range whose end precedes its beginning is empty. Where memory
+    /// runs out, the document is as it was.
     pub fn replace(
         &mut self,
         span: Span,
@@ -41,7 +41,7 @@ impl Document {
         Ok(())
     }
 
-    /// Returns how many bytes stand before a position.
+    /// Returns how many bytes precede a position.
     pub fn offset(&self, position: Position, encoding: Encoding) -> usize {
         self.lines.offset(self.text.as_slice(), position, encoding)
     }

@@ -13,7 +13,7 @@ pub struct Position {
     pub character: u32,
 }
 
-/// What stands from one position up to another.
+/// The text from one position up to another.
 #[derive(Clone, Copy, Debug, PartialEq, Eq)]
 pub struct Span {
     pub start: Position,
@@ -43,8 +43,8 @@ impl LineTable {
         Ok(LineTable { starts, counts })
     }
 
-    /// Returns how many bytes of the text stand before a position. A character past the end of its line means that end, and a
-    /// line past the last one the end of the text.
+    /// Returns how many bytes of the text precede a position. A character past the end of its line means that end, and a line past the last one the end of the
+    /// text.
     pub fn offset(&self, text: &[u8], position: Position, encoding: Encoding) -> usize
         ensures { result ≤ length text.now }
     {
@@ -56,7 +56,7 @@ impl LineTable {
         start.saturating_add(before).min(text.len())
     }
 
-    /// Returns the position behind so many bytes of the text. Of a byte in a line's end it is the end of that line.
+    /// Returns the position after the first `offset` bytes of the text. Of a byte in a line's end it is the end of that line.
     pub fn position(&self, text: &[u8], offset: usize, encoding: Encoding) -> Position {
         let line = self.line_of(offset);
         let start = self.starts.get(line).copied().unwrap_or(0);
@@ -95,7 +95,7 @@ impl LineTable {
         }
     }
 
-    /// The number of the line, from 0, in which the byte at an offset stands.
+    /// The number of the line, from 0, that contains the byte at an offset.
     pub fn line_of(&self, offset: usize) -> usize {
         self.starts
             .partition_point(|start| *start <= offset)
@@ -116,12 +116,12 @@ impl LineTable {
     }
 }
 
-/// Whether a byte ends its line: LF, or CR with no LF behind it.
+/// Whether a byte ends its line: LF, or CR with no LF after it.
 fn ends_line(byte: u8, next: Option<&u8>) -> bool {
     byte == b'\n' || byte == b'\r' && next.copied() != Some(b'\n')
 }
 
-/// A line without what ends it.
+/// A line without its line ending.
 fn without_end(line: &[u8]) -> &[u8] {
     let line = line.strip_suffix(b"\n").unwrap_or(line);
     line.strip_suffix(b"\r").unwrap_or(line)

@@ -62,8 +62,7 @@ pub(crate) fn units_of(row: &[u8], encoding: Encoding) -> u32 {
     count
 }
 
-/// Returns how many bytes of a row stand before the code point at so many units. A count inside of a code point means its
-/// beginning, and one past the row its end.
+/// Returns how many bytes of a row precede the code point at `units` units. A count inside of a code point means its beginning, and one past the row its end.
 pub(crate) fn bytes_before(row: &[u8], units: u32, encoding: Encoding) -> usize
     ensures { result ≤ length row.now }
 {

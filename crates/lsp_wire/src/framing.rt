@@ -2,16 +2,16 @@
 
 use std::alloc::{AllocError, Global};
 
-/// The most bytes that a body may have. A longer one is passed over.
+/// The most bytes that a body may have. A longer one is skipped.
 pub const MAX_BODY_BYTES: usize = 33_554_432;
 
 /// The most bytes that a header may have.
 pub const MAX_HEADER_BYTES: usize = 4_096;
 
-/// What ends a header.
+/// The end of a header.
 const HEADER_END: &[u8; 4] = b"\r\n\r\n";
 
-/// What the bytes of a client hold next.
+/// The next item in the bytes of a client.
 #[derive(Drop)]
 pub enum Frame {
     /// The body of a message.
@@ -41,7 +41,7 @@ impl Inbox {
         }
     }
 
-    /// Adds bytes in the order in which they came. Fails where memory runs out.
+    /// Adds bytes in the order of their arrival. Fails where memory runs out.
     pub fn put(&mut self, bytes: &[u8]) -> Result<(), AllocError> {
         let passed = self.skipped.min(bytes.len());
         self.skipped = self.skipped.saturating_sub(passed);
@@ -49,7 +49,7 @@ impl Inbox {
             .extend_from_slice(bytes.get(passed..).unwrap_or_default())
     }
 
-    /// Takes the next frame; `None` where its bytes are not all there. Fails where memory runs out.
+    /// Removes and returns the next frame; `None` where its bytes are not all there. Fails where memory runs out.
     pub fn take(&mut self) -> Result<Option<Frame>, AllocError> {
         let Some(end) = header_end(self.held.as_slice()) else {
             return self.take_long_header();
@@ -65,7 +65,7 @@ impl Inbox {
         }
     }
 
-    /// Gives up all bytes where they are more than a header may have.
+    /// Discards all bytes where they are more than a header may have.
     fn take_long_header(&mut self) -> Result<Option<Frame>, AllocError> {
         if self.held.len() <= MAX_HEADER_BYTES {
             return Ok(None);
@@ -74,7 +74,7 @@ impl Inbox {
         Ok(Some(Frame::WrongHeader))
     }
 
-    /// Takes a body of this length.
+    /// Removes and returns a body of this length.
     fn take_body(&mut self, start: usize, length: usize) -> Result<Option<Frame>, AllocError> {
         let end = start.saturating_add(length);
         let Some(bytes) = self.held.get(start..end) else {
@@ -85,7 +85,7 @@ impl Inbox {
         Ok(Some(Frame::Body(body)))
     }
 
-    /// Passes over a body of this length, of which some bytes may not have come yet.
+    /// Skips a body of this length, some bytes of which may not have arrived yet.
     fn pass(&mut self, start: usize, length: usize) -> Result<Option<Frame>, AllocError> {
         let end = start.saturating_add(length);
         let held = self.held.len();
@@ -102,7 +102,7 @@ impl Inbox {
     }
 }
 
-/// How many bytes stand before the empty line that ends a header.
+/// The number of bytes before the empty line that ends a header.
 fn header_end(bytes: &[u8]) -> Option<usize> {
     let head = bytes.get(..MAX_HEADER_BYTES).unwrap_or(bytes);
     head.windows(4)

@@ -4,7 +4,7 @@ use crate::reply::RpcError;
 use serde_json::Value;
 use std::alloc::{AllocError, Global};
 
-/// What a request is known by.
+/// The identifier of a request.
 #[derive(Drop)]
 pub enum Id {
     Number(i64),
@@ -13,7 +13,7 @@ pub enum Id {
     Null,
 }
 
-/// What is called, and with what.
+/// The called method, and its parameters.
 #[derive(Drop)]
 pub struct Call {
     pub method: String,
@@ -24,17 +24,17 @@ pub struct Call {
 /// A message of a client.
 #[derive(Drop)]
 pub enum Message {
-    /// A call that is answered.
+    /// A call that gets a reply.
     Request(Id, Call),
-    /// A call that is not answered.
+    /// A call that gets no reply.
     Notification(Call),
-    /// The answer to a request of the server.
+    /// The reply to a request of the server.
     Reply,
     /// No message of the protocol.
     Wrong(Id, RpcError),
 }
 
-/// What the member `id` of a message is.
+/// The value of the member `id` of a message.
 #[derive(Drop)]
 enum Known {
     By(Id),
@@ -111,7 +111,7 @@ fn call_of(alloc: Global, value: Value) -> Result<Call, AllocError> {
     Ok(Call { method, params })
 }
 
-/// What a message is known by.
+/// The identifier of a message.
 fn id_of(alloc: Global, id: Option<&Value>) -> Result<Known, AllocError> {
     let Some(id) = id else {
         return Ok(Known::Absent);

@@ -1,10 +1,10 @@
-//! What a server writes.
+//! The output of a server.
 
 use crate::json_text::{put_number, put_string};
 use crate::message::Id;
 use std::alloc::{AllocError, Global};
 
-/// Why a message gets an error (JSON-RPC 2.0, section 5.1, and Language Server Protocol 3.17, `ErrorCodes`).
+/// The reason why a message gets an error (JSON-RPC 2.0, section 5.1, and Language Server Protocol 3.17, `ErrorCodes`).
 #[derive(Clone, Copy, Debug, PartialEq, Eq)]
 pub enum RpcError {
     /// The body is not JSON.
@@ -15,11 +15,11 @@ pub enum RpcError {
     InvalidParams,
     /// A request came before `initialize`.
     NotInitialized,
-    /// A request is right and could not be met.
+    /// A valid request could not be fulfilled.
     RequestFailed,
 }
 
-/// What a request is answered.
+/// The result of a request.
 #[derive(Drop)]
 pub enum Outcome {
     /// A value of JSON.
@@ -40,7 +40,7 @@ impl RpcError {
         }
     }
 
-    /// What this error is called.
+    /// The text of this error.
     pub fn text(self) -> &'static str {
         match self {
             RpcError::ParseError => "the message is not JSON",

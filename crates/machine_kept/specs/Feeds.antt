@@ -1,4 +1,4 @@
--- What a port is seen as whose input is given while the run goes on.
+-- The view of a port whose input is given while the run goes on.
 use Rattle.std.specs.Prelude.{◌≡◌, ◌≤◌, [], Some, false, ⊤, drop, vec_len}
 use Rattle.io_ports.specs.Port.{PortView}
 use Rattle.io_ports.specs.declared.port.PortFault.{PortFault}
@@ -9,7 +9,7 @@ use Rattle.machine_kept.specs.declared.feed.Feed.{Feed}
 abbrev pub port_of : Feed → PortView
 port_of p = record { input = Some (drop p.next p.input.items); output = Some p.output.items; failures = p.failures }
 
--- it refuses a read where the input is used up and not closed, and nothing else but for want of memory
+-- it refuses a read where the input is used up and not closed, and nothing else except when out of memory
 abbrev pub Lacks : Feed → PortFault → Type 0
 Lacks p Memory = ⊤
 Lacks p Read = (vec_len p.input ≤ p.next) × (p.closed ≡ false)

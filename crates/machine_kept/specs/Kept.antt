@@ -1,4 +1,4 @@
--- What a machine that is kept answers, and what it is then.
+-- The answers of a machine that is kept, and its state after them.
 use Rattle.std.specs.Prelude.{◌≡◌, ◌⊎◌, ◌<◌, ◌≤◌, ℕ, ◌+◌, ◌-◌, ◌%◌, ◌^◌, ◌++◌, ◌∷◌, ◌==◌, List, [], true, false, Option, Some, None, Ok, min, vec_len, slice_get, nat_lt, if◌then◌else◌, replicate}
 use Rattle.rv32.specs.Space.{space_of, with_bytes, byte_put}
 use Rattle.rv32.specs.Step.{Machine, machine_of, register, with_register}
@@ -44,20 +44,20 @@ pub record IsNew (m : Kept) : Type 0 where
   pub file_is : m.file.items ≡ []
   pub first : IsFirst m
 
--- ---- what it is given
+-- ---- its inputs
 
 -- the file has one byte more, or 801: then it is as it was
 pub record TakesFile (byte : ℕ) (old : Kept) (answer : ℕ) (new : Kept) : Type 0 where
   pub rest_stays : new ≡ record old { file = new.file }
   pub file_is : ((answer ≡ 0) × (new.file.items ≡ old.file.items ++ byte % 2 ^ 8 ∷ [])) ⊎ ((answer ≡ 801) × (new.file.items ≡ old.file.items))
 
--- it stands where the image starts
+-- it is at the start of the image
 pub record StartsAt (image : Image) (old new : Kept) : Type 0 where
   pub machine_is : machine_now new ≡ start_of image
   pub file_is : new.file ≡ old.file
   pub first : IsFirst new
 
--- it stands where the file's image starts; or why the file is not loaded: then it is as it was
+-- it is at the start of the file's image; or why the file is not loaded: then it is as it was
 abbrev pub Loads : Kept → ℕ → Kept → Type 0
 Loads old answer new =
     ((image : Image) × (file_image old.file.items ≡ Ok image) × (answer ≡ 0) × StartsAt image old new)
@@ -92,8 +92,8 @@ stopped_by (outcome.Ended s) = Some (outcome.Ended s)
 stopped_by (outcome.Trapped pc c) = Some (outcome.Trapped pc c)
 stopped_by (outcome.Port x) = None
 
--- from the world where it stands, so many instructions come to this outcome, at most `max`, and as few as they can be: before the last of
--- them the run went on and was not to halt; where it goes on behind them, they are `max`, or it is to halt there
+-- from its current world, `steps` instructions have this outcome, at most `max`, and as few as possible: before the last of them the run went on and was not to
+-- halt; where it goes on after them, they are `max`, or it is to halt there
 pub record GoesOn (max halt : ℕ) (old : Kept) (answer : ℕ) (new : Kept) : Type 0 where
   pub reached : Reached
   pub meets : (o : Option (List ℕ)) (w : World) → At o w (machine_now old) (port_now old) → RunMeets o w reached.steps reached.outcome (machine_now new) (port_now new)
@@ -111,7 +111,7 @@ abbrev pub Runs : ℕ → ℕ → Kept → ℕ → Kept → Type 0
 Runs max halt old answer new =
     ((o : Outcome) × (old.stopped ≡ Some o) × (answer ≡ answer_of o) × (new ≡ old)) ⊎ ((old.stopped ≡ None) × GoesOn max halt old answer new)
 
--- ---- what it tells
+-- ---- its results
 
 -- the status with which it ended, or the number of why it trapped
 abbrev pub detail_now : Option Outcome → ℕ
@@ -132,7 +132,7 @@ register_shown k m = if nat_lt k 32 then register (machine_now m) k else (if k =
 abbrev pub byte_shown : ℕ → Kept → ℕ
 byte_shown a m = shown_byte (machine_now m).space a
 
--- ---- what is outside the theorem: registers and memory that are set
+-- ---- outside the theorem: registers and memory that are set
 
 pub record SetsRegister (k value : ℕ) (old : Kept) (answer : ℕ) (new : Kept) : Type 0 where
   pub register : k < 32 → (answer ≡ 0) × (new ≡ record old { state = record old.state { registers = with_register old.state.registers k (value % 2 ^ 32) }; stopped = None })

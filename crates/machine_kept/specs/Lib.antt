@@ -8,4 +8,3 @@ pub mod Standing
 pub mod Feeds
 pub mod Kept
 pub mod Served
-pub mod inside

@@ -1,4 +1,4 @@
--- What is answered to a request.
+-- The answer to a request.
 use Rattle.std.specs.Prelude.{◌≡◌, ℕ, ◌==◌, Option, Some, None, if◌then◌else◌}
 use Rattle.machine_kept.specs.Kept.{TakesFile, Loads, TakesInput, Closes, Runs, GivesOutput, SetsRegister, Writes, detail_now, register_shown, byte_shown}
 use Rattle.machine_kept.specs.declared.kept.Kept.{Kept}
@@ -39,6 +39,6 @@ abbrev served_or_not : Option Request → ℕ → ℕ → Kept → ℕ → Kept 
 served_or_not (Some request) a b old answer new = Serves request a b old answer new
 served_or_not None a b old answer new = (answer ≡ 256) × (new ≡ old)
 
--- what the request with this number asks for; 256 where there is none: then it is as it was
+-- the effect of the request with this number; 256 where there is none: then it is as it was
 abbrev pub Answers : ℕ → ℕ → ℕ → Kept → ℕ → Kept → Type 0
 Answers number a b old answer new = served_or_not (request_of number) a b old answer new

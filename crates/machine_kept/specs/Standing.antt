@@ -1,4 +1,4 @@
--- What is shown of a machine, and how far a run comes.
+-- The visible state of a machine, and how far a run goes.
 use Rattle.std.specs.Prelude.{◌≢◌, ℕ, ◌≤◌, ◌^◌, nat_lt, if◌then◌else◌}
 use Rattle.rv32.specs.Space.{Space}
 use Rattle.rv32.specs.declared.state.Cause.{Cause}
@@ -30,7 +30,7 @@ Passes halt k (Running w) = halt.after ≤ k → w.machine.pc ≢ halt.at
 Passes halt k (Ended s w) = ⊥
 Passes halt k (Trapped c w) = ⊥
 
--- 0 where it goes on, 1 where it ended, 2 where it trapped, 3 where memory ran out for the output, 5 where it wants input
+-- 0 where it goes on, 1 where it ended, 2 where it trapped, 3 where memory ran out for the output, 5 where it needs input
 abbrev pub answer_of : Outcome → ℕ
 answer_of outcome.Budget = 0
 answer_of (outcome.Ended status) = 1

@@ -90,7 +90,7 @@ impl Feed {
     ghost use Rattle.io_ports.specs.Port.{Gets, IsRefused};
     ghost use Rattle.machine_kept.specs.Feeds.{port_of, Lacks};
 
-    /// What a read comes to where the input is used up.
+    /// The result of a read where the input is used up.
     fn at_end(&mut self) -> Result<Option<u8>, PortFault>
         requires { vec_len self.old.input ≤ self.old.next }
         ensures gets { MatchResult result (λ byte. Gets (port_of self.old) (port_of self.new) byte) (λ _. IsRefused (port_of self.old) (port_of self.new)) }

@@ -1,4 +1,4 @@
-//! The machine that is kept: what it is given, and what it tells.
+//! The machine that is kept: its inputs, and its results.
 
 ghost use Rattle.std.specs.Prelude.{◌≡◌};
 ghost use Rattle.loader.specs.Loading.{loaded_image};
@@ -13,10 +13,10 @@ use rv32::state::State;
 use sim::Outcome;
 use std::alloc::Global;
 
-/// The answer to a growth of memory that is refused: code 801.
+/// The answer to a refused growth of memory: code 801.
 pub(crate) const OUT_OF_MEMORY: u64 = 801;
 
-/// The answer where there is no byte more.
+/// The answer where there is no further byte.
 const NO_BYTE: u64 = 256;
 
 /// A machine with the file that it runs, its port, how many bytes of the output were taken, how many instructions it took, and the
@@ -58,7 +58,7 @@ impl Kept {
         }
     }
 
-    /// Stands before the first instruction of the file, with no input and no output: 0, or the code for which the file is not loaded.
+    /// Moves to the first instruction of the file, with no input and no output: 0, or the code for which the file is not loaded.
     pub fn load_file(&mut self) -> u64
         ensures { Loads self.old result self.new }
     {
@@ -71,7 +71,7 @@ impl Kept {
         }
     }
 
-    /// Stands before the first instruction of the program.
+    /// Moves to the first instruction of the program.
     fn begin(&mut self, program: Loaded)
         ensures { StartsAt (loaded_image program) self.old self.new }
     {
@@ -146,7 +146,7 @@ fn bare_state(alloc: Global) -> State
     }
 }
 
-/// What there is to tell of an outcome.
+/// The detail of an outcome.
 fn detail_of(outcome: Outcome) -> u64
     ensures { result ≡ outcome_detail outcome }
 {

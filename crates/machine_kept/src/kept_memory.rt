@@ -6,7 +6,7 @@ ghost use Rattle.machine_kept.specs.Kept.{register_shown, byte_shown, SetsRegist
 use crate::kept::Kept;
 use rv32::instr::Five;
 
-/// The number that stands for the pc among those of the registers.
+/// The number of the pc among those of the registers.
 const PC: u64 = 32;
 
 impl Kept {
@@ -24,7 +24,7 @@ impl Kept {
         }
     }
 
-    /// Gives a register, or the pc, a value, modulo 2^32; a machine that had stopped goes on. Answers 0, or 1 where there is no such register.
+    /// Gives a register, or the pc, a value, modulo 2^32; a machine that had stopped goes on. Returns 0, or 1 where there is no such register.
     pub fn set_register(&mut self, number: u64, value: u64) -> u64
         ensures { SetsRegister number value self.old result self.new }
     {
@@ -55,7 +55,7 @@ impl Kept {
         }
     }
 
-    /// Writes a byte, modulo 256, where the program may write one; answers 1 where it was written, and 0 where not.
+    /// Writes a byte, modulo 256, where the program may write one; returns 1 where it was written, and 0 where not.
     pub fn write(&mut self, address: u64, byte: u64) -> u64
         ensures { Writes address byte self.old result self.new }
     {

@@ -10,9 +10,8 @@ use io_ports::PortFault;
 use sim::Outcome;
 
 impl Kept {
-    /// Runs at most `max` instructions, or, once it has done one, to where the one at the address `halt` is next. The answer is 0 where it
-    /// goes on, 1 where it ended, 2 where it trapped, 3 where memory ran out for the output, and 5 where it wants input. After 1 and 2 it is
-    /// answered again, and nothing changes.
+    /// Runs at most `max` instructions, or, once it has done one, to where the one at the address `halt` is next. Returns 0 where it goes on, 1 where it ended,
+    /// 2 where it trapped, 3 where memory ran out for the output, and 5 where it needs input. After 1 and 2 it returns the same again, and nothing changes.
     pub fn run(&mut self, max: u64, halt: u64) -> u64
         ensures { Runs max halt self.old result self.new }
     {

@@ -1,4 +1,4 @@
-//! What a machine that is kept is asked, by number.
+//! The requests to a machine that is kept, by number.
 
 ghost use Rattle.std.specs.Prelude.{◌≡◌};
 ghost use Rattle.machine_kept.specs.Served as served;
@@ -6,7 +6,7 @@ ghost use Rattle.machine_kept.specs.Served.{Serves, Answers};
 
 use crate::kept::Kept;
 
-/// What a machine is asked.
+/// A request to a machine.
 #[derive(Clone, Copy)]
 pub enum Request {
     File,
@@ -23,7 +23,7 @@ pub enum Request {
     Write,
 }
 
-/// The answer to a number that stands for no request.
+/// The answer to a number that denotes no request.
 const NO_REQUEST: u64 = 256;
 
 /// The request with this number.
@@ -48,7 +48,7 @@ pub fn request_of(number: u32) -> Option<Request>
 }
 
 impl Kept {
-    /// Does what the request with this number asks for; 256 where there is none.
+    /// Serves the request with this number; returns 256 where there is none.
     pub fn serve(&mut self, number: u32, a: u64, b: u64) -> u64
         ensures { Answers number a b self.old result self.new }
     {

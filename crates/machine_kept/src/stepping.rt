@@ -1,4 +1,4 @@
-//! A machine from its start to an instruction, and what it then shows.
+//! A machine from its start to an instruction, and its state there.
 
 ghost use Rattle.std.specs.Prelude.{◌≡◌, ◌⊎◌, ◌<◌, ◌≤◌, ◌+◌, ◌↔◌, ℕ, List, Option, IsTrue, length, slice_index};
 ghost use Rattle.rv32.specs.Space.{space_of};
@@ -24,7 +24,7 @@ pub struct Reached {
     pub steps: u64,
 }
 
-/// Where a run is to halt: before the instruction at an address, once it has taken so many.
+/// Where a run is to halt: before the instruction at an address, once it has taken `after` instructions.
 #[derive(Clone, Copy)]
 pub struct Halt {
     pub after: u64,
@@ -63,14 +63,14 @@ pub fn run_to<P: Port>(state: &mut State, port: &mut P, count: u64, halt: Halt) 
     }
 }
 
-/// Whether the run is to halt here, after so many instructions.
+/// Whether the run is to halt here, after `steps` instructions.
 fn is_halted(state: &State, halt: Halt, steps: u64) -> bool
     ensures { IsTrue result ↔ ((halt.after ≤ steps) × (state.now.pc ≡ halt.at)) }
 {
     halt.after <= steps && state.pc == halt.at
 }
 
-/// Copies what the memory holds from an address on; 0 where nothing may be read.
+/// Copies the contents of memory from an address on; 0 where nothing may be read.
 pub fn show(memory: &Memory, from: u32, window: &mut [u8])
     ensures same { length window.new ≡ length window.old }
     ensures shows { (i : ℕ) → i < length window.old → slice_index window.new i ≡ shown_byte (space_of memory.now.segments.items) (from + i) }

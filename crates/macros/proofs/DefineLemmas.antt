@@ -1,4 +1,4 @@
--- What a definition does to the table.
+-- The effect of a definition on the table.
 use Rattle.std.proofs.Common.{◌≡◌, ℕ, List, [], ◌∷◌, ◌++◌, true, drop, Option, Some, None, is_some, Result, Ok, Err, OnOk, ap, sym, subst, ◌∙◌, slice_get, if◌then◌else◌, refl}
 use Rattle.srcset.specs.NameTable.{Texts, NumbersOnce}
 use Rattle.srcset.specs.declared.code.Code.{Code}

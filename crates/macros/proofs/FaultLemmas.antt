@@ -1,4 +1,4 @@
--- What is wrong with a definition, by numbers and by names.
+-- The faults of a definition, by numbers and by names.
 use Rattle.std.proofs.Common.{◌≡◌, ℕ, suc, List, [], ◌∷◌, ◌++◌, map, Bool, true, false, not, cond, ◌&&◌, ◌||◌, length, Option, Some, None, is_some, refl, ap, sym, ◌∙◌, slice_get, codes}
 use Rattle.std.specs.List.{list_any}
 use Rattle.std.specs.Str.{bytes_eq}

@@ -57,7 +57,7 @@ no_place texts text absent (k ∷ ks) (p ∷ ps) are = by (bytes_eq text p) refl
     by true e rest = absurd (absent k (are.0 ∙ ap Some (sym (text_same text p e))))
     by false e rest = ap next_number rest
 
--- __VA_ARGS__ stands behind the parameters of a variadic macro
+-- __VA_ARGS__ follows the parameters of a variadic macro
 last_place : (name : List ℕ) (names : List (List ℕ)) (found : Option ℕ) → number_among name names ≡ found
     → number_among name (names ++ codes "__VA_ARGS__" ∷ []) ≡ place_behind found (bytes_eq name (codes "__VA_ARGS__")) (length names)
 last_place name [] found e = by (bytes_eq name (codes "__VA_ARGS__")) found e
@@ -112,7 +112,7 @@ drop_short (a ∷ []) zero short = refl
 drop_short (a ∷ b ∷ rest) zero short = absurd (omega (arith, short))
 drop_short (a ∷ rest) (suc i) short = drop_short rest i (omega (arith, short))
 
--- what is read of a name and what stands behind it
+-- the result of reading a name and the token after it
 abbrev read_by : Bool → Bool → Bool → Bool → List ℕ → Option Read → Option Read
 read_by ellipsis name close comma text rest =
     if ellipsis then if close then Some (record { names = []; variadic = true; len = 2 }) else None
@@ -121,7 +121,7 @@ read_by ellipsis name close comma text rest =
     else if comma then read_before text rest
     else None
 
--- what an ellipsis and the token behind it are
+-- the result of reading an ellipsis and the token after it
 abbrev pub read_end : Bool → Option Read
 read_end close = if close then Some (record { names = []; variadic = true; len = 2 }) else None
 
@@ -173,7 +173,7 @@ more_in_hand texts x n at done all numbers variadic i len r whole grown go h =
     let l : done ++ n ∷ numbers ≡ all ++ numbers = sym (append_assoc done (n ∷ []) numbers) ∙ ap (λ a. a ++ numbers) (sym grown) in
     subst (λ m. IsRead texts (all ++ numbers) variadic m whole) k (subst (λ a. IsRead texts a variadic (i + suc (suc len)) whole) l (go (one_more texts x n at numbers variadic len r h)))
 
--- an ellipsis ends what is in hand
+-- an ellipsis ends the parameters read so far
 pub ends_list : (texts : Texts) (done : Vec ℕ Global) (i : ℕ) (close : Bool) (found : Option Reading) (r whole : Option Read)
     → found ≡ (if close then Some (record { numbers = done; variadic = true; len = i + 2 }) else None) → r ≡ read_end close
     → (IsRead texts [] true 2 r → IsRead texts (done.items ++ []) true (i + 2) whole) → (r ≡ None → whole ≡ None)
@@ -189,7 +189,7 @@ ends_within done i n false found e within = subst (λ o. IsWithin o n) (sym e) t
 
 -- ---- parameters that are there once
 
--- no name stands among those behind it
+-- no name is among those after it
 abbrev later : List (List ℕ) → Bool
 later [] = true
 later (n ∷ ns) = not (list_any (bytes_eq n) ns) && later ns
@@ -258,7 +258,7 @@ later_alike texts once (k ∷ ks) (p ∷ ps) are = rw (any_alike texts once k p 
 distinct_later : (texts : Texts) → NumbersOnce texts → (ns : List ℕ) (ts : List (List ℕ)) → AreNumbered texts ns ts → distinct_from [] ns ≡ later ts
 distinct_later texts once ns ts are = distinct_apart [] ns ∙ ap (λ b. b && later_numbers ns) (apart_none ns) ∙ later_alike texts once ns ts are
 
--- what was read, where no name is there twice
+-- the parameters read, where no name occurs twice
 abbrev head_if : Bool → Read → List Token → Option Head
 head_if true r ts = Some (record { names = r.names; variadic = r.variadic; rest = drop r.len ts })
 head_if false r ts = None
@@ -304,7 +304,7 @@ like_if false r ts = refl
 like_head : (x : Token) (rest : List Token) → is_spelled (codes ")") x ≡ false → head_of (x ∷ rest) ≡ head_from (read_from (x ∷ rest)) (x ∷ rest)
 like_head x rest e = ap (λ b. if b then Some (record { names = []; variadic = false; rest = rest }) else names_from (x ∷ rest)) e ∙ names_read (x ∷ rest)
 
--- the macro of what was read is the definition's
+-- the macro of the parameters read is the definition's
 pub like_read : (texts : Texts) → NumbersOnce texts → (numbers : List ℕ) (variadic : Bool) (len : ℕ) (x : Token) (rest : List Token) → is_spelled (codes ")") x ≡ false
     → IsRead texts numbers variadic len (read_from (x ∷ rest)) → (m : Option NumberedMacro)
     → ((names : List (List ℕ)) → AreNumbered texts numbers names → AreSame texts m (macro_if (distinct_from [] numbers) names variadic (drop len (x ∷ rest))))
@@ -324,7 +324,7 @@ like_read texts once numbers variadic len x rest e h m made = by (read_from (x �
 pub like_none : (texts : Texts) (x : Token) (rest : List Token) → is_spelled (codes ")") x ≡ false → read_from (x ∷ rest) ≡ None → AreSame texts None (function_like (head_of (x ∷ rest)))
 like_none texts x rest e f = same_by texts None None _ (sym (ap function_like (like_head x rest e ∙ ap (λ o. head_from o (x ∷ rest)) f))) tt
 
--- a `)` directly behind the `(`
+-- a `)` directly after the `(`
 pub like_empty : (x : Token) (rest : List Token) → is_spelled (codes ")") x ≡ true → function_like (head_of (x ∷ rest)) ≡ macro_if true [] false rest
 like_empty x rest e = ap (λ b. function_like (if b then Some (record { names = []; variadic = false; rest = rest }) else names_from (x ∷ rest))) e
 

@@ -1,4 +1,4 @@
--- What the table has: look-ups, and what stays or comes when texts get numbers, and macros come and go.
+-- The contents of the table: look-ups, and how they change as texts get numbers and macros are defined and undefined.
 use Rattle.std.proofs.Common.{◌≡◌, ℕ, suc, ◌+◌, List, [], ◌∷◌, ◌++◌, Bool, true, false, cond, length, Option, Some, None, is_some, refl, ap, sym, subst, ◌∙◌, slice_get, nat_eq, true≢false, if◌then◌else◌, arith}
 use Rattle.std.proofs.lemmas.Bool.{eqb-true, eq-eqb}
 use Rattle.std.proofs.lemmas.Slice.Eq.{bytes_eq-Decides}

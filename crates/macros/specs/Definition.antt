@@ -1,5 +1,4 @@
--- What the tokens behind `# define` and `# undef` do to the macros, and what is wrong with them (ISO/IEC 9899:2011 6.10.3,
--- 6.10.3.5).
+-- The effect of the tokens after `# define` and `# undef` on the macros, and their faults (ISO/IEC 9899:2011 6.10.3, 6.10.3.5).
 use Rattle.std.specs.Prelude.{ℕ, suc, List, [], ◌∷◌, ◌++◌, length, Bool, true, false, not, ◌&&◌, ◌||◌, nat_lt, nat_le, Option, Some, None, is_some, Result, Ok, Err, codes, if◌then◌else◌}
 use Rattle.std.specs.List.{list_any}
 use Rattle.std.specs.Str.{bytes_eq}
@@ -10,7 +9,7 @@ use Rattle.macros.specs.Macro.{Parameters, Macro, Macros, macro_named, is_reserv
 
 -- ---- reading
 
--- the names of a parameter list behind its `(`, whether an ellipsis ends it, and what follows its `)`
+-- the names of a parameter list after its `(`, whether an ellipsis ends it, and the tokens after its `)`
 pub record Head : Type 0 where
   pub names : List (List ℕ)
   pub variadic : Bool
@@ -44,8 +43,7 @@ function_like None = None
 function_like (Some head) =
     Some (record { parameters = Some (record { names = head.names; variadic = head.variadic }); body = head.rest })
 
--- what follows the name: a `(` directly behind it begins parameters (6.10.3p10); else white space stands before a
--- replacement list (6.10.3p3)
+-- the tokens after the name: a `(` directly after it begins parameters (6.10.3p10); else white space precedes a replacement list (6.10.3p3)
 abbrev pub macro_of : List Token → Option Macro
 macro_of [] = Some (record { parameters = None; body = [] })
 macro_of (x ∷ rest) =
@@ -67,12 +65,12 @@ abbrev pub is_variadic : Option Parameters → Bool
 is_variadic None = false
 is_variadic (Some p) = p.variadic
 
--- __VA_ARGS__ stands in the replacement list of a macro without an ellipsis (6.10.3p5)
+-- __VA_ARGS__ appears in the replacement list of a macro without an ellipsis (6.10.3p5)
 abbrev pub is_variable_outside : Macro → Bool
 is_variable_outside macro = not (is_variadic macro.parameters) && list_any (is_spelled (codes "__VA_ARGS__")) macro.body
 
--- what stands for an argument in the replacement list: the parameters, and __VA_ARGS__ as if it were the last of them
--- where an ellipsis ends them (6.10.3.1p2)
+-- the names that denote an argument in the replacement list: the parameters, and __VA_ARGS__ as if it were the last of them where an ellipsis ends them
+-- (6.10.3.1p2)
 abbrev pub with_variable : Bool → List (List ℕ) → List (List ℕ)
 with_variable false names = names
 with_variable true names = names ++ codes "__VA_ARGS__" ∷ []
@@ -168,7 +166,7 @@ abbrev pub first_of : List (Bool × Code) → Option Code
 first_of [] = None
 first_of (test ∷ tests) = if test.0 then Some test.1 else first_of tests
 
--- what is wrong with a macro of this name
+-- the fault of a macro of this name
 abbrev pub fault_of : Macros → List ℕ → Macro → Option Code
 fault_of macros name macro =
     first_of (
@@ -180,7 +178,7 @@ fault_of macros name macro =
     (differs (macro_named macros name) macro, code.MacroRedefined) ∷
     (not (is_some (macro_named macros name)) && nat_le max_macros (length macros), code.MacroLimit) ∷ [])
 
--- ---- what becomes of the macros
+-- ---- the effect on the macros
 
 abbrev pub with_macro : Macros → List ℕ → Macro → Macros
 with_macro macros name macro = if is_some (macro_named macros name) then macros else macros ++ (name, macro) ∷ []
@@ -193,7 +191,7 @@ abbrev pub with_read : Macros → List ℕ → Option Macro → Result Macros Co
 with_read macros name None = Err code.BadMacroDefinition
 with_read macros name (Some macro) = unless_fault (fault_of macros name macro) (with_macro macros name macro)
 
--- the tokens behind `# define`
+-- the tokens after `# define`
 abbrev pub define : Macros → List Token → Result Macros Code
 define macros [] = Err code.BadMacroDefinition
 define macros (name ∷ rest) =
@@ -203,6 +201,6 @@ abbrev pub without : Macros → List ℕ → Macros
 without [] name = []
 without (m ∷ ms) name = if bytes_eq m.0 name then ms else m ∷ without ms name
 
--- an identifier behind `# undef`
+-- an identifier after `# undef`
 abbrev pub undefine : Macros → Token → Result Macros Code
 undefine macros name = if is_reserved name.spelling then Err code.ReservedMacroName else Ok (without macros name.spelling)

@@ -35,7 +35,7 @@ abbrev pub shown_behind : List Token → List ℕ
 shown_behind [] = []
 shown_behind (x ∷ xs) = shown_next x ++ shown_behind xs
 
--- white space before the first and behind the last goes
+-- white space before the first and after the last is dropped
 abbrev pub shown_all : List Token → List ℕ
 shown_all [] = []
 shown_all (x ∷ xs) = shown x ++ shown_behind xs
@@ -64,7 +64,7 @@ abbrev pub joined_as : Option Kind → List ℕ → Bool → Pos → Result Toke
 joined_as None text space at = Err code.PasteMakesNoToken
 joined_as (Some k) text space at = Ok (record { kind = k; spelling = text; space_before = space; pos = at })
 
--- the token that two make together, at a place; white space stands before it where it stood before the left one
+-- the token that two make together, at a place; white space precedes it where it preceded the left one
 abbrev pub pasted : Token → Token → Pos → Result Token Code
 pasted left right at =
     joined_as (plain_kind (left.spelling ++ right.spelling)) (left.spelling ++ right.spelling) left.space_before at

@@ -78,7 +78,7 @@ pub record IsTable (texts : Texts) (table : Table) (macros : Macros) : Type 0 wh
   pub once : NamedOnce macros
   pub count : length table ≡ length macros
 
--- ---- what a look-up by a text finds: a number and what the table has under it
+-- ---- the result of a look-up by a text: a number and the table's entry under it
 
 abbrev pub found_macro : Option (ℕ × Bor NumberedMacro) → Option (ℕ × NumberedMacro)
 found_macro None = None
@@ -89,15 +89,15 @@ IsFound texts text None None = Unit {0}
 IsFound texts text (Some found) (Some m) = (slice_get texts found.0 ≡ Some text) × IsMacro texts found.1 m
 IsFound texts text _ _ = ⊥
 
--- ---- what definitions do to it
+-- ---- the effect of definitions on it
 
--- the tokens behind `# define` are a definition, and behind it the table has the macros
+-- the tokens after `# define` are a definition, and after it the table has the macros
 pub record IsDefined (texts : Texts) (table : Table) (macros : Macros) (line : List Token) : Type 0 where
   pub after : Macros
   pub defined : define macros line ≡ Ok after
   pub table_is : IsTable texts table after
 
--- the table behind a definition, whatever macros it had
+-- the table after a definition, whatever macros it had
 abbrev pub Defines : Texts → Table → List Token → Texts → Table → Type 0
 Defines texts table line texts_after table_after =
     (macros : Macros) → IsTable texts table macros → IsDefined texts_after table_after macros line
@@ -108,7 +108,7 @@ IsDefineRefusal macros line at Memory = Unit {0}
 IsDefineRefusal macros line at (At c pos) = (define macros line ≡ Err c) × (pos ≡ at)
 IsDefineRefusal macros line at (Told c pos text) = ⊥
 
--- the code of what is wrong with a definition
+-- the code of the fault of a definition
 abbrev pub define_code : Macros → List Token → Option Code
 define_code macros line = refused (define macros line)
   where
@@ -116,7 +116,7 @@ define_code macros line = refused (define macros line)
     refused (Ok after) = None
     refused (Err c) = Some c
 
--- behind `# undef` the table has the macros without that name
+-- after `# undef` the table has the macros without that name
 pub record IsUndefined (texts : Texts) (table : Table) (macros : Macros) (name : Token) : Type 0 where
   pub after : Macros
   pub undefined : undefine macros name ≡ Ok after

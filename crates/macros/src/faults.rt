@@ -1,4 +1,4 @@
-//! What is wrong with a definition (ISO/IEC 9899:2011 6.10.3, 6.10.3.2p1, 6.10.3.3p1).
+//! The faults of a definition (ISO/IEC 9899:2011 6.10.3, 6.10.3.2p1, 6.10.3.3p1).
 ghost use Rattle.std.specs.Prelude.{◌≡◌, ℕ, List, false, codes};
 ghost use Rattle.std.specs.List.{list_any};
 ghost use Rattle.std.specs.Str.{bytes_eq};
@@ -32,7 +32,7 @@ fn is_one_reserved(numbers: &[usize], names: &Names) -> bool
     any
 }
 
-// Whether `__VA_ARGS__` stands there.
+// Whether `__VA_ARGS__` appears in the list.
 fn has_variable_arguments(body: &[BodyToken]) -> bool
     ensures { result ≡ list_any is_replaced body.now }
 {
@@ -50,14 +50,14 @@ pub(crate) fn has_reserved(n: usize, found: &Macro, names: &Names) -> bool
     is_number_reserved(n, names) || is_one_reserved(found.names(), names)
 }
 
-/// Whether `__VA_ARGS__` stands in the replacement list of a macro without an ellipsis (6.10.3p5).
+/// Whether `__VA_ARGS__` appears in the replacement list of a macro without an ellipsis (6.10.3p5).
 pub(crate) fn is_variable_outside(found: &Macro) -> bool
     ensures { result ≡ is_variable_outside found.now }
 {
     !found.is_variadic() && has_variable_arguments(found.body())
 }
 
-// Whether a `#` stands before no parameter.
+// Whether a `#` is followed by no parameter.
 fn has_lone_hash(body: &[BodyToken]) -> bool
     ensures { result ≡ lone_hash_after false body.now }
 {
@@ -70,7 +70,7 @@ fn has_lone_hash(body: &[BodyToken]) -> bool
     wrong | pending
 }
 
-/// Whether a `#` of a function-like macro stands before no parameter (6.10.3.2p1).
+/// Whether a `#` of a function-like macro is followed by no parameter (6.10.3.2p1).
 pub(crate) fn is_hash_lone(found: &Macro) -> bool
     ensures { result ≡ is_hash_lone found.now }
 {
@@ -98,7 +98,7 @@ fn ends_joint(body: &[BodyToken]) -> bool
     last
 }
 
-/// Whether `##` stands at an end (6.10.3.3p1).
+/// Whether `##` is at an end of the list (6.10.3.3p1).
 pub(crate) fn is_joint_amiss(found: &Macro) -> bool
     ensures { result ≡ is_joint_amiss found.now }
 {
@@ -147,7 +147,7 @@ fn same_numbers(a: &[usize], b: &[usize]) -> bool
     a == b
 }
 
-// The same names of parameters, with an ellipsis behind both or neither; or none in both.
+// The same names of parameters, with an ellipsis after both or neither; or none in both.
 fn same_parameters(a: &Macro, b: &Macro) -> bool
     ensures { result ≡ same_numbered a.now.parameters b.now.parameters }
 {

@@ -11,7 +11,7 @@ use srcset::{Code, Fault, Names, Pos, Refusal};
 use std::alloc::{AllocError, Global};
 use std::borrow::CowSlice;
 
-// Puts a byte of a literal behind, and before a quote or a backslash a backslash.
+// Appends a byte of a literal, with a backslash before a quote or a backslash.
 fn push_escaped(text: &mut Vec<u8>, byte: u8) -> Result<(), AllocError>
     ensures { OnOk result (text.new.items ≡ text.old.items ++ escaped byte) }
 {
@@ -23,7 +23,7 @@ fn push_escaped(text: &mut Vec<u8>, byte: u8) -> Result<(), AllocError>
     Ok(())
 }
 
-// Puts the bytes of a literal behind.
+// Appends the bytes of a literal.
 fn push_literal(text: &mut Vec<u8>, literal: &[u8]) -> Result<(), AllocError>
     ensures { OnOk result (text.new.items ≡ text.old.items ++ flat_map escaped literal.now) }
 {
@@ -48,8 +48,8 @@ fn is_literal(kind: Kind) -> bool
     }
 }
 
-/// Puts a token's text behind that of a string under way, as the first of its argument (6.10.3.2p2): in a literal a
-/// backslash stands before each quote and backslash. `text` begins with the opening quote.
+/// Appends a token's text to that of an unfinished string, as the first of its argument (6.10.3.2p2): in a literal a backslash precedes each quote and
+/// backslash. `text` begins with the opening quote.
 pub fn push_shown(text: &mut Vec<u8>, token: &PpToken) -> Result<(), AllocError>
     ensures { OnOk result (text.new.items ≡ text.old.items ++ shown token.now) }
 {
@@ -60,7 +60,7 @@ pub fn push_shown(text: &mut Vec<u8>, token: &PpToken) -> Result<(), AllocError>
     Ok(())
 }
 
-/// The same of a token that is not the first: one space stands before it where white space stands before the token.
+/// The same of a token that is not the first: one space precedes it where white space precedes the token.
 pub fn push_shown_next(text: &mut Vec<u8>, token: &PpToken) -> Result<(), AllocError>
     ensures { OnOk result (text.new.items ≡ text.old.items ++ shown_next token.now) }
 {
@@ -70,7 +70,7 @@ pub fn push_shown_next(text: &mut Vec<u8>, token: &PpToken) -> Result<(), AllocE
     push_shown(text, token)
 }
 
-// How many bytes more than its spelling a literal takes, in which a backslash stands before each quote and backslash.
+// How many bytes more than its spelling a literal takes, in which a backslash precedes each quote and backslash.
 fn count_escapes(literal: &[u8]) -> usize {
     let mut count: usize = 0;
     for byte in literal {
@@ -90,7 +90,7 @@ pub fn shown_room(token: &PpToken) -> usize {
     length
 }
 
-// Puts the texts of the tokens behind the first.
+// Appends the texts of the tokens after the first.
 fn push_behind(text: &mut Vec<u8>, tokens: &[PpToken]) -> Result<(), AllocError>
     ensures { OnOk result (text.new.items ≡ text.old.items ++ shown_behind tokens.now) }
 {
@@ -100,7 +100,7 @@ fn push_behind(text: &mut Vec<u8>, tokens: &[PpToken]) -> Result<(), AllocError>
     Ok(())
 }
 
-// Puts the texts of all tokens behind.
+// Appends the texts of all tokens.
 fn push_all(text: &mut Vec<u8>, tokens: &[PpToken]) -> Result<(), AllocError>
     ensures { OnOk result (text.new.items ≡ text.old.items ++ shown_all tokens.now) }
 {
@@ -150,7 +150,7 @@ fn is_string(text: &[u8]) -> bool
     }
 }
 
-/// The string literal that has this text, quotes among it, at a place. White space does not stand before it.
+/// The string literal that has this text, its quotes included, at a place. No white space precedes it.
 ///
 /// Fails with 207 at the place where the text is no string literal, and where memory runs out.
 pub fn string_of<'a>(text: Vec<u8>, at: Pos) -> Result<PpToken<'a>, Refusal>
@@ -169,7 +169,7 @@ pub fn string_of<'a>(text: Vec<u8>, at: Pos) -> Result<PpToken<'a>, Refusal>
     Ok(token)
 }
 
-/// The string literal that `#` makes of an argument, at a place (6.10.3.2p2). White space does not stand before it.
+/// The string literal that `#` makes of an argument, at a place (6.10.3.2p2). No white space precedes it.
 ///
 /// Fails with 207 at the place where the text is no string literal, and where memory runs out.
 pub fn try_stringize<'a>(
@@ -202,7 +202,7 @@ pub fn stringize<'a>(
     }
 }
 
-// The spellings of both, one behind the other.
+// The spellings of both, one after the other.
 fn both_spellings(alloc: Global, left: &PpToken, right: &PpToken) -> Result<Vec<u8>, AllocError>
     ensures { IfOk result (λ text. text.items ≡ left.now.spelling ++ right.now.spelling) }
 {
@@ -213,8 +213,7 @@ fn both_spellings(alloc: Global, left: &PpToken, right: &PpToken) -> Result<Vec<
     Ok(text)
 }
 
-/// The token that `##` makes of two, at a place (6.10.3.3p3). White space stands before it where it stands before the
-/// left one.
+/// The token that `##` makes of two, at a place (6.10.3.3p3). White space precedes it where it precedes the left one.
 ///
 /// Fails with 206 at the place where both texts together are no token, and where memory runs out.
 pub fn try_paste<'a>(

@@ -1,4 +1,4 @@
-//! The tokens behind `# define`: the name, the parameters, the replacement list (ISO/IEC 9899:2011 6.10.3p1, p9 to p11).
+//! The tokens after `# define`: the name, the parameters, the replacement list (ISO/IEC 9899:2011 6.10.3p1, p9 to p11).
 ghost use Rattle.std.specs.Prelude.{◌≡◌, ◌≤◌, ◌&&◌, drop, ℕ, List, [], Some, None, map, length, option_map, slice_get, IfOk, IfErr, true, codes, if◌then◌else◌};
 ghost use Rattle.std.specs.Str.{bytes_eq};
 ghost use Rattle.srcset.specs.NameTable.{KeepsNumbers, NumbersOnce};
@@ -49,7 +49,7 @@ pub(crate) fn number_of(token: &PpToken, names: &mut Names) -> Result<usize, Ref
     }
 }
 
-// The parameters that an ellipsis ends, if the token behind it is the `)`.
+// The parameters that an ellipsis ends, if the token after it is the `)`.
 fn ended(numbers: Vec<usize>, next: &PpToken, len: usize) -> Option<Reading>
     ensures { result ≡ (if is_spelled (codes ")") next.now then Some (record { numbers = numbers; variadic = true; len = len }) else None) }
 {
@@ -63,7 +63,7 @@ fn ended(numbers: Vec<usize>, next: &PpToken, len: usize) -> Option<Reading>
     None
 }
 
-/// The parameters whose names begin here, behind the `(`. The same name may be there twice.
+/// The parameters whose names begin here, after the `(`. The same name may occur twice.
 pub(crate) fn read_parameters(
     alloc: Global,
     tokens: &[PpToken],
@@ -132,7 +132,7 @@ fn place_of(name: &[u8], parameters: &IndexSet<usize>, names: &Names) -> Option<
     parameters.get_index_of(&n)
 }
 
-// Whether the name stands for the variable arguments.
+// Whether the name denotes the variable arguments.
 fn is_variable(variadic: bool, name: &[u8]) -> bool
     ensures { result ≡ variadic && bytes_eq name.now (codes "__VA_ARGS__") }
 {
@@ -242,7 +242,7 @@ fn object_like<'a>(
     }))
 }
 
-/// The tokens behind so many.
+/// The tokens after the first `count`.
 pub(crate) fn behind<'s, 'a>(tokens: &'s [PpToken<'a>], count: usize) -> &'s [PpToken<'a>]
     requires { count ≤ length tokens.now }
     ensures { result.now ≡ drop count tokens.now }
@@ -250,7 +250,7 @@ pub(crate) fn behind<'s, 'a>(tokens: &'s [PpToken<'a>], count: usize) -> &'s [Pp
     &tokens[count..]
 }
 
-// The function-like macro whose parameters begin here, behind the `(`.
+// The function-like macro whose parameters begin here, after the `(`.
 fn function_like<'a>(
     alloc: Global,
     tokens: &[PpToken<'a>],
@@ -277,7 +277,7 @@ fn function_like<'a>(
     Ok(with_parameters(alloc, reading.numbers, reading.variadic, body, names)?)
 }
 
-/// The macro of what stands behind the name, or `None` where that is none.
+/// The macro of the tokens after the name, or `None` where they are none.
 pub(crate) fn read_macro<'a>(
     alloc: Global,
     tokens: &[PpToken<'a>],

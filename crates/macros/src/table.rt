@@ -37,7 +37,7 @@ impl<'a> Model for BodyToken<'a> {
 }
 
 impl<'a> BodyToken<'a> {
-    /// The token, as it stands in the definition.
+    /// The token, as written in the definition.
     pub fn token(&self) -> &PpToken<'a>
         ensures { result.now ≡ self.now.token }
     {
@@ -146,7 +146,7 @@ pub const MAX_MACROS: usize = 65_536;
 /// How many parameters a macro may have.
 pub const MAX_PARAMETERS: usize = 127;
 
-// The tokens behind `# define` are no definition.
+// The tokens after `# define` are no definition.
 fn bad_definition(at: Pos) -> Refusal
     ensures { result ≡ At BadMacroDefinition at }
 {
@@ -219,7 +219,7 @@ impl<'a> MacroTable<'a> {
         self.get(n).is_some()
     }
 
-    // What is wrong with a macro under this number.
+    // The fault of a macro under this number.
     fn fault_of(&self, n: usize, found: &Macro<'a>, names: &Names) -> Option<Code>
         ensures { result ≡ fault names.now self.now n found.now }
     {
@@ -247,7 +247,7 @@ impl<'a> MacroTable<'a> {
         None
     }
 
-    // Puts a macro under its number, where there is none.
+    // Enters a macro under its number, where there is none.
     fn put(&mut self, n: usize, found: Macro<'a>) -> Result<(), Refusal>
         ensures ok { OnOk result (Puts self.old n found.entry self.new) }
         ensures unchanged { OnErr result (self.new ≡ self.old) }
@@ -260,13 +260,12 @@ impl<'a> MacroTable<'a> {
         Ok(())
     }
 
-    /// Defines a macro by the tokens behind `# define` (6.10.3). `names` numbers its name and its parameters.
+    /// Defines a macro by the tokens after `# define` (6.10.3). `names` numbers its name and its parameters.
     ///
-    /// Fails at `at` with the first of these that stands: 202 where the tokens are no definition; 205 where a name is
-    /// reserved; 208 where `__VA_ARGS__` stands in the replacement list and no ellipsis ends the parameters; 203 where `#`
-    /// stands before no parameter; 204 where `##` stands at an end; 705 where there are more than 127 parameters; 201 where
-    /// the name has another macro; 704 where there are 65,536 macros. Fails with 801 where memory runs out. The table is
-    /// then as it was.
+    /// Fails at `at` with the first of these that applies: 202 where the tokens are no definition; 205 where a name is reserved; 208 where `__VA_ARGS__`
+    /// appears in the replacement list and no ellipsis ends the parameters; 203 where no parameter follows a `#`; 204 where `##` is at an end; 705 where there
+    /// are more than 127 parameters; 201 where the name has another macro; 704 where there are 65,536 macros. Fails with 801 where memory runs out. The table
+    /// is then as it was.
     pub fn try_define(
         &mut self,
         line: &[PpToken<'a>],

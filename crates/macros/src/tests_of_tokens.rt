@@ -1,4 +1,4 @@
-//! What a token is to a macro.
+//! The roles of a token in a macro.
 ghost use Rattle.std.specs.Prelude.{◌≡◌};
 ghost use Rattle.macros.specs.Macro.{is_hash, is_identifier, is_joint};
 

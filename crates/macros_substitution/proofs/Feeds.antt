@@ -19,7 +19,7 @@ use Rattle.macros_substitution.specs.Substitution.{◌>>=◌, Hidden, Piece, one
 use Rattle.macros_substitution.specs.inside.Steps.{resumed, behind_done, going, GoesOn, put_of, all_put}
 use Rattle.macros_substitution.proofs.Fronts.{are_in_more}
 
--- a pass goes on from where another one came
+-- a pass continues from where another one ended
 pub goes_from : (texts : Texts) (sets : Sets) (at : Pos) (j k : Joining) (ps qs : List Piece) (r : Result Joining Refusal) (behind : List Piece)
     → going texts sets j (ps ++ (qs ++ behind)) at ≡ going texts sets k (qs ++ behind) at → GoesOn texts sets at k qs r behind → GoesOn texts sets at j (ps ++ qs) r behind
 goes_from texts sets at j k ps qs (Ok m) behind e h = ap (λ t. going texts sets j t at) (append_assoc ps qs behind) ∙ e ∙ h

@@ -1,4 +1,4 @@
--- Laws of tokens with hide sets, and of what a replacement puts in front.
+-- Laws of tokens with hide sets, and of the tokens that a replacement puts in front.
 use Rattle.std.proofs.Common.{◌≡◌, ℕ, ◌≤◌, List, [], ◌∷◌, ◌++◌, Bool, true, false, ◌==◌, length, refl, sym, ap, ◌∙◌, arith, append_assoc}
 use Rattle.std.proofs.Math.Dec.{eqb-suc-zero}
 use Rattle.std.proofs.lemmas.List.{map-append}

@@ -105,7 +105,7 @@ finish_joining texts sets at j p done h d =
     ∙ piece_done texts sets j.done.items p (Ok (joint ∷ []))
     ∙ ap Ok (append-nil (hidden_all texts sets (j.done.items ++ tokens_in p)) ∙ ap (hidden_all texts sets) (sym d))
 
--- what comes of a list that is finished, or not when out of memory
+-- the result of a list that is finished, or not when out of memory
 pub if_finished : (r : Result (Vec HiddenToken Global) Refusal) (items : List HiddenToken) (P : List HiddenToken → Type 0) → IfOk r (λ all. all.items ≡ items) → P items → IfOk r (λ all. P all.items)
 if_finished (Ok v) items P e p = subst P (sym e) p
 if_finished (Err e) items P h p = tt

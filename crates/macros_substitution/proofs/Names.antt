@@ -37,7 +37,7 @@ hidden_name texts n (m ∷ ns) once p q =
     ap (λ b. b || is_hidden (name_of texts n) (spelled texts ns)) (same_name texts n m once p q.0)
     ∙ ap (λ b. nat_eq n m || b) (hidden_name texts n ns once p q.1)
 
--- what two sets have in common by the names' texts
+-- the names that two sets have in common, by the names' texts
 pub common_names : (texts : Texts) (ms ns : List ℕ) → NumbersOnce texts → AreBelow (length texts) ms → AreBelow (length texts) ns
     → common (spelled texts ms) (spelled texts ns) ≡ spelled texts (filter (λ n. list_any (nat_eq n) ns) ms)
 common_names texts [] ns once p q = refl

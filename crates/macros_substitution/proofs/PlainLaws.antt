@@ -219,7 +219,7 @@ put_more arguments first now new all left p ps before after e h t q =
       used_more arguments first now new p ps before after k q,
     )
 
--- ---- the answers of the code
+-- ---- the results of the code
 
 pub held_index : (i : ℕ) (lists : List (Vec HiddenToken Global)) (list : Vec HiddenToken Global) → i < length lists → list ≡ get_or lists i list → list.items ≡ held_at i lists
 held_index i [] list h e = absurd (omega arith)

@@ -140,7 +140,7 @@ string_front : (space : Bool) (s : Result Token Code) (r : Result (List Piece) C
 string_front space (Err e) r ps k = absurd (cc)
 string_front space (Ok t) r ps k = front_is (one (record { token = record t { space_before = space }; hides = [] })) r ps false (λ qs. refl) k
 
--- what comes next begins with a `##` where its first token is one
+-- the pieces that follow begin with a `##` where their first token is one
 joint_next : (call : Call) (xs : List Token) (ps : List Piece) → strings_made call xs ≡ Ok ps → begins_joint ps ≡ joint_first (tokens_with call xs)
 joint_next call [] ps e = let k : [] ≡ ps = cc (made_none call) in ap begins_joint (sym k)
 joint_next call (y ∷ ys) ps e = by (operand_at call y ys) refl

@@ -123,7 +123,7 @@ first_unseen nodes sets n set found s k some e at =
 
 -- ---- a set with one name more
 
--- the node stands in the table, which ended with it or had it before
+-- the node is in the table, which ended with it or had it before
 pub record WithNode (old new : List Node) (node : Node) (index : ℕ) : Type 0 where
   pub stands : slice_get new index ≡ Some node
   pub grown : (new ≡ old) ⊎ (new ≡ old ++ node ∷ [])
@@ -162,7 +162,7 @@ members_with old new node index p ordered w =
     let grown = extends_with old new node index w in
     members_of new index node ordered w.stands ∙ ap (λ t. node.name ∷ t) (grown.same node.parent p)
 
--- ---- names that are some of so many
+-- ---- names below a count
 
 pub below_append : (count : ℕ) (ms ns : List ℕ) → AreBelow count ms → AreBelow count ns → AreBelow count (ms ++ ns)
 below_append count [] ns p q = q
@@ -217,7 +217,7 @@ same_node m n e = by (m.parent == n.parent) refl e
     by true p q = joined (eqb-true _ _ p) (eqb-true _ _ q)
     by false p q = absurd (cc)
 
--- ---- what two sets have in common
+-- ---- the names that two sets have in common
 
 pub has_first : (n : ℕ) (ns : List ℕ) → list_any (nat_eq n) (n ∷ ns) ≡ true
 has_first n ns = ap (λ b. b || list_any (nat_eq n) ns) (eq-eqb n n refl)
@@ -242,7 +242,7 @@ pub common_nothing : (ns : List ℕ) → [] ≡ filter (λ n. list_any (nat_eq n
 common_nothing [] = refl
 common_nothing (n ∷ ns) = common_nothing ns
 
--- ---- a set that another has whole
+-- ---- a subset of a set
 
 pub holds_nothing : (sets : Sets) (set other : ℕ) → set ≡ 0 → Holds sets set other
 holds_nothing sets set other e n h = absurd (no (ap (λ s. list_any (nat_eq n) (members sets s)) (sym e) ∙ h))

@@ -1,4 +1,4 @@
--- Hide sets in a table (ISO/IEC 9899:2011 6.10.3.4p2): each is a list of names, which stand as the numbers of their texts.
+-- Hide sets in a table (ISO/IEC 9899:2011 6.10.3.4p2): each is a list of names, given as the numbers of their texts.
 use Rattle.std.specs.Prelude.{◌≡◌, ℕ, zero, suc, ◌<◌, ◌≤◌, List, [], ◌∷◌, ◌++◌, Option, Some, None, Bool, not, nat_eq, length, map, slice_get}
 use Rattle.std.specs.List.{list_any, filter}
 use Rattle.srcset.specs.NameTable.{Texts}
@@ -26,7 +26,7 @@ abbrev pub AreBelow : ℕ → List ℕ → Type 0
 AreBelow count [] = Unit {0}
 AreBelow count (n ∷ ns) = (n < count) × AreBelow count ns
 
--- each name in a set is one of so many
+-- each name in a set is below `count`
 abbrev pub NamesBelow : ℕ → Sets → Type 0
 NamesBelow count [] = Unit {0}
 NamesBelow count (names ∷ sets) = AreBelow count names × NamesBelow count sets

@@ -1,5 +1,5 @@
--- What the tokens, pieces and answers of the code are to the definitions, with the texts and the hide sets that their
--- numbers stand for.
+-- The tokens, pieces and results of the code as the definitions see them, with the texts and the hide sets that their
+-- numbers denote.
 use Rattle.std.specs.Prelude.{◌≡◌, ℕ, ◌≤◌, ◌&&◌, nat_eq, List, [], ◌∷◌, map, Bool, true, false, Result, Ok, Err, Vec}
 use Rattle.std.specs.List.{list_any}
 use Rattle.std.specs.declared.alloc.Global.{Global}
@@ -27,7 +27,7 @@ hidden_all texts sets xs = map (λ x. hidden_of texts sets x) xs
 abbrev pub hidden_lists : Texts → Sets → List (Vec HiddenToken Global) → List (List Hidden)
 hidden_lists texts sets lists = map (λ list. hidden_all texts sets list.items) lists
 
--- the hide sets of these tokens are among the first so many of the table
+-- the hide sets of these tokens are among the first `count` of the table
 abbrev pub AreIn : ℕ → List HiddenToken → Type 0
 AreIn count [] = Unit {0}
 AreIn count (x ∷ xs) = (x.hides ≤ count) × AreIn count xs
@@ -57,7 +57,7 @@ abbrev pub PiecesIn : ℕ → List HeldPiece → Type 0
 PiecesIn count [] = Unit {0}
 PiecesIn count (p ∷ ps) = PieceIn count p × PiecesIn count ps
 
--- whether parameter i stands somewhere beside `##`
+-- whether parameter i is somewhere next to `##`
 abbrev pub stands_beside : ℕ → Piece → Bool
 stands_beside i (parameter beside s j) = beside && nat_eq i j
 stands_beside i p = false
@@ -68,13 +68,13 @@ is_beside i ps = list_any (stands_beside i) ps
 abbrev pub use_of : ℕ → List Piece → Use
 use_of i ps = record { beside = is_beside i ps; expanded = is_expanded i ps }
 
--- ---- answers
+-- ---- results
 
 -- the first pass of a call, with its parameters by their sides
 abbrev pub pieces_of : Call → Result (List Piece) Code
 pieces_of call = strings_made call call.macro.body >>= λ made. Ok (sides false made)
 
--- the definition's answer: these pieces, or the code of a refusal at this place
+-- the definition's result: these pieces, or the code of a refusal at this place
 abbrev pub GivesPieces : Texts → Sets → Pos → Result (Vec HeldPiece Global) Refusal → Result (List Piece) Code → Type 0
 GivesPieces texts sets at (Ok v) answer = answer ≡ Ok (pieces_as texts sets v.items)
 GivesPieces texts sets at (Err Memory) answer = Unit {0}
@@ -88,6 +88,6 @@ GivesTokens texts sets at (Err Memory) answer = Unit {0}
 GivesTokens texts sets at (Err (At code pos)) answer = (pos ≡ at) × (answer ≡ Err code)
 GivesTokens texts sets at (Err (Told code pos text)) answer = ⊥
 
--- a call's arguments are these lists, as far as they stand beside `##`
+-- a call's arguments are these lists, as far as they are next to `##`
 abbrev pub HasBeside : List Piece → List (List Hidden) → Call → Type 0
 HasBeside pieces arguments call = (i : ℕ) → is_beside i pieces ≡ true → list_at i call.arguments ≡ list_at i arguments

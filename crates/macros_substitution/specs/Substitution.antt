@@ -1,4 +1,4 @@
--- What a macro's replacement list becomes, given its arguments (ISO/IEC 9899:2011 6.10.3.1 to 6.10.3.3): three passes,
+-- The result of substituting the arguments in a macro's replacement list (ISO/IEC 9899:2011 6.10.3.1 to 6.10.3.3): three passes,
 -- first each `#`, then each other parameter, then each `##`, each from left to right.
 use Rattle.std.specs.Prelude.{ℕ, zero, suc, List, [], ◌∷◌, ◌++◌, map, Bool, true, false, not, ◌&&◌, ◌||◌, nat_eq, Option, Some, None, Result, Ok, Err, if◌then◌else◌}
 use Rattle.std.specs.List.{list_any, filter, flat_map}
@@ -37,7 +37,7 @@ united names others = filter (λ name. not (is_hidden name others)) names ++ oth
 abbrev pub hiding : List (List ℕ) → List Hidden → List Hidden
 hiding names xs = map (λ x. record { token = x.token; hides = united names x.hides }) xs
 
--- the first token is marked so: whether white space stands before it
+-- sets the mark of the first token: whether white space precedes it
 abbrev pub marked : Bool → List Hidden → List Hidden
 marked space [] = []
 marked space (x ∷ xs) = record { token = record x.token { space_before = space }; hides = x.hides } ∷ xs
@@ -46,14 +46,14 @@ marked space (x ∷ xs) = record { token = record x.token { space_before = space
 
 pub data Piece : Type 0 where
   one : (x : Hidden) → Piece
-  -- a parameter by its number, and its mark; `beside` where a `##` stands directly before it or behind it
+  -- a parameter by its number, and its mark; `beside` where a `##` is directly before it or after it
   parameter : (beside space : Bool) (i : ℕ) → Piece
   -- a `##` of the replacement list
   joint : Piece
-  -- an empty argument beside `##` (6.10.3.3p2), with the mark of its parameter
+  -- an empty argument next to `##` (6.10.3.3p2), with the mark of its parameter
   placemarker : (space : Bool) → Piece
 
--- A replacement under way: of which macro at which place, with which arguments.
+-- A replacement in progress: of which macro at which place, with which arguments.
 pub record Call : Type 0 where
   pub macro : Macro
   pub at : Pos
@@ -78,7 +78,7 @@ token_or_parameter call x (Some i) = parameter false x.space_before i
 abbrev pub piece_of : Call → Token → Piece
 piece_of call x = if is_joint x then joint else token_or_parameter call x (parameter_of call x)
 
--- ---- first pass: `#` and the parameter behind it make one token with the mark of the `#`
+-- ---- first pass: `#` and the parameter after it make one token with the mark of the `#`
 
 abbrev pub is_function_like : Option Parameters → Bool
 is_function_like None = false
@@ -95,7 +95,7 @@ string_piece call hash i =
 abbrev pub in_front : Piece → Result (List Piece) Code → Result (List Piece) Code
 in_front p r = r >>= λ ps. Ok (p ∷ ps)
 
--- the piece of the token, or the string of its operand, in front of what comes of the rest with the operand or behind it
+-- the piece of the token, or the string of its operand, before the pieces of the rest, with the operand or after it
 abbrev pub string_or_piece : Call → Token → Option ℕ → (Unit {0} → Result (List Piece) Code) → (Unit {0} → Result (List Piece) Code) → Result (List Piece) Code
 string_or_piece call x None rest behind = in_front (piece_of call x) (rest tt)
 string_or_piece call x (Some i) rest behind = string_piece call x i >>= λ s. in_front s (behind tt)
@@ -106,20 +106,20 @@ strings_made call (x ∷ []) = Ok (piece_of call x ∷ [])
 strings_made call (x ∷ y ∷ rest) =
     string_or_piece call x (operand_of call x y) (λ _. strings_made call (y ∷ rest)) (λ _. strings_made call rest)
 
--- ---- second pass: a parameter beside `##` is its argument, each other one the argument's expansion (6.10.3.1p1)
+-- ---- second pass: a parameter next to `##` is its argument, each other one the argument's expansion (6.10.3.1p1)
 
 abbrev pub begins_joint : List Piece → Bool
 begins_joint (joint ∷ ps) = true
 begins_joint _ = false
 
--- each parameter with whether it stands beside `##`; `after` where a `##` comes directly before
+-- each parameter with whether it is next to `##`; `after` where a `##` comes directly before
 abbrev pub sides : Bool → List Piece → List Piece
 sides after [] = []
 sides after (parameter _ s i ∷ ps) = parameter (after || begins_joint ps) s i ∷ sides false ps
 sides after (joint ∷ ps) = joint ∷ sides true ps
 sides after (p ∷ ps) = p ∷ sides false ps
 
--- whether parameter i stands somewhere not beside `##`
+-- whether parameter i is somewhere not next to `##`
 abbrev pub wants_full : ℕ → Piece → Bool
 wants_full i (parameter beside s j) = not beside && nat_eq i j
 wants_full i p = false
@@ -143,17 +143,17 @@ abbrev pub argument_put : Call → List (List Hidden) → Piece → List Piece
 argument_put call full (parameter beside s i) = plain_or_full beside s (list_at i call.arguments) (list_at i full)
 argument_put call full p = p ∷ []
 
--- `full` has the expansions of the arguments that are wanted
+-- `full` has the expansions of the arguments that are needed
 unfoldable pub arguments_put : Call → List (List Hidden) → List Piece → List Piece
 arguments_put call full ps = flat_map (argument_put call full) ps
 
--- ---- third pass: each `##` joins what stands on both sides, and hides what both hide
+-- ---- third pass: each `##` joins the pieces on both sides, and hides the names that both hide
 
 abbrev pub joined : Hidden → Hidden → Pos → Result Piece Code
 joined left right at =
     pasted left.token right.token at >>= λ t. Ok (one (record { token = t; hides = common left.hides right.hides }))
 
--- a `##` behind a `##` is no operand: with what stands before it it makes no token
+-- a `##` after a `##` is no operand: with the piece before it it makes no token
 abbrev pub join : Piece → Piece → Pos → Result Piece Code
 join (one left) (one right) at = joined left right at
 join (one left) (placemarker space) at = Ok (one left)
@@ -161,7 +161,7 @@ join (placemarker space) (one right) at = Ok (one (record { token = record right
 join (placemarker space) (placemarker other) at = Ok (placemarker space)
 join left right at = Err code.PasteMakesNoToken
 
--- the piece in hand is the left operand
+-- the current piece is the left operand
 unfoldable pub all_joined : Piece → List Piece → Pos → Result (List Piece) Code
 all_joined p [] at = Ok (p ∷ [])
 all_joined p (joint ∷ q ∷ ps) at = join p q at >>= λ r. all_joined r ps at
@@ -171,7 +171,7 @@ abbrev pub joints_done : List Piece → Pos → Result (List Piece) Code
 joints_done [] at = Ok []
 joints_done (p ∷ ps) at = all_joined p ps at
 
--- placemarkers go (6.10.3.3p3)
+-- placemarkers are removed (6.10.3.3p3)
 abbrev pub tokens_of : List Piece → List Hidden
 tokens_of [] = []
 tokens_of (one x ∷ ps) = x ∷ tokens_of ps

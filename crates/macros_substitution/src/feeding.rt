@@ -1,4 +1,4 @@
-//! The second pass over a replacement list: each parameter gives way to tokens (ISO/IEC 9899:2011 6.10.3.1).
+//! The second pass over a replacement list: tokens replace each parameter (ISO/IEC 9899:2011 6.10.3.1).
 ghost use Rattle.std.specs.Prelude.{◌≡◌, ℕ, ◌≤◌, List, [], ◌∷◌, length, Bool, IfOk};
 ghost use Rattle.srcset.specs.NameTable.{Texts, NumbersOnce};
 ghost use Rattle.macros_substitution.specs.HideSets.{Sets, Extends, NamesBelow};
@@ -92,7 +92,7 @@ fn feed_marked<'a>(
     feed_tokens(alloc, joining, others, at, sets)
 }
 
-// The pass past an argument beside `##`: a placemarker where it has no token.
+// The pass after an argument next to `##`: a placemarker where it has no token.
 fn feed_plain<'a>(
     alloc: Global,
     joining: Joining<'a>,
@@ -121,7 +121,7 @@ fn feed_plain<'a>(
     feed_marked(alloc, joining, tokens, space_before, at, sets)
 }
 
-// The pass past a parameter beside `##`.
+// The pass after a parameter next to `##`.
 fn feed_argument<'a>(
     alloc: Global,
     joining: Joining<'a>,
@@ -151,7 +151,7 @@ fn feed_argument<'a>(
     feed_plain(alloc, joining, argument.as_slice(), space_before, at, sets)
 }
 
-// The pass past a parameter that is not beside `##`.
+// The pass after a parameter that is not next to `##`.
 fn feed_expansion<'a>(
     alloc: Global,
     joining: Joining<'a>,

@@ -41,7 +41,7 @@ impl Firsts {
         }
     }
 
-    // Whether a number stands under a name.
+    // Whether a number is stored under a name.
     fn has(&self, name: usize) -> bool
         ensures { result ≡ is_some (first_of self.now name) }
     {

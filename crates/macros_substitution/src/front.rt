@@ -1,4 +1,4 @@
-//! What a replacement puts in front of the tokens behind its name.
+//! Puts the tokens of a replacement in front of the tokens after its name.
 ghost use Rattle.std.specs.Prelude.{◌≡◌, ℕ, ◌≤◌, ◌++◌, length, Bool, OnOk, IfErr};
 ghost use Rattle.srcset.specs.NameTable.{Texts, NumbersOnce};
 ghost use Rattle.srcset.specs.declared.refusal.Refusal.TheVariants.{Memory};
@@ -24,9 +24,9 @@ fn marked_first<'a>(token: PpToken<'a>, is_first: bool, space_before: bool) -> P
     }
 }
 
-/// Puts what a replacement made in front of the rest. Its first token gets the mark of the replaced name, and all of
+/// Puts the tokens of a replacement in front of the rest. Its first token gets the mark of the replaced name, and all of
 /// them hide these names too (ISO/IEC 9899:2011 6.10.3.4). After a refusal, which is only when out of memory, some of
-/// the tokens may stand in the rest.
+/// the tokens may be in the rest.
 pub fn put_in_front<'a>(
     new: Vec<HiddenToken<'a>>,
     space_before: bool,

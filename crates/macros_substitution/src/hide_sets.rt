@@ -51,7 +51,7 @@ struct Node {
     name: usize,
 }
 
-/// A table of hide sets: equal lists of names have one number, and a list shares memory with the list behind its first name.
+/// A table of hide sets: equal lists of names have one number, and a list shares memory with the list after its first name.
 ///
 /// A set is a list of names, in the order in which they were put in, each as the number of its text.
 #[derive(Drop)]
@@ -59,11 +59,11 @@ pub struct HideSets {
     alloc: Global,
     nodes: IndexSet<Node>,
     firsts: Firsts,
-    // For a set the first one that it was found to have whole.
+    // For a set the first one that was found to be a subset of it.
     wholes: Firsts,
 }
 
-// So many names of a set are looked at before the least number of the name's nodes is asked for.
+// How many names of a set are compared before the least number of the name's nodes is looked up.
 const NEAR_NAMES: usize = 4;
 
 impl Model for HideSets {
@@ -79,7 +79,7 @@ impl Model for HideSets {
 }
 
 impl HideSets {
-    /// The table that has the empty set alone. It keeps `alloc`, and takes no memory yet.
+    /// The table that has the empty set alone. It keeps `alloc`, and allocates nothing yet.
     pub fn new(alloc: Global) -> HideSets
         ensures { result ≡ [] }
     {
@@ -151,7 +151,7 @@ impl HideSets {
         false
     }
 
-    // A set of which this one is known to have all names.
+    // A set that is known to be a subset of this one.
     fn whole(&self, set: HideSet) -> HideSet
         ensures { Holds self.now result set }
     {
@@ -326,7 +326,7 @@ impl HideSets {
         Ok(made)
     }
 
-    /// The same, where the answer for one other set, `last.0`, was `last.1`: so that many tokens with one set cost as one.
+    /// The same, where the result for one other set, `last.0`, was `last.1`: so that many tokens with one set cost as one.
     pub(crate) fn united_or_last(
         &mut self,
         set: HideSet,

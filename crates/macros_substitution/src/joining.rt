@@ -1,4 +1,4 @@
-//! The third pass over a replacement list: each `##` joins what stands on both sides (ISO/IEC 9899:2011 6.10.3.3).
+//! The third pass over a replacement list: each `##` joins the pieces on both sides (ISO/IEC 9899:2011 6.10.3.3).
 ghost use Rattle.std.specs.Prelude.{◌≡◌, ℕ, ◌≤◌, ◌++◌, ◌∷◌, [], length, List, Bool, Ok, IfOk, OnOk, IfErr};
 ghost use Rattle.srcset.specs.NameTable.{Texts, NumbersOnce};
 ghost use Rattle.srcset.specs.declared.refusal.Pos.{Pos};
@@ -14,18 +14,18 @@ use macros::try_paste;
 use srcset::{Code, Pos, Refusal};
 use std::alloc::Global;
 
-/// What stands behind the pieces that are done.
+/// The pieces that follow those that are done.
 #[derive(Drop)]
 pub(crate) enum Hand<'a> {
     /// Nothing yet.
     Nothing,
     /// The piece that a `##` would have on its left.
     Left(Piece<'a>),
-    /// That piece, and a `##` behind it.
+    /// That piece, and a `##` after it.
     Joining(Piece<'a>),
 }
 
-/// The pass under way: the tokens that are done, and what may be joined.
+/// The pass in progress: the tokens that are done, and the piece that may be joined.
 #[derive(Drop)]
 pub(crate) struct Joining<'a> {
     pub(crate) done: Vec<HiddenToken<'a>>,
@@ -52,7 +52,7 @@ pub(crate) fn is_joint(piece: &Piece) -> bool
     }
 }
 
-// Puts a piece behind those that are done, if it is a token.
+// Appends a piece to those that are done, if it is a token.
 fn finish_piece<'a>(done: &mut Vec<HiddenToken<'a>>, piece: Piece<'a>) -> Result<(), Refusal>
     ensures ok { OnOk result (done.new.items ≡ done.old.items ++ tokens_in piece.entry) }
     ensures err { IfErr result (λ refusal. refusal ≡ Memory) }
@@ -66,7 +66,7 @@ fn finish_piece<'a>(done: &mut Vec<HiddenToken<'a>>, piece: Piece<'a>) -> Result
     Ok(())
 }
 
-// What two tokens make together.
+// The token that two tokens make together.
 fn join_tokens<'a>(
     alloc: Global,
     left: HiddenToken<'a>,
@@ -87,7 +87,7 @@ fn join_tokens<'a>(
     Ok(Piece::One(HiddenToken { token, hides }))
 }
 
-// What a token makes with the piece behind it.
+// The piece that a token makes with the piece after it.
 fn join_token<'a>(
     alloc: Global,
     left: HiddenToken<'a>,
@@ -111,7 +111,7 @@ fn join_token<'a>(
     }
 }
 
-// What a placemarker makes with the piece behind it: white space stands where it stood before the left one.
+// The piece that a placemarker makes with the piece after it: white space precedes it where it preceded the left one.
 fn join_placemarker<'a>(space_before: bool, right: Piece<'a>, at: Pos) -> Result<Piece<'a>, Refusal>
     ensures value { (texts : Texts) (sets : Sets) → JoinsTo texts sets at result (join (placemarker space_before) (piece_as texts sets right.entry) at) }
     ensures known { (count : ℕ) → PieceIn count right.entry → IfOk result (PieceIn count) }
@@ -128,7 +128,7 @@ fn join_placemarker<'a>(space_before: bool, right: Piece<'a>, at: Pos) -> Result
     }
 }
 
-// What the pieces on both sides of a `##` make.
+// The piece that the pieces on both sides of a `##` make.
 fn join_pieces<'a>(
     alloc: Global,
     left: Piece<'a>,
@@ -152,7 +152,7 @@ fn join_pieces<'a>(
     }
 }
 
-/// The pass under way, one piece further.
+/// The pass in progress, one piece further.
 pub(crate) fn feed<'a>(
     alloc: Global,
     joining: Joining<'a>,
@@ -200,7 +200,7 @@ pub(crate) fn feed<'a>(
     }
 }
 
-// The tokens with the last piece behind them.
+// The tokens followed by the last piece.
 fn finish_with<'a>(
     done: Vec<HiddenToken<'a>>,
     piece: Piece<'a>,

@@ -1,4 +1,4 @@
-//! What a macro's replacement list becomes, given its arguments (ISO/IEC 9899:2011 6.10.3.1 to 6.10.3.3), and the hide
+//! Substitution of the arguments in a macro's replacement list (ISO/IEC 9899:2011 6.10.3.1 to 6.10.3.3), and the hide
 //! sets of its tokens (6.10.3.4p2).
 #![tactic(auto)]
 

@@ -14,7 +14,7 @@ pub struct HiddenToken<'a> {
 pub enum Piece<'a> {
     /// A token.
     One(HiddenToken<'a>),
-    /// A parameter by its number, with its mark; `beside` where a `##` stands directly before it or behind it.
+    /// A parameter by its number, with its mark; `beside` where a `##` is directly before it or after it.
     Parameter {
         beside: bool,
         space_before: bool,
@@ -22,7 +22,7 @@ pub enum Piece<'a> {
     },
     /// A `##` of the replacement list.
     Joint,
-    /// An empty argument beside `##` (6.10.3.3p2), with the mark of its parameter.
+    /// An empty argument next to `##` (6.10.3.3p2), with the mark of its parameter.
     Placemarker {
         space_before: bool,
     },
@@ -31,8 +31,8 @@ pub enum Piece<'a> {
 /// How a replacement list uses a parameter.
 #[derive(Clone, Copy, Debug, PartialEq, Eq)]
 pub struct Use {
-    /// Somewhere beside `##`, where its argument stands as it is (ISO/IEC 9899:2011 6.10.3.1p1).
+    /// Somewhere next to `##`, where its argument is used as it is (ISO/IEC 9899:2011 6.10.3.1p1).
     pub beside: bool,
-    /// Somewhere else, where the argument's expansion stands.
+    /// Somewhere else, where the argument's expansion is used.
     pub expanded: bool,
 }

@@ -1,4 +1,4 @@
-//! A replacement list without `##`: each parameter gives way to tokens, and nothing is joined.
+//! A replacement list without `##`: tokens replace each parameter, and nothing is joined.
 ghost use Rattle.std.specs.Prelude.{◌≡◌, ◌++◌, ◌||◌, List, ℕ, Bool, true, IfOk, OnOk, IfErr, nat_eq, false};
 ghost use Rattle.std.specs.List.{list_any};
 ghost use Rattle.srcset.specs.declared.refusal.Refusal.TheVariants.{Memory};
@@ -22,7 +22,7 @@ pub(crate) fn has_joint(pieces: &[Piece]) -> bool
     pieces.iter().any(|piece| is_joint(piece))
 }
 
-// Puts copies of these tokens last.
+// Appends copies of these tokens.
 fn put_copies<'a>(
     alloc: Global,
     done: &mut Vec<HiddenToken<'a>>,
@@ -54,7 +54,7 @@ fn put_marked<'a>(
     put_copies(alloc, done, others)
 }
 
-// Puts these tokens themselves last, the first of them with this mark.
+// Appends these tokens themselves, the first of them with this mark.
 fn put_moved<'a>(
     done: &mut Vec<HiddenToken<'a>>,
     tokens: Vec<HiddenToken<'a>>,
@@ -108,7 +108,7 @@ fn take_expansion<'a>(
     Vec::new(alloc)
 }
 
-// Puts the tokens of a piece, behind which these are the pieces.
+// Appends the tokens of a piece, which is followed by these pieces.
 fn put_piece<'a>(
     alloc: Global,
     done: &mut Vec<HiddenToken<'a>>,

@@ -24,7 +24,7 @@ use phases::PpToken;
 use srcset::{Pos, Refusal};
 use std::alloc::{AllocError, Global};
 
-// Whether the piece is this parameter beside `##`.
+// Whether the piece is this parameter next to `##`.
 fn stands_beside(index: usize, piece: &Piece) -> bool
     ensures { result ≡ beside_held index piece.now }
 {
@@ -78,7 +78,7 @@ fn use_of(index: usize, pieces: &[Piece]) -> Use
     }
 }
 
-/// How the pieces use each of so many parameters.
+/// How the pieces use each of `count` parameters.
 pub fn uses(alloc: Global, count: usize, pieces: &[Piece<'_>]) -> Result<Vec<Use>, Refusal>
     ensures count { IfOk result (λ found. length found.items ≡ count) }
     ensures each { IfOk result (λ found. (texts : Texts) (sets : Sets) (i : ℕ) → i < count → slice_get found.items i ≡ Some (use_of i (pieces_as texts sets pieces.now))) }
@@ -91,7 +91,7 @@ pub fn uses(alloc: Global, count: usize, pieces: &[Piece<'_>]) -> Result<Vec<Use
     Ok(found)
 }
 
-// Puts the text of an argument behind that of a string under way.
+// Appends the text of an argument to that of a string in progress.
 fn push_argument(text: &mut Vec<u8>, argument: &[HiddenToken]) -> Result<(), AllocError>
     ensures { OnOk result (text.new.items ≡ text.old.items ++ shown_all (tokens_held argument.now)) }
 {

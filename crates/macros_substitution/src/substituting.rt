@@ -1,4 +1,4 @@
-//! What a replacement list becomes.
+//! The second and third passes over a replacement list.
 ghost use Rattle.std.specs.Prelude.{◌≡◌, ℕ, length, IfOk};
 ghost use Rattle.srcset.specs.NameTable.{Texts, NumbersOnce};
 ghost use Rattle.macros_substitution.specs.HideSets.{Sets, Extends, NamesBelow};
@@ -53,11 +53,11 @@ fn substitute_joining<'a>(
     finish(joining)
 }
 
-/// What the pieces become: each parameter beside `##` its argument, each other one its argument's expansion, each `##`
-/// what it makes of its operands (ISO/IEC 9899:2011 6.10.3.1, 6.10.3.3). Refused with 206 at `at`, the place of the
+/// The result of the pieces: each parameter next to `##` is its argument, each other one its argument's expansion, each `##`
+/// the token that it makes of its operands (ISO/IEC 9899:2011 6.10.3.1, 6.10.3.3). Refused with 206 at `at`, the place of the
 /// replaced name, where a `##` makes no token.
 ///
-/// Only arguments that stand beside `##` are looked at, and only expansions of those that stand elsewhere.
+/// Only arguments next to `##` are read, and only expansions of those that are elsewhere.
 pub fn substitute<'a>(
     alloc: Global,
     pieces: Vec<Piece<'a>>,

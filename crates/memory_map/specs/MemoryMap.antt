@@ -33,7 +33,7 @@ IsStackSize n = (n % page ≡ 0) × (page ≤ n) × (n ≤ 16777216)
 abbrev pub stack_start : ℕ → ℕ
 stack_start n = stack_end - n
 
--- the bytes of the stack that a program has where no other is asked for
+-- the bytes of the stack that a program has where no other size is requested
 abbrev pub usual_stack : ℕ
 usual_stack = 0x100000
 
@@ -41,6 +41,6 @@ usual_stack = 0x100000
 abbrev pub max_memory : ℕ
 max_memory = 134217728
 
--- the most bytes that the text and the data of a program have together: what the largest stack, of 16 MiB, leaves
+-- the most bytes that the text and the data of a program have together: the bytes that the largest stack, of 16 MiB, leaves
 abbrev pub max_image : ℕ
 max_image = 117440512

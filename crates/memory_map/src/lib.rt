@@ -1,4 +1,4 @@
-//! Where the parts of a program lie in memory and in its file: what `elf_out` writes, `cc` builds and `load` admits.
+//! The layout of a program's parts in memory and in its file: `elf_out` writes it, `cc` builds it and `load` admits it.
 #![tactic(auto)]
 
 ghost use Rattle.std.specs.Prelude.{◌≡◌, ◌≤◌};
@@ -19,7 +19,7 @@ pub const DATA_GUARD: usize = 16;
 /// The first address past the stack.
 pub const STACK_END: u32 = 0x8000_0000;
 
-/// How many bytes the stack has where no other number is asked for.
+/// The number of bytes of the stack where no other size is requested.
 pub const USUAL_STACK: u32 = 0x10_0000;
 
 /// The most bytes that a stack may have.
@@ -31,10 +31,10 @@ pub const PAGE: u32 = 4096;
 /// The most bytes of memory that the segments of a file take together.
 pub const MAX_MEMORY: usize = 134_217_728;
 
-/// The most bytes that the text and the data of a program have together: what the largest stack, of 16 MiB, leaves.
+/// The most bytes that the text and the data of a program have together: the bytes that the largest stack, of 16 MiB, leaves.
 pub const MAX_IMAGE: usize = 117_440_512;
 
-/// The address of the data behind a text of this size: the first multiple of a page not below the text's end.
+/// The address of the data after a text of this size: the first multiple of a page not below the text's end.
 pub fn data_start(text_size: u32) -> u32
     requires { text_size ≤ map.max_image }
     ensures { result ≡ map.data_start text_size }

@@ -13,7 +13,7 @@ pub(crate) struct Declared {
     pub object: usize,
 }
 
-/// Puts the declarations in these statements.
+/// Appends the declarations in these statements.
 #[cycle(statements)]
 fn put_statements(statements: &[Statement], found: &mut Vec<Declared>) -> Result<(), AllocError> {
     for statement in statements {
@@ -22,7 +22,7 @@ fn put_statements(statements: &[Statement], found: &mut Vec<Declared>) -> Result
     Ok(())
 }
 
-/// Puts the declarations in a statement.
+/// Appends the declarations in a statement.
 #[cycle(statements)]
 pub(crate) fn put_declared(
     statement: &Statement,

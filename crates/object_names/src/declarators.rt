@@ -13,7 +13,7 @@ pub(crate) struct Declarator {
     pub name: usize,
 }
 
-/// Puts the declarators in these items of a block.
+/// Appends the declarators in these items of a block.
 #[cycle(items)]
 pub(crate) fn put_items(
     items: &[BlockItem],
@@ -28,7 +28,7 @@ pub(crate) fn put_items(
     Ok(())
 }
 
-/// Puts the declarators in a statement.
+/// Appends the declarators in a statement.
 #[cycle(items)]
 fn put_statement(statement: &Stmt, found: &mut Vec<Declarator>) -> Result<(), AllocError> {
     match statement {
@@ -49,7 +49,7 @@ fn put_statement(statement: &Stmt, found: &mut Vec<Declarator>) -> Result<(), Al
     }
 }
 
-/// Puts the declarators in the first part of a `for`.
+/// Appends the declarators in the first part of a `for`.
 fn put_start(start: &ForStart, found: &mut Vec<Declarator>) -> Result<(), AllocError> {
     match start {
         ForStart::Expression(_) => Ok(()),
@@ -57,7 +57,7 @@ fn put_start(start: &ForStart, found: &mut Vec<Declarator>) -> Result<(), AllocE
     }
 }
 
-/// Puts the declarators of a declaration in a block, where its objects are automatic (6.2.4p5).
+/// Appends the declarators of a declaration in a block, where its objects are automatic (6.2.4p5).
 fn put_declaration(
     declaration: &Declaration,
     found: &mut Vec<Declarator>,

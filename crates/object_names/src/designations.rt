@@ -1,4 +1,4 @@
-//! What references of a run designate, by names.
+//! The objects that references of a run designate, by names.
 
 use crate::naming::{ObjectName, ProgramNames};
 use interp_store::Reference;
@@ -10,7 +10,7 @@ use std::alloc::{AllocError, Global};
 pub struct Designation<'a> {
     /// Its name; empty where that is not known.
     pub name: &'a str,
-    /// How many of the reference's subscripts lead to what has this name.
+    /// How many of the reference's subscripts lead to the part that has this name.
     pub skipped: usize,
 }
 
@@ -39,7 +39,7 @@ impl ProgramNames {
         }
     }
 
-    /// What a reference leads to in the present call, which is one of the function with this number: the array of a parameter where it
+    /// The target of a reference in the present call, which is one of the function with this number: the array of a parameter where it
     /// begins with that, else an object.
     pub fn designated(&self, function: usize, scene: &Scene, r: &Reference) -> Designation<'_> {
         for (number, array) in scene.arrays.iter().enumerate() {
@@ -84,7 +84,7 @@ impl ProgramNames {
         self.object_name(function, number)
     }
 
-    /// What a reference leads to, as the source may write it: a name and subscripts, or `object` and a number where the name is not known.
+    /// The target of a reference, as the source may write it: a name and subscripts, or `object` and a number where the name is not known.
     ///
     /// Errors: memory ran out.
     pub fn text(

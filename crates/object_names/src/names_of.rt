@@ -28,7 +28,7 @@ pub fn names_of_set(
     program_names(alloc, &unit, program, names)
 }
 
-/// The tree of the sources; `None` where a phase refuses them.
+/// The tree of the sources; `None` where a phase rejects them.
 fn unit_of(
     alloc: Global,
     set: &FileSet,
@@ -44,7 +44,7 @@ fn unit_of(
     }
 }
 
-/// The tokens of the sources; `None` where a phase refuses them.
+/// The tokens of the sources; `None` where a phase rejects them.
 fn tokens_of(
     alloc: Global,
     set: &FileSet,
@@ -60,7 +60,7 @@ fn tokens_of(
     }
 }
 
-/// What a phase that refuses the files gives: nothing, but a refused growth is an error.
+/// The result of a phase that rejects the files: none, but a failed allocation is an error.
 fn refused<T>(fault: &Fault) -> Result<Option<T>, AllocError> {
     if fault.code == Code::OutOfMemory.number() {
         Err(AllocError)

@@ -86,7 +86,7 @@ fn nameless(alloc: Global, object: &ObjectType) -> Result<ObjectName, AllocError
     })
 }
 
-/// Puts the names of the functions' objects. The definitions of the tree are the functions of the program, in order (6.9.1).
+/// Stores the names of the functions' objects. The definitions of the tree are the functions of the program, in order (6.9.1).
 fn put_names(
     alloc: Global,
     unit: &Unit,
@@ -104,7 +104,7 @@ fn put_names(
     Ok(())
 }
 
-/// Puts the names of the objects of the function with this number, where this is its definition.
+/// Stores the names of the objects of the function with this number, where this is its definition.
 fn put_function(
     alloc: Global,
     defined: &Function,
@@ -139,7 +139,7 @@ fn put_function(
     Ok(())
 }
 
-/// Puts the names of the parameters, where there are as many as the function's type has.
+/// Stores the names of the parameters, where there are as many as the function's type has.
 fn put_parameters(
     alloc: Global,
     defined: &Function,
@@ -183,7 +183,7 @@ fn put_name(objects: &mut [ObjectName], number: usize, name: String) {
     }
 }
 
-/// Whether these stand at the same places, in this order.
+/// Whether these are at the same places, in this order.
 fn are_same(declarators: &[Declarator], declared: &[Declared]) -> bool {
     if declarators.len() != declared.len() {
         return false;

@@ -1,4 +1,4 @@
--- What a block consists of.
+-- The items of a block.
 use Rattle.std.specs.Prelude.{Option, None, Some}
 use Rattle.std.proofs.Common.{◌≡◌, ℕ, ◌+◌, ◌≤◌, max, inl, inr, List, [], ◌∷◌, ◌++◌, refl, sym, ap, ◌∙◌, subst, arith}
 use Rattle.srcset.specs.declared.refusal.Pos.{Pos}
@@ -107,7 +107,7 @@ depth_add : (xs : List PieceTree) (x : PieceTree) (m : Pieces) → piece_depth x
 depth_add [] x m = omega arith
 depth_add (y ∷ xs) x m = let i = depth_add xs x m in omega (arith, i)
 
--- what the loop knows: these are read, and whatever block stands there goes on from them
+-- the loop invariant: these pieces are read, and every block of the list continues from them
 pub record BlockLoop (d : ℕ) (ts : List Token) (xs : List PieceTree) (k : ℕ) (cur : List Token) : Type 0 where
   pub spells : (o : Option (List Token)) (m : Pieces) (r : List Token) → SpellsPieces o m cur r → SpellsPieces o (add xs m) ts r
   pub reaches : Reaches ts cur

@@ -1,4 +1,4 @@
--- What the functions that read statements answer at each exit, from what their parts answered.
+-- The results of the functions that read statements at each exit, from the results of their parts.
 use Rattle.std.specs.Prelude.{Option, None, Vec}
 use Rattle.std.proofs.Common.{◌≡◌, ℕ, ◌+◌, ◌<◌, ◌≤◌, max, inr, List, ◌∷◌, map, refl, arith, Global}
 use Rattle.srcset.specs.declared.refusal.Pos.{Pos}

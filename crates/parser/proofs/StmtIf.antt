@@ -28,7 +28,7 @@ shut : (c : Bool) → (c ≡ true → ⊥) → c ≡ false
 shut true h = absurd (h refl)
 shut false h = refl
 
--- what begins with if
+-- a statement that begins with if
 pub data Ifs (at : Pos) (us r : List Token) (z : StmtTree) : Type 0 where
   plain : (x : TestedTree) → SpellsTested None x us r → EndsTested x r → NotFront (kind.Keyword keyword.Else) r → z ≡ if_stmt at x.test x.body → Ifs at us r z
   forked : (x : TestedTree) (c : StmtTree) (mid next : List Token) (o : Pos) → SpellsTested None x us mid → EndsTested x mid → Own (kind.Keyword keyword.Else) o

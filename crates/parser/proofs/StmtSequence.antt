@@ -1,4 +1,4 @@
--- Parts in sequence: what is answered for two of them, and for a statement whose own token stands before them.
+-- Parts in sequence: the result for two of them, and for a statement whose own token precedes them.
 use Rattle.std.specs.Prelude.{Option, None, Some}
 use Rattle.std.proofs.Common.{◌≡◌, ℕ, ◌+◌, ◌<◌, ◌≤◌, max, List, refl, sym, ap, ◌∙◌, subst, arith}
 use Rattle.srcset.specs.declared.refusal.Pos.{Pos}
@@ -15,13 +15,13 @@ use Rattle.parser.specs.inside.StatementAnswers.{EndsStmt}
 use Rattle.parser_grammar.proofs.Tokens.{reaches_on, own_reaches, own_last}
 use Rattle.parser_grammar.proofs.Exits.{excuses_grow}
 
--- trees of one sort: what they spell, where they end, how deep they are
+-- trees of one sort: the tokens that they spell, where they end, how deep they are
 pub record Sort (A : Type 0) : Type 1 where
   pub spells : Option (List Token) → A → List Token → List Token → Type 0
   pub ends : A → List Token → Type 0
   pub height : A → ℕ
 
--- what a whole tree is besides
+-- further properties of a whole tree
 pub record Whole {A : Type 0} (s : Sort A) : Type 0 where
   pub begun : (c : List Token) (x : A) (ts r : List Token) → s.spells None x ts r → s.spells (Some c) x ts r
   pub reaches : (x : A) (ts r : List Token) → s.spells None x ts r → Reaches ts r
@@ -102,7 +102,7 @@ pair_second_stands a b c w p all d ts x k mid (Depth at) r h = record {
   deep = omega (arith, h.deep, p.tall x h.tree);
 }
 
--- ---- two parts kept beside each other
+-- ---- two parts kept as a pair
 
 pub record Two (A B : Type 0) : Type 0 where
   pub first : A
@@ -142,7 +142,7 @@ both_pairs a b join = record {
   tall = λ x y. refl;
 }
 
--- ---- a statement whose own token stands before what else it has
+-- ---- a statement whose own token precedes its other parts
 
 pub record Splits {A : Type 0} (a : Sort A) (w : Pos → A → StmtTree) (z : StmtTree) (at : Pos) (us r : List Token) : Type 0 where
   pub part : A

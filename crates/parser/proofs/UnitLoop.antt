@@ -51,7 +51,7 @@ some_external (definition f) r h = nothing _ _ h.7.2
 some_external (declaration (declared at ss is)) r h = nothing _ _ h.2.2
 some_external (declaration (assertion at e n)) r h = nothing _ _ h.6
 
--- what goes on is one external declaration, and more
+-- the rest of the unit is one external declaration, and more
 record Next (vs : List ExternalTree) (rest : List Token) : Type 0 where
   first : ExternalTree
   more : List ExternalTree
@@ -66,7 +66,7 @@ next (v ∷ vs) rest some h = record { first = v; more = vs; behind = h.0; is = 
 
 -- ---- the loop
 
--- es, n nodes, are read, whatever tree stands at the start goes on from them, and the limits are kept
+-- es, n nodes, are read, every tree of the list continues from them, and the limits are kept
 pub record Going (ts : List Token) (es : List ExternalTree) (n : ℕ) (rest : List Token) : Type 0 where
   pub spelled : SpellsUnit None es ts rest
   pub deep : unit_depth es ≤ 256
@@ -104,12 +104,12 @@ going_pushed ts xs ys n rest x m after g some reads counts e =
     subst (λ (es : List ExternalTree). Going ts es m after) (sym (ap (map external_of) e ∙ map-append external_of xs (x ∷ [])))
     (going_more ts (map external_of xs) n rest (external_of x) m after g some reads counts)
 
--- what is left after one more is a tail
+-- the rest after one more is a tail
 pub going_reaches : (ts : List Token) (es : List ExternalTree) (n : ℕ) (rest : List Token) (e : ExternalTree) (after : List Token) → Going ts es n rest →
     ReadsExternal rest e after → Reaches ts after
 going_reaches ts es n rest e after g reads = reaches_on ts rest after (unit_reaches es ts rest g.spelled) (external_reaches e rest after reads.spelled)
 
--- what is left is no longer than the list
+-- the rest is no longer than the list
 pub going_longer : (ts : List Token) (es : List ExternalTree) (n : ℕ) (rest : List Token) → Going ts es n rest → length rest ≤ length ts
 going_longer ts es n rest g = let r = unit_reaches es ts rest g.spelled in omega (arith, ap length r.1 ∙ length-append r.0 rest)
 

@@ -104,7 +104,7 @@ declaration_reads ts d k rest reads = record { spelled = reads.spelled; tall = r
 
 -- ---- a head and a body
 
--- a function definition behind this head has this head and this brace
+-- a function definition whose tokens begin with this head has this head and this brace
 same_head : (ts : List Token) (o : OpeningTree) (k : ℕ) (behind : List Token) (at : Pos) (inside : List Token) → ReadsOf (SpellsHead None) EndsHead head_depth 0
     ts (opening o) k behind
     → Own (kind.Punctuator sign.BraceOpen) at behind inside → (g : FunctionTree) (r : List Token) → SpellsFunction None g ts r → (g ≡ with_body o at g.body)

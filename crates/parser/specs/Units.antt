@@ -47,7 +47,7 @@ Keeps of_depth es = unit_depth es ≤ depth_limit
 Keeps of_function es = AreSmall es
 Keeps of_program es = unit_nodes es ≤ program_node_limit
 
--- ---- answers
+-- ---- results
 
 -- the unit is a tree of the list, and keeps each limit
 pub record IsTreeWithin (ts : List Token) (es : List ExternalTree) : Type 0 where
@@ -62,7 +62,7 @@ IsOnly ts es = (us : List ExternalTree) → IsUnitOf ts us → us ≡ es
 abbrev pub HasNoTree : List Token → Type 0
 HasNoTree ts = (es : List ExternalTree) → IsUnitOf ts es → ⊥
 
--- some token of the list stands at this place
+-- some token of the list is at this place
 abbrev pub HasTokenAt : List Token → Pos → Type 0
 HasTokenAt ts at = (kind : Kind) × (behind : List Token) × Reaches ts (record { kind = kind; pos = at } ∷ behind)
 
@@ -76,7 +76,7 @@ pub record Exceeds (l : Limit) (ts : List Token) (at : Pos) : Type 0 where
   pub reaches : Reaches ts (record { kind = last; pos = at } ∷ cut)
   pub passes : Keeps l tree → ⊥
 
--- the refusal of the list stands; none adds a text
+-- the refusal of the list is correct; none adds a text
 abbrev pub IsRefused : List Token → Refusal → Type 0
 IsRefused ts Memory = Unit {0}
 IsRefused ts (At code at) = ((code ≡ SyntaxError) × HasNoTree ts × HasTokenAt ts at) ⊎ ((l : Limit) × (code ≡ code_of l) × Exceeds l ts at)

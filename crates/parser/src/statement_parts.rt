@@ -61,7 +61,7 @@ pub(crate) struct StartPart<'t> {
     pub rest: &'t [Token],
 }
 
-/// What stands in the parentheses of a `for`, its depth, and the rest of the list.
+/// The contents of the parentheses of a `for`, their depth, and the rest of the list.
 #[derive(Drop)]
 pub(crate) struct ForHeadPart<'t> {
     pub start: ForStart,
@@ -100,7 +100,7 @@ fn kind_form(kind: Kind) -> Option<Form>
     }
 }
 
-/// The form of the statement that begins with the token at the front, its place, and what follows it.
+/// The form of the statement that begins with the token at the front, its place, and the tokens after it.
 pub(crate) fn form_front<'t>(tokens: &'t [Token]) -> Option<(Pos, Form, &'t [Token])>
     ensures { MatchOption result ((f : Form) → NotFront (form_kind f) tokens.now)
         (λ p. Own (form_kind p.1) p.0 tokens.now p.2.now) }
@@ -128,7 +128,7 @@ pub(crate) fn expression_place(tokens: &[Token]) -> Option<Pos>
     }
 }
 
-/// An expression and the sign after it, below so many nodes.
+/// An expression and the sign after it, below `depth` nodes.
 #[inline(never)]
 pub(crate) fn closed_expression<'t>(
     alloc: Global,
@@ -151,7 +151,7 @@ pub(crate) fn closed_expression<'t>(
     })
 }
 
-/// An expression or nothing, and the sign after it, below so many nodes.
+/// An expression or nothing, and the sign after it, below `depth` nodes.
 #[inline(never)]
 pub(crate) fn optional_expression<'t>(
     alloc: Global,
@@ -180,7 +180,7 @@ pub(crate) fn optional_expression<'t>(
     })
 }
 
-/// The expression in parentheses of a statement (6.8.4, 6.8.5), below so many nodes.
+/// The expression in parentheses of a statement (6.8.4, 6.8.5), below `depth` nodes.
 #[inline(never)]
 pub(crate) fn test_expression<'t>(
     alloc: Global,
@@ -197,7 +197,7 @@ pub(crate) fn test_expression<'t>(
     Ok(part)
 }
 
-/// What ends a `do` statement (6.8.5.2), below so many nodes.
+/// The end of a `do` statement (6.8.5.2), below `depth` nodes.
 #[inline(never)]
 pub(crate) fn do_end<'t>(
     alloc: Global,
@@ -219,7 +219,7 @@ pub(crate) fn do_end<'t>(
     })
 }
 
-/// The first part of a `for` (6.8.5.3), with its semicolon; below so many nodes.
+/// The first part of a `for` (6.8.5.3), with its semicolon; below `depth` nodes.
 #[inline(never)]
 fn for_start<'t>(alloc: Global, tokens: &'t [Token], depth: u32) -> Result<StartPart<'t>, Refusal>
     requires { depth ≤ 256 }
@@ -243,7 +243,7 @@ fn for_start<'t>(alloc: Global, tokens: &'t [Token], depth: u32) -> Result<Start
     })
 }
 
-/// What stands in the parentheses of a `for` (6.8.5.3), below so many nodes.
+/// The contents of the parentheses of a `for` (6.8.5.3), below `depth` nodes.
 #[inline(never)]
 pub(crate) fn for_head<'t>(
     alloc: Global,

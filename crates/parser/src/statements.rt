@@ -27,8 +27,8 @@ use srcset::Pos;
 use std::alloc::Global;
 use tree::{BlockItem, Expr, Stmt};
 
-/// A statement at the front of a list, its depth, and the rest of the list. It is boxed: reading goes as deep as the tree does, and
-/// what a level leaves on the host's stack is small.
+/// A statement at the front of a list, its depth, and the rest of the list. It is boxed: parsing recurses as deep as the tree, and each level takes little of
+/// the host's stack.
 #[derive(Drop)]
 pub(crate) struct StmtPart<'t> {
     pub stmt: Box<Stmt>,
@@ -53,7 +53,7 @@ pub(crate) struct BlockItemPart<'t> {
     pub rest: &'t [Token],
 }
 
-/// What a block consists of, its depth, and the rest of the list after the closing brace.
+/// The items of a block, its depth, and the rest of the list after the closing brace.
 #[derive(Drop)]
 pub(crate) struct BlockPart<'t> {
     pub items: Vec<BlockItem>,
@@ -61,7 +61,7 @@ pub(crate) struct BlockPart<'t> {
     pub rest: &'t [Token],
 }
 
-/// A statement (6.8), below so many nodes.
+/// A statement (6.8), below `depth` nodes.
 #[cycle(statements)]
 #[inline(never)]
 pub(crate) fn statement<'t>(
@@ -93,8 +93,7 @@ pub(crate) fn statement<'t>(
     }
 }
 
-/// What a block consists of (6.8.2), after its opening brace and up to the closing one, which is taken too;
-/// below so many nodes, the block among them.
+/// The items of a block (6.8.2), after its opening brace and up to the closing one, which is consumed too; below `depth` nodes, the block among them.
 #[cycle(statements)]
 #[inline(never)]
 pub(crate) fn block_items<'t>(
@@ -125,7 +124,7 @@ pub(crate) fn block_items<'t>(
     }
 }
 
-/// A declaration of a block (6.8.2), below so many nodes.
+/// A declaration of a block (6.8.2), below `depth` nodes.
 #[inline(never)]
 fn declared_item<'t>(
     alloc: Global,
@@ -146,7 +145,7 @@ fn declared_item<'t>(
     })
 }
 
-/// A declaration or a statement (6.8.2), below so many nodes.
+/// A declaration or a statement (6.8.2), below `depth` nodes.
 #[cycle(statements)]
 #[inline(never)]
 fn block_item<'t>(
@@ -170,7 +169,7 @@ fn block_item<'t>(
     })
 }
 
-/// An expression in parentheses and a statement (6.8.4, 6.8.5.1), below so many nodes.
+/// An expression in parentheses and a statement (6.8.4, 6.8.5.1), below `depth` nodes.
 #[cycle(statements)]
 #[inline(never)]
 fn tested_statement<'t>(
@@ -194,7 +193,7 @@ fn tested_statement<'t>(
     })
 }
 
-/// A colon and a statement (6.8.1), below so many nodes. No declaration may stand there.
+/// A colon and a statement (6.8.1), below `depth` nodes. No declaration may appear there.
 #[cycle(statements)]
 #[inline(never)]
 fn labelled_statement<'t>(

@@ -40,7 +40,7 @@ struct ExternalPart<'t> {
     rest: &'t [Token],
 }
 
-/// The place of the token before so many at the end.
+/// The place of the token before the last `behind` tokens.
 fn place_before(tokens: &[Token], behind: usize) -> Pos
     requires { behind < length tokens.now }
     ensures { (us : List Token) → length us ≡ behind → Reaches tokens.now us → (last : Kind) × Reaches tokens.now (record { kind = last; pos = result } ∷ us) }
@@ -48,8 +48,8 @@ fn place_before(tokens: &[Token], behind: usize) -> Pos
     tokens[tokens.len() - 1 - behind].pos
 }
 
-/// The place of the first of so many tokens at the end, or, at 0, of the last token. No clause of the descent says that there
-/// are so many; the least of both is taken.
+/// The place of the first of the last `left` tokens, or, at 0, of the last token. No clause of the descent says that the list has `left` tokens; the smaller
+/// count is taken.
 fn syntax_place(tokens: &[Token], left: usize) -> Pos
     requires { 0 < length tokens.now }
     ensures { HasTokenAt tokens.now result }

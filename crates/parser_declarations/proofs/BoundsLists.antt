@@ -18,7 +18,7 @@ use Rattle.parser_grammar.proofs.Tokens.{same_token, mark_own, mark_begun, reach
 use Rattle.parser_grammar.proofs.Series.{Chain, tallest, Going, going_starts, going_more, going_fails, going_ends, going_stands}
 use Rattle.parser_declarations.proofs.BoundsParts.{bound_is_begun, bound_reaches}
 
--- the opening bracket, and what follows it
+-- the opening bracket, and the tokens after it
 abbrev pub BracketThen : Option (List Token) → Option Tree → List Token → List Token → Type 0
 BracketThen b e ts rest = (t : List Token) × Sign b sign.BracketOpen ts t × SpellsClosedBound b e t rest
 
@@ -71,7 +71,7 @@ bracket_stands d cur us at (Depth p) own s = record {
   deep = s.deep;
 }
 
--- what the loop knows
+-- the loop invariant
 abbrev pub BoundsLoop : ℕ → List Token → List (Option Tree) → ℕ → List Token → Type 0
 BoundsLoop d ts xs k cur = Going BracketThen SpellsBounds EndsBounds option_depth d ts xs k cur
 

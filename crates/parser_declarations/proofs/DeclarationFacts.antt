@@ -1,4 +1,4 @@
--- Declarations, and what stands at the front of a translation unit.
+-- Declarations, and the front of a translation unit.
 use Rattle.std.specs.Prelude.{Option, None, Some, max, Result, Ok, Err, IfOk, IfErr}
 use Rattle.std.proofs.Common.{◌≡◌, ℕ, ◌+◌, ◌<◌, ◌≤◌, inl, inr, List, [], ◌∷◌, length, refl, sym, ap, ◌∙◌, subst, arith}
 use Rattle.srcset.specs.declared.refusal.Pos.{Pos}
@@ -87,12 +87,12 @@ pub keyword_begins : (ts us : List Token) (at : Pos) (k : Keyword) → Own (kind
     × (BeginsDeclaration ts → KeywordBeginsDeclaration k)
 keyword_begins ts us at k own = (λ h. subst BeginsDeclaration (sym own) h, λ h. subst BeginsDeclaration own h)
 
--- ---- specifiers before what follows them
+-- ---- specifiers before the tokens that follow them
 
 no_specifier : (k : Kind) (at : Pos) (ts r : List Token) → (KindBeginsSpecifier k → ⊥) → Own k at ts r → BeginsSpecifier ts → ⊥
 no_specifier k at ts r none own h = none (subst BeginsSpecifier own h)
 
--- none stands at an assertion's keyword
+-- no declaration begins at an assertion's keyword
 pub no_assertion : (b : Option (List Token)) (scope : Scope) (ss : List SpecifierTree) (ts r us : List Token) (at : Pos) →
     Own (kind.Keyword keyword.StaticAssert) at ts us → 0 < length ss → SpellsDeclarationSpecifiers b scope ss ts r → ⊥
 no_assertion b scope ss ts r us at own lt h = no_specifier _ at ts us (λ x. x) own (specifiers_begin b scope ss ts r lt h)
@@ -140,14 +140,14 @@ begins_front : (ts : List Token) → BeginsSpecifier ts → StartsAt (front_plac
 begins_front [] h = absurd h
 begins_front (t ∷ ts) h = (t.kind, ts, refl)
 
--- what stands of the specifiers stands of the declaration
+-- a justified refusal of the specifiers is one of the declaration
 pub specifiers_stand : (scope : Scope) (d : ℕ) (ts : List Token) (f : Refusal) → d ≤ 256 → StandsOf (λ b. SpellsDeclarationSpecifiers b scope) specifiers_depth
     d ts f → StandsOf (λ b. SpellsDeclaration b scope) declaration_depth d ts f
 specifiers_stand scope d ts f le h = part_stands (λ b. SpellsDeclarationSpecifiers b scope) specifiers_depth (λ b. SpellsDeclaration b scope) declaration_depth
     d d ts ts f (λ ss. declared (front_place ts) ss []) (reaches_self ts) (λ a cut lt s. let m = some_deep d a le lt in
     (cut, cut, begins_front ts (specifiers_begin (Some cut) scope a ts cut m s), m, s, refl, inr (refl, refl))) (λ a. omega arith) h
 
--- what stands of the items stands of the declaration
+-- a justified refusal of the items is one of the declaration
 pub items_stand : (scope : Scope) (d : ℕ) (ts : List Token) (at : Pos) (ss : List SpecifierTree) (k : ℕ) (cur : List Token) (f : Refusal) → StartsAt at ts →
     ReadsOf (SpellsSomeSpecifiers scope) EndsSpecifiers specifiers_depth d ts ss k cur → StandsOf (λ b. SpellsItemList b scope) items_depth d cur f →
     StandsOf (λ b. SpellsDeclaration b scope) declaration_depth d ts f
@@ -226,7 +226,7 @@ text_once n m ts r q a b =
 text_stops : (n : ℕ) (ts r : List Token) → SpellsText None n ts r → Stops 2 ts
 text_stops n ts r a = let o = mark_own _ ts a.0 a.3 in let le : power (kind.Punctuator sign.Comma) ≤ 2 = omega arith in subst (Stops 2) (sym o.1) le
 
--- the parts of the assertion that stands behind its keyword
+-- the parts of the assertion after its keyword
 asserted_parts : (scope : Scope) (y : DeclarationTree) (at : Pos) (us r : List Token) → SpellsDeclaration None scope y (Behind keyword.StaticAssert at us) r →
     (e : Tree) × (n : ℕ) × (v : List Token) × (w : List Token) × (o : Pos) × Own (kind.Punctuator sign.ParenOpen) o us v × Front 2 e v w × SpellsText None n w r
     × (y ≡ assertion at e n)

@@ -77,7 +77,7 @@ list_stands d ts (Depth at) h = record {
   deep = omega (arith, h.deep, enumerators_tallest h.tree);
 }
 
--- what the loop knows
+-- the loop invariant
 abbrev pub EnumeratorsLoop : ℕ → List Token → List EnumeratorTree → ℕ → List Token → Type 0
 EnumeratorsLoop d ts xs k cur = Going (CommaThen SpellsEnumerator) (SeriesOf SpellsEnumerator) EndsList enumerator_depth d ts xs k cur
 

@@ -33,7 +33,7 @@ same_enumerator y at n v p q r = ap (λ a. record { at = a; name = y.name; value
 same_name : (m n : ℕ) → kind.Identifier m ≡ kind.Identifier n → m ≡ n
 same_name m n e = cc
 
--- no name stands there
+-- the front is no name
 pub enumerator_none : (d : ℕ) (ts : List Token) (f : Refusal) → ((n : ℕ) → NotFront (kind.Identifier n) ts) → FailsOf (SpellsEnumerator None) EndsEnumerator
     enumerator_depth d ts f
 enumerator_none d ts f none = record { each = λ y r s e. absurd (none y.name y.at s.0 s.1) }

@@ -1,4 +1,4 @@
--- What follows the specifiers at file scope, and the front of a translation unit.
+-- The tokens after the specifiers at file scope, and the front of a translation unit.
 use Rattle.std.specs.Prelude.{None, max, Result, Ok, Err, IfOk, IfErr}
 use Rattle.std.proofs.Common.{◌≡◌, ℕ, ◌+◌, ◌<◌, ◌≤◌, inr, List, [], ◌∷◌, length, refl, sym, ap, ◌∙◌, subst, arith}
 use Rattle.srcset.specs.declared.refusal.Pos.{Pos}
@@ -31,7 +31,7 @@ use Rattle.parser_declarations.specs.declared.declarations.Tail.{Tail}
 use Rattle.parser_declarations.specs.declared.declarations.Tail.TheVariants as tails
 use Rattle.parser_declarations.proofs.DeclarationFacts.{no_assertion, name_ends, items_end, starts_once, specifiers_stand, items_stand}
 
--- ---- what follows the specifiers
+-- ---- the tokens after the specifiers
 
 -- before the brace of a body an item can end
 brace_stops : (at : Pos) (r : List Token) → BraceAt at r → Stops 1 r
@@ -49,7 +49,7 @@ tail_none d ts rest at le own = record { spelled = h.spelled; tall = refl; fits 
     on (defining p n ps) r s en = let i = item_name File (function p n ps) ts r s in let w = own_kinds _ _ i.1 at ts i.2 rest i.3 own in
         let w' : kind.Identifier i.0 ≡ kind.Punctuator sign.Semicolon = w in cc
 
--- the first item of whatever stands there
+-- the first item of any tree that these tokens spell
 tail_first : (y : TailTree) (ts r : List Token) → NotFront (kind.Punctuator sign.Semicolon) ts → SpellsTail y ts r → EndsTail y r → (i : ItemTree)
     × (x : List Token) × SpellsItem None File i ts x × EndsItem i x × (item_depth i ≤ tail_depth y)
 tail_first (listing is) ts r none s en = let i = items_front File ts none is r s in
@@ -61,7 +61,7 @@ pub tail_fails : (d : ℕ) (ts : List Token) (f : Refusal) → NotFront (kind.Pu
 tail_fails d ts f none h = part_fails (SpellsItem None File) EndsItem item_depth SpellsTail EndsTail tail_depth d d ts ts f
     (λ y r s en. let i = tail_first y ts r none s en in (i.0, i.1, i.2, i.3, let le = i.4 in omega (arith, le))) h
 
--- behind an item neither a comma nor a semicolon is a brace
+-- after an item neither a comma nor a semicolon is a brace
 further_no_brace : (is : List ItemTree) (ts r us : List Token) (at : Pos) → Own (kind.Punctuator sign.BraceOpen) at ts us → SpellsFurther None File is ts r → ⊥
 further_no_brace [] ts r us at own s = let o = mark_own _ s.0 r s.2 in let e = own_kinds _ _ o.0 at ts r us
     (subst (λ z. Own (kind.Punctuator sign.Semicolon) o.0 z r) (sym s.1) o.1) own in let e' : kind.Punctuator sign.Semicolon ≡ kind.Punctuator
@@ -69,7 +69,7 @@ further_no_brace [] ts r us at own s = let o = mark_own _ s.0 r s.2 in let e = o
 further_no_brace (i ∷ is) ts r us at own s = let t = s.1 in let o = mark_own _ ts t.0 t.2 in let e = own_kinds _ _ o.0 at ts t.0 us o.1 own in
     let e' : kind.Punctuator sign.Comma ≡ kind.Punctuator sign.BraceOpen = e in cc
 
--- before a brace only the function's own definition stands
+-- only the function's own definition precedes a brace
 brace_front : (d : ℕ) (ts : List Token) (i : ItemTree) (k : ℕ) (cur : List Token) (at : Pos) → NotFront (kind.Punctuator sign.Semicolon) ts →
     ReadsOf (SpellsItem None File) EndsItem item_depth d ts i k cur → BraceAt at cur → (y : TailTree) (r : List Token) → SpellsTail y ts r → EndsTail y r →
     (p : Pos) × (n : ℕ) × (ps : List ParameterTree) × (y ≡ defining p n ps) × (i ≡ function p n ps) × (r ≡ cur)
@@ -105,7 +105,7 @@ defines_reads d ts (object q m es o) t k cur at none first brace h = absurd h
 defines_reads d ts (function q m qs) t k cur at none first brace h = subst (λ z. ReadsOf SpellsTail EndsTail tail_depth d ts z k cur) (sym h)
     (defining_reads d ts q m qs k cur at none first brace)
 
--- what `defined` answers is the answer
+-- the result of `defined` satisfies the postcondition
 pub tail_defined : (d : ℕ) (ts : List Token) (i : ItemTree) (k : ℕ) (cur : List Token) (at : Pos) (r : Result TailPart Refusal) →
     NotFront (kind.Punctuator sign.Semicolon) ts → ReadsOf (SpellsItem None File) EndsItem item_depth d ts i k cur → BraceAt at cur →
     IfOk r (λ p. Defines i (tail_of p.tail)) → IfOk r (λ p. HasBrace p.tail p.rest.now) → IfOk r (λ p. p.depth ≡ k) → IfOk r (λ p. p.rest.now ≡ cur) →
@@ -320,7 +320,7 @@ head_deep d ts at o ss k cur t j rest none starts g h deep = record {
       omega (arith, deep, le, a);
 }
 
--- what `external` answers is the answer
+-- the result of `external` satisfies the postcondition
 pub head_answers : (d : ℕ) (ts : List Token) (at : Pos) (ss : List SpecifierTree) (k : ℕ) (cur : List Token) (t : TailTree) (j : ℕ) (rest : List Token)
     (r : Result HeadPart Refusal) → NotFront (kind.Keyword keyword.StaticAssert) ts → StartsAt at ts → ReadsOf (SpellsSomeSpecifiers File) EndsSpecifiers
     specifiers_depth d ts ss k cur → ReadsOf SpellsTail EndsTail tail_depth d cur t j rest → EndsTail t rest → IfOk r (λ p. head_of p.head ≡ head_tree at ss t)

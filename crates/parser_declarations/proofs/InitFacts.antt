@@ -151,7 +151,7 @@ list_follows us y r e = closes_stops r e.0 e.1
 comma_follows : (y : Init) (at : Pos) (t r : List Token) → Own (kind.Punctuator sign.Comma) at t r → EndsInit y t
 comma_follows y at t r own = stops_own _ at t r own (omega arith)
 
--- where a list goes on it does not end
+-- where a list continues it does not end
 goes_on : (cur us : List Token) → Goes cur us → (xs : List Init) → EndsList xs cur → ⊥
 goes_on cur us g xs e = let c = e.1 in on c.2
   where
@@ -160,7 +160,7 @@ goes_on cur us g xs e = let c = e.1 in on c.2
         let w' : kind.Punctuator sign.BraceClose ≡ kind.Punctuator sign.Comma = w in cc
     on (inr o) = let u = own_once _ o.0 g.0 cur e.1.0 us o.1 g.1 in g.2 e.1.1 e.0 (subst (λ x. Own (kind.Punctuator sign.BraceClose) e.1.1 x e.0) u.1 e.1.3)
 
--- where no comma goes on no part stands
+-- where no comma continues the list there is no further part
 no_part : (cur : List Token) → ((r : List Token) → Goes cur r → ⊥) → (y : Init) (r : List Token) → CommaThen SpellsInit None y cur r → ⊥
 no_part cur none y r s = let o = mark_own _ cur s.0 s.1 in none s.0 (o.0, o.1, λ p x own. init_not_close y s.0 r x p own s.2)
 
@@ -198,7 +198,7 @@ lift_stands : (d : ℕ) (ts : List Token) (f : Refusal) → StandsOf (SeriesOf S
 lift_stands d ts f h = part_stands (SeriesOf SpellsInit) (tallest init_depth) SpellsInitList inits_depth d d ts ts f inits_of (reaches_self ts)
     (λ a cut lt s. (cut, cut, series_inits (Some cut) a ts cut s, inl refl, inr (refl, refl))) (λ a. let e = inits_tall a in omega (arith, e)) h
 
--- What the loop knows.
+-- The loop invariant.
 abbrev pub InitLoop : ℕ → List Token → List Init → ℕ → List Token → Type 0
 InitLoop d ts xs k cur = Going (CommaThen SpellsInit) (SeriesOf SpellsInit) EndsList init_depth d ts xs k cur
 

@@ -58,7 +58,7 @@ name_once n m a b ts r s p q = let u = same_token _ _ a b ts r s p q in (ap numb
 
 -- ---- a function
 
--- no object's declarator stands before a parenthesis
+-- no object's declarator precedes a parenthesis
 object_no_paren : (sizes : List (Option Tree)) (i : Option Init) (us x r vs : List Token) (o : Pos) → Own (kind.Punctuator sign.ParenOpen) o us vs →
     SpellsBounds None sizes us x → SpellsInitialiser None i x r → Stops 1 r → ⊥
 object_no_paren [] None us x r vs o own b s en = stops_not _ o us vs (omega arith) (subst (Stops 1) (sym (b ∙ s)) en) own
@@ -67,7 +67,7 @@ object_no_paren [] (Some i) us x r vs o own b s en = let m = mark_own _ x s.0 s.
 object_no_paren (e ∷ es) i us x r vs o own b s en = let m = mark_own _ us b.0 b.3 in let e = own_kinds _ _ m.0 o us b.0 vs m.1 own in
     let e' : kind.Punctuator sign.BracketOpen ≡ kind.Punctuator sign.ParenOpen = e in cc
 
--- the parameters of the function that stands there
+-- the parameters of the function that these tokens spell
 function_front : (scope : Scope) (n : ℕ) (at o : Pos) (ts us vs : List Token) (y : ItemTree) (r : List Token) → Own (kind.Identifier n) at ts us →
     Own (kind.Punctuator sign.ParenOpen) o us vs → SpellsItem None scope y ts r → EndsItem y r → (ps : List ParameterTree) × SpellsParameterList None ps vs r
     × (y ≡ function at n ps)
@@ -112,7 +112,7 @@ bounds_end None x r s en o w own = stops_not _ o x w (omega arith) (subst (Stops
 bounds_end (Some i) x r s en o w own = let m = mark_own _ x s.0 s.1 in let e = own_kinds _ _ m.0 o x s.0 w m.1 own in let e' : kind.Punctuator sign.Assign ≡
     kind.Punctuator sign.BracketOpen = e in cc
 
--- the parts of the object that stands there
+-- the parts of the object that these tokens spell
 object_front : (scope : Scope) (n : ℕ) (at : Pos) (ts us : List Token) (y : ItemTree) (r : List Token) → Own (kind.Identifier n) at ts us →
     (scope ≡ File → NotFront (kind.Punctuator sign.ParenOpen) us) → SpellsItem None scope y ts r → EndsItem y r → (sizes : List (Option Tree))
     × (i : Option Init) × (x : List Token) × SpellsBounds None sizes us x × EndsBounds sizes x × SpellsInitialiser None i x r × (y ≡ object at n sizes i)
@@ -175,7 +175,7 @@ object_reads scope d n at ts us es k vs i j rest m own none b h em = record {
       (g.6 ∙ ap (λ z. object at n z g.1) u.0 ∙ ap (object at n es) v.0, v.1);
 }
 
--- ---- the declarators behind the first
+-- ---- the declarators after the first
 
 abbrev MoreOf : Scope → Option (List Token) → List ItemTree → List Token → List Token → Type 0
 MoreOf scope b is ts r = SpellsMoreOf (SpellsItem b scope) b is ts r
@@ -187,7 +187,7 @@ items_tall : (is : List ItemTree) → items_depth is ≡ tallest item_depth is
 items_tall [] = refl
 items_tall (i ∷ is) = ap (max (item_depth i)) (items_tall is)
 
--- What the loop knows.
+-- The loop invariant.
 abbrev pub ItemLoop : Scope → ℕ → List Token → List ItemTree → ℕ → List Token → Type 0
 ItemLoop scope d ts xs k cur = Going (CommaThen (λ b. SpellsItem b scope)) (MoreOf scope) EndsMore item_depth d ts xs k cur
 
@@ -270,7 +270,7 @@ further_reads scope d ts xs k cur rest at none own l = record {
 
 -- ---- all of them
 
--- behind an item it can end
+-- after an item the declaration can end
 pub further_stops : (scope : Scope) (is : List ItemTree) (ts r : List Token) → SpellsFurther None scope is ts r → Stops 1 ts
 further_stops scope [] ts r s = let o = mark_own _ s.0 r s.2 in stops_own _ o.0 ts r (subst (λ z. Own (kind.Punctuator sign.Semicolon) o.0 z r) (sym s.1) o.1)
     (omega arith)

@@ -70,7 +70,7 @@ pub parameters_tallest : (ps : List ParameterTree) → parameters_depth ps ≡ t
 parameters_tallest [] = refl
 parameters_tallest (p ∷ ps) = ap (λ z. max (parameter_depth p) z) (parameters_tallest ps)
 
--- `void` before the closing parenthesis does not stand there
+-- the tokens do not begin with `void` and the closing parenthesis
 abbrev pub NoVoid : List Token → Type 0
 NoVoid ts = (o : Pos) (p : Pos) (t1 : List Token) (rest : List Token) → Own (kind.Keyword keyword.Void) o ts t1 → Own (kind.Punctuator sign.ParenClose) p t1
     rest → ⊥
@@ -85,7 +85,7 @@ list_fails d ts f none h = record { each = λ ps r s e. on ps r s.0 s.1 (mark_ow
     on (p ∷ ps) r t1 s m = subst (λ z. Excuses f d z) (sym (parameters_tallest (p ∷ ps)))
         (h.each (p ∷ ps) t1 s.1 (record { after = r; at = m.0; closes = m.1 }))
 
--- A begun list of one parameter without sizes may go on with a size that is missing: so it is not `void` alone.
+-- A begun list of one parameter without sizes may continue with a size that is missing: so it is not `void` alone.
 sized : (e : Option Tree) (es : List (Option Tree)) → (e ∷ es) ≡ [] → ⊥
 sized e es q = cc
 
@@ -128,7 +128,7 @@ list_stands d ts (Depth at) room h = on h.tree h.spelled h.deep
     on (p ∷ []) s deep = single p p.sizes refl (subst (λ z. SpellsParameter (Some h.cut) p ts z) s.2 s.1) (omega (arith, deep))
     on (p ∷ q ∷ ps) s deep = passes (p ∷ q ∷ ps) ((λ v. v), s) (omega (arith, deep, parameters_tallest (p ∷ q ∷ ps)))
 
--- what the loop knows
+-- the loop invariant
 abbrev pub ParametersLoop : ℕ → List Token → List ParameterTree → ℕ → List Token → Type 0
 ParametersLoop d ts xs k cur = Going (CommaThen SpellsParameter) (SeriesOf SpellsParameter) EndsParameters parameter_depth d ts xs k cur
 

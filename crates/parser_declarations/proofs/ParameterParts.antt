@@ -85,7 +85,7 @@ first_ends_word at ts none starts (specifier.Word w) rest s = (
 )
 first_ends_word at ts none starts (specifier.Enum m) rest s = absurd (none s.1 s.0 s.3)
 
--- ---- refusals of what is never too deep
+-- ---- refusals other than those for the depth
 
 pub plain_stands : {A : Type 0} (begun : Option (List Token) → A → List Token → List Token → Type 0) (height : A → ℕ) (d : ℕ) (ts : List Token) (f : Refusal) →
     NotDepth f → StandsOf begun height d ts f
@@ -98,7 +98,7 @@ plain_excuses (Syntax at) d k h e = e
 plain_excuses (Depth at) d k h e = absurd h
 plain_excuses Memory d k h e = tt
 
--- ---- what stands behind the specifiers
+-- ---- the tokens after the specifiers
 
 name_no_type : (n : ℕ) (at : Pos) (ts rest : List Token) → Own (kind.Identifier n) at ts rest → BeginsType ts → ⊥
 name_no_type n at ts rest own h = subst BeginsType own h

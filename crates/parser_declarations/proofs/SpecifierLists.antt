@@ -33,7 +33,7 @@ module _ (scope : Scope) where
   chain_specifiers b [] ts r s = s
   chain_specifiers b (y ∷ ys) ts r s = (s.0, s.1, chain_specifiers b ys s.0 r s.2)
 
-  -- what the loop knows
+  -- the loop invariant
   abbrev pub SpecifiersLoop : ℕ → List Token → List SpecifierTree → ℕ → List Token → Type 0
   SpecifiersLoop d ts xs k cur = Going SpecifierOf SpecifiersOf EndsSpecifiers specifier_depth d ts xs k cur
 

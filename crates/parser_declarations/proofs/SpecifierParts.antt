@@ -24,7 +24,7 @@ use Rattle.tree.specs.declared.expression.Word.TheVariants as word
 use Rattle.parser_grammar.specs.declared.scope.Scope.{Scope}
 use Rattle.parser_grammar.specs.Expressions.{word_keyword}
 
--- ---- the keyword that a specifier begins with, and the specifier that it alone stands for
+-- ---- the keyword that a specifier begins with, and the specifier that it alone denotes
 
 abbrev lead_of_type : TypeSpecifier → Keyword
 lead_of_type specifier.Const = keyword.Const
@@ -142,7 +142,7 @@ alone_reads scope k d at ts rest s h own room = record {
 
 -- ---- `enum`
 
--- what stands behind `enum`
+-- the tokens after `enum`
 data EnumThere (us r : List Token) (y : SpecifierTree) : Type 0 where
   bare : (tag : ℕ) (o : Pos) → Own (kind.Identifier tag) o us r → y ≡ plain_specifier (specifier.Enum tag) → EnumThere us r y
   full : (tag : Option ℕ) (list : List EnumeratorTree) (t2 t3 : List Token) (p : Pos) → SpellsTag tag us t2 → Own (kind.Punctuator sign.BraceOpen) p t2 t3 →
@@ -187,7 +187,7 @@ enum_there scope (enumerators_specifier tag list) at us r s =
     let m = mark_own _ s.1 s.2 s.8 in
     full tag list s.1 s.2 m.0 (subst (λ z. SpellsTag tag z s.1) u.2 s.7) m.1 (s.3, s.4, s.9, s.10, s.11) refl
 
--- what the test for a tag knows
+-- the postcondition of the test for a tag
 pub record TagThere (tag : Option ℕ) (us vs : List Token) : Type 0 where
   pub spelled : SpellsTag tag us vs
   pub none : tag ≡ None → (n : ℕ) → NotFront (kind.Identifier n) us

@@ -1,4 +1,4 @@
--- Where declarations begin, and what the functions that read them answer.
+-- Where declarations begin, and the postconditions of the functions that parse them.
 use Rattle.std.specs.Prelude.{ℕ, ◌+◌, ◌<◌, Option, None, max, List, [], ◌∷◌, map, length, Result, Ok, Err}
 use Rattle.srcset.specs.declared.refusal.Pos.{Pos}
 use Rattle.lexer.specs.declared.token.Token.{Token}
@@ -39,7 +39,7 @@ AnswersDeclaration d ts (Err f) = FailsOf (SpellsDeclaration None Block) Anywher
 abbrev pub StandsDeclaration : ℕ → List Token → Refusal → Type 0
 StandsDeclaration d ts f = StandsOf (λ b. SpellsDeclaration b Block) declaration_depth d ts f
 
--- ---- what stands at the front of a unit: a whole declaration, or a function definition up to the brace of its body
+-- ---- the front of a unit: a whole declaration, or a function definition up to the brace of its body
 
 pub record OpeningTree : Type 0 where
   pub start : Pos
@@ -62,7 +62,7 @@ abbrev pub SpellsHead : Option (List Token) → HeadTree → List Token → List
 SpellsHead b (whole d) ts rest = SpellsDeclaration b File d ts rest
 SpellsHead b (opening f) ts rest = SpellsOpening b f ts rest
 
--- a function definition goes on with the brace of its body
+-- a function definition continues with the brace of its body
 abbrev pub EndsHead : HeadTree → List Token → Type 0
 EndsHead (whole d) rest = Unit {0}
 EndsHead (opening f) rest = (at : Pos) × (after : List Token) × Own (kind.Punctuator sign.BraceOpen) at rest after
@@ -86,7 +86,7 @@ abbrev pub AnswersHead : ℕ → List Token → Result HeadPart Refusal → Type
 AnswersHead d ts (Ok p) = ReadsOf (SpellsHead None) EndsHead head_depth d ts (head_of p.head) p.depth p.rest.now × EndsHead (head_of p.head) p.rest.now
 AnswersHead d ts (Err f) = FailsOf (SpellsHead None) EndsHead head_depth d ts f
 
--- of a depth, some begun external declaration passes it
+-- for a depth, some begun external declaration exceeds it
 abbrev pub StandsHead : ℕ → List Token → Refusal → Type 0
 StandsHead d ts f = StandsOf SpellsExternal external_depth d ts f
 

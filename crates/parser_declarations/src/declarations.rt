@@ -33,7 +33,7 @@ pub struct DeclarationPart<'t> {
     pub rest: &'t [Token],
 }
 
-/// What stands at the front of a translation unit: a whole declaration, or a function definition up to the
+/// The front of a translation unit: a whole declaration, or a function definition up to the
 /// brace that opens its body.
 #[derive(Drop)]
 pub enum Head {
@@ -49,15 +49,15 @@ pub struct HeadPart<'t> {
     pub rest: &'t [Token],
 }
 
-/// What follows the specifiers at file scope: the declarators of a declaration with its semicolon, or the
-/// declarator of a function definition, and the place of the brace behind it.
+/// The tokens after the specifiers at file scope: the declarators of a declaration with its semicolon, or the
+/// declarator of a function definition, and the place of the brace after it.
 #[derive(Drop)]
 pub(crate) enum Tail {
     Items(Vec<Item>),
     Function(FunctionDeclarator, Pos),
 }
 
-/// What follows the specifiers at file scope, its depth, and the rest of the list.
+/// The part after the specifiers at file scope, its depth, and the rest of the list.
 #[derive(Drop)]
 pub(crate) struct TailPart<'t> {
     pub tail: Tail,
@@ -88,7 +88,7 @@ pub fn begins_declaration(tokens: &[Token]) -> bool
     }
 }
 
-/// The text of a static assertion, behind the comma and up to the semicolon, and what follows it.
+/// The text of a static assertion, after the comma and up to the semicolon, and the remaining tokens.
 fn text_end<'t>(tokens: &'t [Token]) -> Result<(usize, &'t [Token]), Refusal>
     ensures ok { IfOk result (λ p. SpellsText None p.0 tokens.now p.1.now) }
     ensures err { IfErr result (λ f. ((n : ℕ) (rest : List Token) → SpellsText None n tokens.now rest → ⊥) × ((left : ℕ) × (f ≡ Syntax left))) }
@@ -102,7 +102,7 @@ fn text_end<'t>(tokens: &'t [Token]) -> Result<(usize, &'t [Token]), Refusal>
     Ok((text, rest))
 }
 
-/// A static assertion (6.7.10), after its keyword; below so many nodes.
+/// A static assertion (6.7.10), after its keyword; under `depth` nodes.
 fn assertion<'t>(
     alloc: Global,
     pos: Pos,
@@ -125,7 +125,7 @@ fn assertion<'t>(
     })
 }
 
-/// A declaration in a block (6.7), below so many nodes.
+/// A declaration in a block (6.7), under `depth` nodes.
 #[inline(never)]
 pub fn declaration<'t>(
     alloc: Global,
@@ -150,7 +150,7 @@ pub fn declaration<'t>(
     })
 }
 
-/// What a first declarator is where the brace of a function's body follows.
+/// Converts a first declarator where the brace of a function's body follows: it defines a function.
 fn defined<'t>(first: ItemPart<'t>, brace: Pos) -> Result<TailPart<'t>, Refusal>
     requires { BraceAt brace first.rest.now }
     ensures ok { IfOk result (λ p. Defines (item_of first.entry.item) (tail_of p.tail)) }
@@ -170,7 +170,7 @@ fn defined<'t>(first: ItemPart<'t>, brace: Pos) -> Result<TailPart<'t>, Refusal>
     }
 }
 
-/// What follows the specifiers at file scope (6.7, 6.9.1), below so many nodes.
+/// The part after the specifiers at file scope (6.7, 6.9.1), under `depth` nodes.
 #[inline(never)]
 fn tail_front<'t>(alloc: Global, tokens: &'t [Token], depth: u32) -> Result<TailPart<'t>, Refusal>
     requires { depth ≤ 256 }
@@ -197,7 +197,7 @@ fn tail_front<'t>(alloc: Global, tokens: &'t [Token], depth: u32) -> Result<Tail
     })
 }
 
-/// The whole front, from its specifiers and what follows them. Those of a function definition lie below its node.
+/// The whole front, from its specifiers and the part after them. Those of a function definition are under its node.
 #[inline(never)]
 fn external<'t>(
     specifiers: DeclarationSpecifiersPart<'t>,
@@ -240,7 +240,7 @@ fn external<'t>(
     }
 }
 
-/// The front of a translation unit (6.9), below so many nodes.
+/// The front of a translation unit (6.9), under `depth` nodes.
 #[inline(never)]
 pub fn external_head<'t>(
     alloc: Global,

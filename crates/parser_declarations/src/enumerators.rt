@@ -34,7 +34,7 @@ pub(crate) struct EnumeratorsPart<'t> {
     pub rest: &'t [Token],
 }
 
-/// An enumerator, below so many nodes.
+/// An enumerator, under `depth` nodes.
 fn enumerator<'t>(
     alloc: Global,
     tokens: &'t [Token],
@@ -72,7 +72,7 @@ fn enumerator<'t>(
     })
 }
 
-/// What follows a comma at the front that is not the last token of a list of enumerators.
+/// The tokens after a comma at the front that is not the last token of a list of enumerators.
 fn next_front<'t>(tokens: &'t [Token]) -> Option<(Pos, &'t [Token])>
     ensures { MatchOption result ((at : Pos) (after : List Token) → Own (kind.Punctuator sign.Comma) at tokens.now after → (o : Pos) × (rest : List Token) × Own (kind.Punctuator sign.BraceClose) o after rest)
         (λ p. Own (kind.Punctuator sign.Comma) p.0 tokens.now p.1.now × NotFront (kind.Punctuator sign.BraceClose) p.1.now) }
@@ -84,7 +84,7 @@ fn next_front<'t>(tokens: &'t [Token]) -> Option<(Pos, &'t [Token])>
     Some((pos, after))
 }
 
-/// What follows the closing brace of a list of enumerators and the comma that may stand before it.
+/// The tokens after the closing brace of a list of enumerators and the comma that may precede it.
 fn expect_end<'t>(tokens: &'t [Token]) -> Result<&'t [Token], Refusal>
     ensures ok { IfOk result (λ rest. (t1 : List Token) × (at : Pos) × Trailing tokens.now t1 × Own (kind.Punctuator sign.BraceClose) at t1 rest.now) }
     ensures err { IfErr result (λ f. (t1 : List Token) (at : Pos) (rest : List Token) → Trailing tokens.now t1 → Own (kind.Punctuator sign.BraceClose) at t1 rest → ⊥) }
@@ -96,8 +96,8 @@ fn expect_end<'t>(tokens: &'t [Token]) -> Result<&'t [Token], Refusal>
     }
 }
 
-/// Enumerators, after the opening brace and up to the closing one, which is taken too; below so many nodes.
-/// A comma may stand behind the last.
+/// Enumerators, after the opening brace and up to the closing one, which is consumed; under `depth` nodes.
+/// A comma may follow the last.
 pub(crate) fn enumerators<'t>(
     alloc: Global,
     tokens: &'t [Token],

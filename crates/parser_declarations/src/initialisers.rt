@@ -36,7 +36,7 @@ pub(crate) struct OptionalPart<'t> {
     pub rest: &'t [Token],
 }
 
-/// What follows the comma before a further initialiser. A comma before the closing brace is before none.
+/// The tokens after the comma before a further initialiser. A comma before the closing brace precedes none.
 fn further_front<'t>(tokens: &'t [Token]) -> Option<&'t [Token]>
     ensures { MatchOption result ((rest : List Token) → Goes tokens.now rest → ⊥) (λ rest. Goes tokens.now rest.now) }
 {
@@ -47,7 +47,7 @@ fn further_front<'t>(tokens: &'t [Token]) -> Option<&'t [Token]>
     }
 }
 
-/// What follows the end of a braced list: its closing brace, and before it a comma or none.
+/// The tokens after the end of a braced list: its closing brace, and before it a comma or none.
 fn list_end<'t>(tokens: &'t [Token]) -> Result<&'t [Token], Refusal>
     ensures ok { IfOk result (λ rest. Closes tokens.now rest.now) }
     ensures err { IfErr result (λ f. ((rest : List Token) → Closes tokens.now rest → ⊥) × ((left : ℕ) × (f ≡ Syntax left))) }
@@ -58,7 +58,7 @@ fn list_end<'t>(tokens: &'t [Token]) -> Result<&'t [Token], Refusal>
     }
 }
 
-/// An initialiser: an assignment expression or a braced list; below so many nodes.
+/// An initialiser: an assignment expression or a braced list; under `depth` nodes.
 #[cycle(initialisers)]
 #[inline(never)]
 pub(crate) fn initialiser<'t>(
@@ -88,7 +88,7 @@ pub(crate) fn initialiser<'t>(
     })
 }
 
-/// At least one initialiser, with a comma between any two, up to the closing brace, which is taken too.
+/// At least one initialiser, with a comma between any two, up to the closing brace, which is consumed.
 #[cycle(initialisers)]
 #[inline(never)]
 fn initialiser_list<'t>(
@@ -120,7 +120,7 @@ fn initialiser_list<'t>(
     })
 }
 
-/// The initialiser of a declarator, after its `=`, or none where no `=` stands; below so many nodes.
+/// The initialiser of a declarator, after its `=`, or none where there is no `=`; under `depth` nodes.
 pub(crate) fn optional_initialiser<'t>(
     alloc: Global,
     tokens: &'t [Token],

@@ -1,4 +1,4 @@
-//! What a declaration declares (ISO/IEC 9899:2011 6.7.6).
+//! The declarators of a declaration (ISO/IEC 9899:2011 6.7.6).
 
 ghost use Rattle.std.specs.Prelude.{◌≡◌, ◌<◌, ◌≤◌, length, IfOk, IfErr, MatchOption};
 ghost use Rattle.lexer.specs.declared.token.Kind.TheVariants as kind;
@@ -33,7 +33,7 @@ pub(crate) struct ItemsPart<'t> {
     pub rest: &'t [Token],
 }
 
-/// What follows the parenthesis that opens the parameters of a function, which is declared at file scope only.
+/// The tokens after the parenthesis that opens the parameters of a function, which is declared at file scope only.
 fn parameters_front<'t>(tokens: &'t [Token], scope: Scope) -> Option<&'t [Token]>
     ensures { MatchOption result (scope ≡ File → NotFront (kind.Punctuator sign.ParenOpen) tokens.now)
         (λ rest. (scope ≡ File) × ((at : Pos) × Own (kind.Punctuator sign.ParenOpen) at tokens.now rest.now)) }
@@ -47,7 +47,7 @@ fn parameters_front<'t>(tokens: &'t [Token], scope: Scope) -> Option<&'t [Token]
     }
 }
 
-/// A declarator (6.7.6) with its initialiser, below so many nodes.
+/// A declarator (6.7.6) with its initialiser, under `depth` nodes.
 pub(crate) fn item<'t>(
     alloc: Global,
     tokens: &'t [Token],
@@ -92,8 +92,8 @@ pub(crate) fn item<'t>(
     })
 }
 
-/// The declarators behind the first, each after a comma, up to the semicolon, which is taken too; below so many
-/// nodes. They are given with the first; the depth is theirs alone.
+/// The declarators after the first, each after a comma, up to the semicolon, which is consumed; under `depth`
+/// nodes. They are returned with the first; the depth is theirs alone.
 pub(crate) fn further_items<'t>(
     alloc: Global,
     first: Item,
@@ -124,7 +124,7 @@ pub(crate) fn further_items<'t>(
     })
 }
 
-/// The declarators of a declaration, or none, up to the semicolon, which is taken too; below so many nodes.
+/// The declarators of a declaration, or none, up to the semicolon, which is consumed; under `depth` nodes.
 pub(crate) fn items<'t>(
     alloc: Global,
     tokens: &'t [Token],

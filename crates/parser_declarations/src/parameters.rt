@@ -19,7 +19,7 @@ use srcset::Pos;
 use std::alloc::Global;
 use tree::{Expr, Parameter};
 
-/// A size and the bracket behind it, its depth, and the rest of the list.
+/// A size and the bracket after it, its depth, and the rest of the list.
 #[derive(Drop)]
 pub(crate) struct BoundPart<'t> {
     pub size: Option<Expr>,
@@ -51,7 +51,7 @@ pub(crate) struct ParametersPart<'t> {
     pub rest: &'t [Token],
 }
 
-/// A size or none, after the opening bracket and up to the closing one, which is taken too; below so many nodes.
+/// A size or none, after the opening bracket and up to the closing one, which is consumed; under `depth` nodes.
 fn bound<'t>(alloc: Global, tokens: &'t [Token], depth: u32) -> Result<BoundPart<'t>, Refusal>
     requires { depth ≤ 256 }
     ensures answer { AnswersBound depth tokens.now result }
@@ -74,7 +74,7 @@ fn bound<'t>(alloc: Global, tokens: &'t [Token], depth: u32) -> Result<BoundPart
     })
 }
 
-/// The sizes of a declarator, each in brackets, none at all where no bracket stands; below so many nodes.
+/// The sizes of a declarator, each in brackets, none at all where there is no bracket; under `depth` nodes.
 pub(crate) fn bounds<'t>(
     alloc: Global,
     tokens: &'t [Token],
@@ -101,7 +101,7 @@ pub(crate) fn bounds<'t>(
     })
 }
 
-/// The place of the last token of the type specifier at the front, whose first stands at this place.
+/// The place of the last token of the type specifier at the front, whose first is at this place.
 fn first_end(tokens: &[Token], pos: Pos) -> Pos
     requires { StartsAt pos tokens.now }
     ensures { EndsFirstAt result tokens.now }
@@ -115,7 +115,7 @@ fn first_end(tokens: &[Token], pos: Pos) -> Pos
     }
 }
 
-/// The name at the front, if there is one, its place or else this one, and what follows.
+/// The name at the front, if there is one, its place or else this one, and the remaining tokens.
 fn name_front<'t>(tokens: &'t [Token], start: Pos) -> (Pos, Option<usize>, &'t [Token])
     ensures { NameThere start result.0 result.1 tokens.now result.2.now }
 {
@@ -125,7 +125,7 @@ fn name_front<'t>(tokens: &'t [Token], start: Pos) -> (Pos, Option<usize>, &'t [
     }
 }
 
-/// A parameter, below so many nodes.
+/// A parameter, under `depth` nodes.
 fn parameter<'t>(
     alloc: Global,
     tokens: &'t [Token],
@@ -153,7 +153,7 @@ fn parameter<'t>(
     })
 }
 
-/// What follows `void` and the closing parenthesis.
+/// The tokens after `void` and the closing parenthesis.
 fn void_front<'t>(tokens: &'t [Token]) -> Option<&'t [Token]>
     ensures { MatchOption result
         ((o : Pos) (p : Pos) (t1 : List Token) (rest : List Token) → Own (kind.Keyword keyword.Void) o tokens.now t1 → Own (kind.Punctuator sign.ParenClose) p t1 rest → ⊥)
@@ -164,8 +164,8 @@ fn void_front<'t>(tokens: &'t [Token]) -> Option<&'t [Token]>
     Some(rest)
 }
 
-/// The parameters of a function, after the opening parenthesis and up to the closing one, which is taken too;
-/// below so many nodes. `void` alone stands for none.
+/// The parameters of a function, after the opening parenthesis and up to the closing one, which is consumed;
+/// under `depth` nodes. `void` alone denotes none.
 pub(crate) fn parameters<'t>(
     alloc: Global,
     tokens: &'t [Token],

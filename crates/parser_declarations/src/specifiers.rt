@@ -72,7 +72,7 @@ fn begins_specifier(tokens: &[Token]) -> bool
     }
 }
 
-/// The specifier that consists of this keyword alone. `extern` stands at file scope only.
+/// The specifier that consists of this keyword alone. `extern` is allowed at file scope only.
 fn specifier_alone(keyword: Keyword, scope: Scope) -> Option<Specifier>
     ensures { MatchOption result (IsNoneAlone scope keyword) (λ s. IsAlone scope keyword (specifier_of s)) }
 {
@@ -95,7 +95,7 @@ fn specifier_alone(keyword: Keyword, scope: Scope) -> Option<Specifier>
     }
 }
 
-/// The tag at the front, if there is one, and what follows it.
+/// The tag at the front, if there is one, and the remaining tokens.
 fn tag_front<'t>(tokens: &'t [Token]) -> (Option<usize>, &'t [Token])
     ensures spelled { SpellsTag result.0 tokens.now result.1.now }
     ensures none { result.0 ≡ None → (n : ℕ) → NotFront (kind.Identifier n) tokens.now }
@@ -106,7 +106,7 @@ fn tag_front<'t>(tokens: &'t [Token]) -> (Option<usize>, &'t [Token])
     }
 }
 
-/// A specifier that begins with `enum`, after that keyword, which stands at this place; below so many nodes.
+/// A specifier that begins with `enum`, after that keyword, which is at this place; under `depth` nodes.
 fn enum_specifier<'t>(
     alloc: Global,
     pos: Pos,
@@ -138,7 +138,7 @@ fn enum_specifier<'t>(
     })
 }
 
-/// A specifier of a declaration, below so many nodes.
+/// A specifier of a declaration, under `depth` nodes.
 fn specifier<'t>(
     alloc: Global,
     tokens: &'t [Token],
@@ -166,7 +166,7 @@ fn specifier<'t>(
     })
 }
 
-/// The specifiers of a declaration, at least one, below so many nodes.
+/// The specifiers of a declaration, at least one, under `depth` nodes.
 pub(crate) fn declaration_specifiers<'t>(
     alloc: Global,
     tokens: &'t [Token],

@@ -61,7 +61,7 @@ more_stops no_trees ts r h = subst (Stops 1) (sym h.2) (stops_at 1 (kind.Punctua
 more_stops (one_more e es) ts r h = let m = mark_own (kind.Punctuator sign.Comma) ts h.2.0 h.2.2 in stops_at 1 (kind.Punctuator sign.Comma) m.0 ts h.2.0 m.1
     (omega arith)
 
--- What the loop knows: these are read, and whatever arguments stand there go on from them.
+-- The loop invariant: these are read, and any arguments that the tokens spell continue them.
 pub record ArgumentsLoop (d : ℕ) (ts : List Token) (xs : List Tree) (k : ℕ) (cur : List Token) : Type 0 where
   pub spells : (m : Trees) (r : List Token) → SpellsMore None m cur r → SpellsArguments None (add xs m) ts r
   pub begun : (c : List Token) (m : Trees) (r : List Token) → SpellsMore (Some c) m cur r → SpellsArguments (Some c) (add xs m) ts r

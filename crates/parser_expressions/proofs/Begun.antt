@@ -29,7 +29,7 @@ use Rattle.parser_expressions.specs.inside.PartAnswers.{SpellsNamed, StandsArgum
 use Rattle.parser_expressions.proofs.Spine.{Loop, layer_of_most}
 use Rattle.parser_expressions.proofs.Postfix.{Growing}
 
--- A refusal of a part stands for the whole, where a begun part makes a begun whole.
+-- A justified refusal of a part is one of the whole, where a begun part makes a begun whole.
 pub lift : (n m d : ℕ) (ts us : List Token) (f : Refusal) (w : Tree → Tree) → Reaches ts us →
     ((b : Tree) (cut : List Token) → m ≤ layer b → Spells (Some cut) b us cut → Spells (Some cut) (w b) ts cut) → ((b : Tree) → n ≤ layer (w b)) →
     ((b : Tree) → depth b + 1 ≤ depth (w b)) → Stands m (d + 1) us f → Stands n d ts f
@@ -170,7 +170,7 @@ growing_index_passes d ts cur us e k at own h lt = record {
   deep = omega (arith, lt, h.height);
 }
 
--- ---- a part that stands
+-- ---- a part whose refusal is justified
 
 pub before_lift : (d : ℕ) (op : StepOp) (at : Pos) (ts us : List Token) (f : Refusal) → Own (kind.Punctuator (step_sign op)) at ts us → Stands 14 (d + 1) us f →
     Stands 14 d ts f

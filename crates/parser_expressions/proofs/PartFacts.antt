@@ -58,7 +58,7 @@ part_fails S SE hS T TE hT e d ts us f inv h = record {
   each = λ y r t te. let i = inv y r t te in excuses_grow f e d (hS i.0) (hT y) i.4 (h.each i.0 i.1 i.2 i.3);
 }
 
--- what stands of a begun part stands of the begun whole around it
+-- a justified refusal of a begun part is one of the begun whole around it
 pub part_stands : {A B : Type 0} (S : Option (List Token) → A → List Token → List Token → Type 0) (hS : A → ℕ) (T : Option (List Token) → B → List Token →
     List Token → Type 0) (hT : B → ℕ) (e d : ℕ) (ts us : List Token) (f : Refusal) (w : A → B) → Reaches ts us →
     ((a : A) (cut : List Token) → 256 < e + hS a → S (Some cut) a us cut → T (Some cut) (w a) ts cut) → ((a : A) → e + hS a ≤ d + hT (w a)) →
@@ -74,7 +74,7 @@ part_stands S hS T hT e d ts us (Depth at) w go sp deep h = record {
   deep = let le = deep h.tree in omega (arith, h.deep, le);
 }
 
--- nothing stands there
+-- the tokens spell no such tree
 pub never_reads : {B : Type 0} (T : B → List Token → List Token → Type 0) (TE : B → List Token → Type 0) (hT : B → ℕ) (d : ℕ) (ts : List Token) (f : Refusal) →
     ((y : B) (r : List Token) → T y ts r → TE y r → ⊥) → FailsOf T TE hT d ts f
 never_reads T TE hT d ts f none = record { each = λ y r t te. absurd (none y r t te) }

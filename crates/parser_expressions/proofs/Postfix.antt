@@ -19,7 +19,7 @@ use Rattle.parser_grammar.proofs.Tokens.{no_hole, own_once, own_kinds, mark_own}
 use Rattle.parser_expressions.proofs.Spine.{layer_of_most, stops_at, stops_more, excuses_more}
 use Rattle.parser_expressions.proofs.Productions.{step_once, never}
 
--- the marks after an operand, each with what it holds
+-- the marks after an operand, each with its contents
 pub data Marks : Type 0 where
   no_marks : Marks
   index_mark : (at : Pos) (i : Tree) (s : Marks) → Marks
@@ -185,7 +185,7 @@ wrap_deeper h no_marks = omega arith
 wrap_deeper h (index_mark at i s) = let j = wrap_deeper (subscript at h i) s in omega (arith, j)
 wrap_deeper h (step_mark at op s) = let j = wrap_deeper (after at op h) s in omega (arith, j)
 
--- What the loop knows: left is read, and whatever tree stands there grows from it.
+-- The loop invariant: left is read, and any tree that the tokens spell grows from it.
 pub record Growing (d : ℕ) (ts : List Token) (left : Tree) (k : ℕ) (cur : List Token) : Type 0 where
   pub tight : 15 ≤ layer left
   pub spells : Spells None left ts cur

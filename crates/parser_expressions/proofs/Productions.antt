@@ -1,4 +1,4 @@
--- Each production of the grammar: what stands there is it, and no other.
+-- Each production of the grammar: the tokens spell it, and no other tree.
 use Rattle.std.specs.Prelude.{None, Result, Ok, Err}
 use Rattle.std.specs.Result.{IsErrAnd}
 use Rattle.std.proofs.Common.{◌≡◌, ℕ, ◌+◌, ◌≤◌, inl, List, [], ◌∷◌, refl, sym, ap, ◌∙◌, subst, arith}
@@ -127,7 +127,7 @@ of_assign_sign assign_op.BitOr = refl
 pub assign_once : (a b : AssignOp) → kind.Punctuator (assign_sign a) ≡ kind.Punctuator (assign_sign b) → a ≡ b
 assign_once a b e = sym (of_assign_sign a) ∙ ap of_assign e ∙ of_assign_sign b
 
--- ---- answers
+-- ---- results
 
 pub full : (n d : ℕ) (ts : List Token) (at : Pos) → d ≡ 256 → Fails n d ts (Depth at)
 full n d ts at e = record { each = λ t r f. let deep = whole_deep t ts r f.spells in omega (arith, deep, e) }
@@ -154,7 +154,7 @@ wrap_reads n m d ts us w e k mid rest le sp dep inv h = record {
   only = λ t r fr. let i = inv t r fr in let u = h.only i.0 i.1 i.2 in (i.3 ∙ ap w u.0, i.4 u.1);
 }
 
--- an answer at a tighter layer, where only its trees stand
+-- a result at a tighter layer, where the tokens spell only trees of that layer
 pub raise : (m n d : ℕ) (ts : List Token) (r : Result BoxedPart Refusal) → m ≤ n → ((t : Tree) (x : List Token) → Front m t ts x → n ≤ layer t) → AnswersBoxed n d ts r →
     AnswersBoxed m d ts r
 raise m n d ts (Ok p) le up h = record {
@@ -224,7 +224,7 @@ before_fails d op at ts us x own h =
     wrap_fails 14 14 d ts us x (λ t r f. let i = before_inverts t op at ts us r own f in
     (i.0, r, i.1, subst (λ y. depth i.0 + 1 ≤ depth y) (sym i.2) (omega arith))) h
 
--- no token goes on from layer 13 or 14 alone
+-- no token continues an expression of layer 13 or 14 alone
 sign_gap : (p : Punctuator) → sign_power p ≤ 14 → sign_power p ≤ 13
 sign_gap sign.Question h = omega (arith, h)
 sign_gap p h = omega (arith, h)
@@ -269,7 +269,7 @@ prefix_fails d op at ts us x own h =
     wrap_fails 14 13 d ts us x (λ t r f. let i = prefix_inverts t op at ts us r own f in
     (i.0, r, i.1, subst (λ y. depth i.0 + 1 ≤ depth y) (sym i.2) (omega arith))) h
 
--- where no operator stands, a unary expression is a postfix one
+-- where there is no prefix operator, a unary expression is a postfix one
 pub no_prefix : (t : Tree) (ts r : List Token) → ((op : StepOp) → NotFront (kind.Punctuator (step_sign op)) ts) →
     ((op : PrefixOp) → NotFront (kind.Punctuator (prefix_sign op)) ts) → NotFront (kind.Keyword keyword.Sizeof) ts → Front 14 t ts r → 15 ≤ layer t
 no_prefix (before o p a) ts r n1 n2 n3 f = absurd (n1 p o f.spells.0 f.spells.1)

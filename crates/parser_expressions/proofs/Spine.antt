@@ -211,7 +211,7 @@ grow_deeper h (step at op r s) = let i = grow_deeper (binary at op h r) s in ome
 not_more : (a b : ℕ) → (a + 1 ≤ b → ⊥) → b ≤ a
 not_more a b h = ⊎_elim (λ lt. absurd (h (omega (arith, lt)))) (λ le. le) (cases_lt a b)
 
--- What a loop over the operators knows: left is read, and whatever tree stands there grows from it.
+-- The invariant of a loop over the operators: left is read, and any tree that the tokens spell grows from it.
 pub record Loop (top min d : ℕ) (ts : List Token) (left : Tree) (k : ℕ) (cur : List Token) : Type 0 where
   pub tight : min ≤ layer left
   pub spells : Spells None left ts cur
@@ -236,7 +236,7 @@ loop_begins top min d ts e k rest cl h = record {
       (sp.steps, subst (λ x. SpellsSteps top min (layer e) sp.steps x r) o.1 a, sp.whole ∙ ap (λ x. grow x sp.steps) o.0);
 }
 
--- where no operand is read, none of the operand's layer stands there
+-- where no operand is read, the tokens spell none of the operand's layer
 pub loop_fails : (top min d : ℕ) (ts : List Token) (f : Refusal) → Climbs top min → Fails top d ts f → Fails min d ts f
 loop_fails top min d ts f cl h = record {
   each = λ t r fr.
@@ -286,7 +286,7 @@ loop_goes_on top min d ts cur mid left k at op e j rest lo hi own h r ends room 
               ∙ ap (λ y. grow (binary at y left b) s) (sym same.0) ∙ ap (λ y. grow (binary at op left y) s) u.0,
         )
 
--- the loop ends where no operator of the layer stands
+-- the loop ends where the front is no operator of the layer
 pub loop_ends : (top min d : ℕ) (ts cur : List Token) (left : Tree) (k : ℕ) → ((op : BinaryOp) (at : Pos) (mid : List Token) → min ≤ layer_of op →
     layer_of op < top → Own (kind.Punctuator (binary_sign op)) at cur mid → ⊥) → Loop top min d ts left k cur → Reads min d ts left k cur
 loop_ends top min d ts cur left k none h = record {
@@ -301,7 +301,7 @@ loop_ends top min d ts cur left k none h = record {
     ended t x no_steps g0 g1 = (g1, sym g0)
     ended t x (step a o b s) g0 g1 = absurd (none o a g0.0 g0.2 g0.8 g0.4)
 
--- where an operator stands, some step begins with it
+-- where the front is an operator, some step begins with it
 pub loop_operand : (top min d : ℕ) (ts cur mid : List Token) (left : Tree) (k : ℕ) (at : Pos) (op : BinaryOp) (f : Refusal) → min ≤ layer_of op →
     Own (kind.Punctuator (binary_sign op)) at cur mid → Loop top min d ts left k cur → Fails (layer_of op + 1) (d + 1) mid f → Fails min d ts f
 loop_operand top min d ts cur mid left k at op f lo own h bad = record { each = λ t x fr. let g = h.only t x fr in next t x fr g.0 g.1 g.2 }
@@ -319,7 +319,7 @@ loop_operand top min d ts cur mid left k at op f lo own h bad = record { each = 
         let deep = subst (λ y. depth (binary a o left b) ≤ depth y) (sym g1) (grow_deeper (binary a o left b) s) in
         excuses_more f (d + 1) d _ _ (omega (arith, deep)) e
 
--- where an operator stands and there is no room for its node
+-- where the front is an operator and there is no room for its node
 pub loop_full : (top min d : ℕ) (ts cur mid : List Token) (left : Tree) (k : ℕ) (at : Pos) (op : BinaryOp) (p : Pos) → min ≤ layer_of op →
     Own (kind.Punctuator (binary_sign op)) at cur mid → Loop top min d ts left k cur → 256 < d + 1 + k → Fails min d ts (Depth p)
 loop_full top min d ts cur mid left k at op p lo own h full = record { each = λ t x fr. let g = h.only t x fr in next t x fr g.0 g.1 g.2 }

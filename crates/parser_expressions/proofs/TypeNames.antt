@@ -57,7 +57,7 @@ sizes_no_type no_trees ts r h b = not_type (kind.Punctuator sign.ParenClose) h.1
 sizes_no_type (one_more e es) ts r h b = let m = mark_own (kind.Punctuator sign.BracketOpen) ts h.2.0 h.2.3 in not_type (kind.Punctuator sign.BracketOpen) m.0
     ts h.2.0 (λ x. x) m.1 b
 
--- What the loop knows: the specifiers and these sizes are read, and whatever type name stands there goes on from them.
+-- The loop invariant: the specifiers and these sizes are read, and any type name that the tokens spell continues them.
 pub record SizesLoop (d : ℕ) (ts : List Token) (at : Pos) (ss : List TypeSpecifier) (xs : List Tree) (k : ℕ) (cur : List Token) : Type 0 where
   pub spells : (m : Trees) (r : List Token) → SpellsSizes None m cur r → SpellsType None (type_name at ss (add xs m)) ts r
   pub begun : (c : List Token) (m : Trees) (r : List Token) → SpellsSizes (Some c) m cur r → SpellsType (Some c) (type_name at ss (add xs m)) ts r

@@ -127,7 +127,7 @@ specifier_once (specifier.Enum tag) (specifier.Enum nr) ts r q a b =
 
 -- ---- the loop
 
--- What the loop knows: these are read, and whatever specifiers stand there go on from them.
+-- The loop invariant: these are read, and any specifiers that the tokens spell continue them.
 pub record SpecifiersLoop (ts : List Token) (ss : List TypeSpecifier) (cur : List Token) : Type 0 where
   pub some : 0 < length ss
   pub spells : (m : List TypeSpecifier) (r : List Token) → SpellsSpecifiers m cur r → SpellsSpecifiers (ss ++ m) ts r

@@ -1,4 +1,4 @@
--- What the functions that read expressions and type names answer.
+-- The postconditions of the functions that parse expressions and type names.
 use Rattle.std.specs.Prelude.{◌≡◌, ℕ, ◌+◌, ◌<◌, ◌≤◌, None, Some, List, [], ◌∷◌, length, Result, Ok, Err}
 use Rattle.srcset.specs.declared.refusal.Pos.{Pos}
 use Rattle.lexer.specs.declared.token.Token.{Token}
@@ -21,7 +21,7 @@ use Rattle.parser_grammar.specs.Tokens.{StartsAt, Reaches}
 use Rattle.parser_grammar.specs.layer.Answer.{Excuses}
 use Rattle.tree.specs.Limits.{depth_limit}
 
--- one more than the tightest layer that goes on at this punctuator, or 0
+-- one more than the tightest layer that this punctuator continues, or 0
 abbrev pub sign_power : Punctuator → ℕ
 sign_power sign.ParenOpen = 17
 sign_power sign.BracketOpen = 16
@@ -64,7 +64,7 @@ abbrev pub power : Kind → ℕ
 power (kind.Punctuator p) = sign_power p
 power _ = 0
 
--- an expression of layer n does not go on here
+-- an expression of layer n does not continue here
 abbrev pub Stops : ℕ → List Token → Type 0
 Stops n [] = 0 ≤ n
 Stops n (t ∷ ts) = power t.kind ≤ n
@@ -75,7 +75,7 @@ pub record Front (n : ℕ) (t : Tree) (ts rest : List Token) : Type 0 where
   pub spells : Spells None t ts rest
   pub stops : Stops n rest
 
--- the tree e, k deep, at the front of the list, below d nodes, and no other
+-- the tree e of depth k, at the front of the list, under d nodes, and no other
 pub record Reads (n d : ℕ) (ts : List Token) (e : Tree) (k : ℕ) (rest : List Token) : Type 0 where
   pub tight : n ≤ layer e
   pub spells : Spells None e ts rest
@@ -83,7 +83,7 @@ pub record Reads (n d : ℕ) (ts : List Token) (e : Tree) (k : ℕ) (rest : List
   pub fits : d + k ≤ depth_limit
   pub only : (t : Tree) (r : List Token) → Front n t ts r → (t ≡ e) × (r ≡ rest)
 
--- each tree at the front of the list has this against it
+-- the refusal excuses each tree at the front of the list
 pub record Fails (n d : ℕ) (ts : List Token) (f : Refusal) : Type 0 where
   pub each : (t : Tree) (r : List Token) → Front n t ts r → Excuses f d (depth t)
 
@@ -91,7 +91,7 @@ abbrev pub Answers : ℕ → ℕ → List Token → Result Part Refusal → Type
 Answers n d ts (Ok p) = Reads n d ts (tree_of p.expr) p.depth p.rest.now
 Answers n d ts (Err f) = Fails n d ts f
 
--- A begun tree of layer n, whose front ends at this place, passes the depth below d nodes.
+-- A begun tree of layer n, whose front ends at this place, exceeds the depth under d nodes.
 pub record Passes (n d : ℕ) (ts : List Token) (at : Pos) : Type 0 where
   pub tree : Tree
   pub cut : List Token
@@ -101,7 +101,7 @@ pub record Passes (n d : ℕ) (ts : List Token) (at : Pos) : Type 0 where
   pub ends : Reaches ts (record { kind = last; pos = at } ∷ cut)
   pub deep : depth_limit < d + depth tree
 
--- the refusal stands: of a depth, some begun tree passes it
+-- the refusal is justified: for a depth, some begun tree exceeds it
 abbrev pub Stands : ℕ → ℕ → List Token → Refusal → Type 0
 Stands n d ts (Syntax left) = Unit {0}
 Stands n d ts (Depth at) = Passes n d ts at
@@ -138,7 +138,7 @@ pub record ReadsSpecifiers (ts : List Token) (at : Pos) (ss : List TypeSpecifier
   pub spells : SpellsSpecifiers ss ts rest
   pub only : (us : List TypeSpecifier) (r : List Token) → SpellsSpecifiers us ts r → (BeginsType r → ⊥) → (us ≡ ss) × (r ≡ rest)
 
--- none can stand there
+-- the tokens spell none
 pub record FailsSpecifiers (ts : List Token) (f : Refusal) : Type 0 where
   pub each : (us : List TypeSpecifier) (r : List Token) → SpellsSpecifiers us ts r → 0 < length us → (BeginsType r → ⊥) → Excuses f 0 0
 
@@ -146,7 +146,7 @@ abbrev pub AnswersSpecifiers : List Token → Result SpecifiersPart Refusal → 
 AnswersSpecifiers ts (Ok p) = ReadsSpecifiers ts p.specifiers.pos p.specifiers.list.items p.rest.now
 AnswersSpecifiers ts (Err f) = FailsSpecifiers ts f
 
--- refusals of what is never too deep
+-- refusals other than those for the depth
 abbrev pub NotDepth : Refusal → Type 0
 NotDepth (Syntax left) = Unit {0}
 NotDepth (Depth at) = ⊥

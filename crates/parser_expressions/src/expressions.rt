@@ -43,7 +43,7 @@ pub struct Part<'t> {
     pub rest: &'t [Token],
 }
 
-/// The same, boxed: reading goes as deep as the tree does, and what a level leaves on the host's stack is small.
+/// The same, boxed: recursion is as deep as the tree, and a level leaves little on the host's stack.
 #[derive(Drop)]
 pub(crate) struct BoxedPart<'t> {
     pub expr: Box<Expr>,
@@ -99,7 +99,7 @@ pub fn begins_expression(tokens: &[Token]) -> bool
     }
 }
 
-// The parenthesis before a type name, and what follows it.
+// The parenthesis before a type name, and the remaining tokens.
 #[inline(never)]
 fn cast_front<'t>(tokens: &'t [Token]) -> Option<(Pos, &'t [Token])>
     ensures { MatchOption result ((at : Pos) (rest : List Token) → Own (kind.Punctuator sign.ParenOpen) at tokens.now rest → BeginsType rest → ⊥)
@@ -195,7 +195,7 @@ fn unboxed<'t>(part: BoxedPart<'t>) -> Part<'t>
     }
 }
 
-/// An expression (6.5.17), below so many nodes.
+/// An expression (6.5.17), under `depth` nodes.
 #[inline(never)]
 pub fn expression<'t>(alloc: Global, tokens: &'t [Token], depth: u32) -> Result<Part<'t>, Refusal>
     requires { depth ≤ 256 }
@@ -209,7 +209,7 @@ pub fn expression<'t>(alloc: Global, tokens: &'t [Token], depth: u32) -> Result<
     }
 }
 
-/// An assignment expression (6.5.16), below so many nodes.
+/// An assignment expression (6.5.16), under `depth` nodes.
 #[inline(never)]
 pub fn assignment<'t>(alloc: Global, tokens: &'t [Token], depth: u32) -> Result<Part<'t>, Refusal>
     requires { depth ≤ 256 }
@@ -223,7 +223,7 @@ pub fn assignment<'t>(alloc: Global, tokens: &'t [Token], depth: u32) -> Result<
     }
 }
 
-/// A conditional expression (6.5.15), below so many nodes.
+/// A conditional expression (6.5.15), under `depth` nodes.
 #[inline(never)]
 pub fn conditional<'t>(alloc: Global, tokens: &'t [Token], depth: u32) -> Result<Part<'t>, Refusal>
     requires { depth ≤ 256 }
@@ -237,7 +237,7 @@ pub fn conditional<'t>(alloc: Global, tokens: &'t [Token], depth: u32) -> Result
     }
 }
 
-// An expression (6.5.17), below so many nodes.
+// An expression (6.5.17), under `depth` nodes.
 #[cycle(expressions)]
 #[inline(never)]
 fn read_expression<'t>(
@@ -259,7 +259,7 @@ fn read_expression<'t>(
     Ok(left)
 }
 
-// An assignment expression (6.5.16), below so many nodes.
+// An assignment expression (6.5.16), under `depth` nodes.
 #[cycle(expressions)]
 #[inline(never)]
 fn read_assignment<'t>(
@@ -289,7 +289,7 @@ fn read_assignment<'t>(
     })
 }
 
-// A conditional expression (6.5.15), below so many nodes.
+// A conditional expression (6.5.15), under `depth` nodes.
 #[cycle(expressions)]
 #[inline(never)]
 fn read_conditional<'t>(
@@ -367,7 +367,7 @@ fn cast<'t>(alloc: Global, tokens: &'t [Token], depth: u32) -> Result<BoxedPart<
     unary(alloc, tokens, depth)
 }
 
-// A type name (6.7.7), after its opening parenthesis and up to the closing one, which is taken too.
+// A type name (6.7.7), after its opening parenthesis and up to the closing one, which is consumed.
 #[cycle(expressions)]
 #[inline(never)]
 fn type_name<'t>(alloc: Global, tokens: &'t [Token], depth: u32) -> Result<TypePart<'t>, Refusal>
@@ -430,7 +430,7 @@ fn unary<'t>(alloc: Global, tokens: &'t [Token], depth: u32) -> Result<BoxedPart
     postfix(alloc, tokens, depth)
 }
 
-// What is measured (6.5.3.4), after `sizeof`.
+// The operand of `sizeof` (6.5.3.4), after that keyword.
 #[cycle(expressions)]
 #[inline(never)]
 fn sizeof<'t>(
@@ -541,7 +541,7 @@ fn primary<'t>(alloc: Global, tokens: &'t [Token], depth: u32) -> Result<BoxedPa
     })
 }
 
-// The arguments of a call (6.5.2.2), after its opening parenthesis and up to the closing one, which is taken too.
+// The arguments of a call (6.5.2.2), after its opening parenthesis and up to the closing one, which is consumed.
 #[cycle(expressions)]
 #[inline(never)]
 fn read_arguments<'t>(

@@ -41,7 +41,7 @@ pub fn above(depth: u32, height: u32, at: Pos) -> Result<u32, Refusal>
     Ok(depth + 1)
 }
 
-/// The punctuator at the front, and what follows it.
+/// The punctuator at the front, and the remaining tokens.
 pub fn any_sign_front<'t>(tokens: &'t [Token]) -> Option<(Pos, Punctuator, &'t [Token])>
     ensures { MatchOption result ((k : Punctuator) → NotFront (kind.Punctuator k) tokens.now)
         (λ p. Own (kind.Punctuator p.1) p.0 tokens.now p.2.now) }
@@ -55,7 +55,7 @@ pub fn any_sign_front<'t>(tokens: &'t [Token]) -> Option<(Pos, Punctuator, &'t [
     }
 }
 
-/// The place of this punctuator where it stands at the front, and what follows it.
+/// The place of this punctuator where it is at the front, and the remaining tokens.
 pub fn sign_front<'t>(tokens: &'t [Token], sign: Punctuator) -> Option<(Pos, &'t [Token])>
     ensures { MatchOption result (NotFront (kind.Punctuator sign) tokens.now) (λ p. Own (kind.Punctuator sign) p.0 tokens.now p.1.now) }
 {
@@ -67,7 +67,7 @@ pub fn sign_front<'t>(tokens: &'t [Token], sign: Punctuator) -> Option<(Pos, &'t
     }
 }
 
-/// The keyword at the front, and what follows it.
+/// The keyword at the front, and the remaining tokens.
 pub fn any_keyword_front<'t>(tokens: &'t [Token]) -> Option<(Pos, Keyword, &'t [Token])>
     ensures { MatchOption result ((k : Keyword) → NotFront (kind.Keyword k) tokens.now)
         (λ p. Own (kind.Keyword p.1) p.0 tokens.now p.2.now) }
@@ -81,7 +81,7 @@ pub fn any_keyword_front<'t>(tokens: &'t [Token]) -> Option<(Pos, Keyword, &'t [
     }
 }
 
-/// The place of this keyword where it stands at the front, and what follows it.
+/// The place of this keyword where it is at the front, and the remaining tokens.
 pub fn keyword_front<'t>(tokens: &'t [Token], keyword: Keyword) -> Option<(Pos, &'t [Token])>
     ensures { MatchOption result (NotFront (kind.Keyword keyword) tokens.now) (λ p. Own (kind.Keyword keyword) p.0 tokens.now p.1.now) }
 {
@@ -93,7 +93,7 @@ pub fn keyword_front<'t>(tokens: &'t [Token], keyword: Keyword) -> Option<(Pos, 
     }
 }
 
-/// What follows this punctuator, which stands at the front.
+/// The tokens after this punctuator, which is at the front.
 pub fn expect_sign<'t>(tokens: &'t [Token], sign: Punctuator) -> Result<&'t [Token], Refusal>
     ensures ok { IfOk result (λ rest. (at : Pos) × Own (kind.Punctuator sign) at tokens.now rest.now) }
     ensures err { IfErr result (λ f. NotFront (kind.Punctuator sign) tokens.now × ((left : ℕ) × (f ≡ Syntax left))) }
@@ -104,7 +104,7 @@ pub fn expect_sign<'t>(tokens: &'t [Token], sign: Punctuator) -> Result<&'t [Tok
     }
 }
 
-/// What follows this keyword, which stands at the front.
+/// The tokens after this keyword, which is at the front.
 pub fn expect_keyword<'t>(tokens: &'t [Token], keyword: Keyword) -> Result<&'t [Token], Refusal>
     ensures ok { IfOk result (λ rest. (at : Pos) × Own (kind.Keyword keyword) at tokens.now rest.now) }
     ensures err { IfErr result (λ f. NotFront (kind.Keyword keyword) tokens.now × ((left : ℕ) × (f ≡ Syntax left))) }
@@ -115,7 +115,7 @@ pub fn expect_keyword<'t>(tokens: &'t [Token], keyword: Keyword) -> Result<&'t [
     }
 }
 
-/// The identifier at the front, and what follows it.
+/// The identifier at the front, and the remaining tokens.
 pub fn identifier_front<'t>(tokens: &'t [Token]) -> Option<(Pos, usize, &'t [Token])>
     ensures { MatchOption result ((n : ℕ) → NotFront (kind.Identifier n) tokens.now)
         (λ p. Own (kind.Identifier p.1) p.0 tokens.now p.2.now) }
@@ -129,7 +129,7 @@ pub fn identifier_front<'t>(tokens: &'t [Token]) -> Option<(Pos, usize, &'t [Tok
     }
 }
 
-/// The constant at the front, and what follows it.
+/// The constant at the front, and the remaining tokens.
 pub fn constant_front<'t>(tokens: &'t [Token]) -> Option<(Pos, IntType, u32, &'t [Token])>
     ensures { MatchOption result ((ty : IntType) (n : ℕ) → NotFront (kind.Constant ty n) tokens.now)
         (λ p. Own (kind.Constant p.1 p.2) p.0 tokens.now p.3.now) }
@@ -143,7 +143,7 @@ pub fn constant_front<'t>(tokens: &'t [Token]) -> Option<(Pos, IntType, u32, &'t
     }
 }
 
-/// The string literal at the front, and what follows it.
+/// The string literal at the front, and the remaining tokens.
 pub fn string_front<'t>(tokens: &'t [Token]) -> Option<(Pos, usize, &'t [Token])>
     ensures { MatchOption result ((n : ℕ) → NotFront (kind.StringLiteral n) tokens.now)
         (λ p. Own (kind.StringLiteral p.1) p.0 tokens.now p.2.now) }

@@ -1,6 +1,6 @@
 //! The nodes of expressions, each boxed (ISO/IEC 9899:2011 6.5).
 //!
-//! None is inlined: reading goes as deep as the tree does, and a node is large.
+//! None is inlined: recursion is as deep as the tree, and a node is large.
 
 ghost use Rattle.std.specs.Prelude.{◌≡◌, ◌++◌, ◌∷◌, [], map, IfOk, IfErr, OnOk};
 ghost use Rattle.tree.specs.Tree.{identifier, constant, string, paren, call, subscript, after, before, prefix, size_of, size_of_type, cast, binary, conditional, assign};

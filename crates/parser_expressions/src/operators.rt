@@ -103,7 +103,7 @@ pub(crate) fn layer_number(op: BinaryOp) -> u32
     }
 }
 
-/// The operator between two operands at the front, of a layer from `min` up, and what follows it.
+/// The operator between two operands at the front, of a layer from `min` up, and the remaining tokens.
 pub(crate) fn binary_front<'t>(
     tokens: &'t [Token],
     min: u32,
@@ -119,7 +119,7 @@ pub(crate) fn binary_front<'t>(
     None
 }
 
-/// The sign before an operand at the front, and what follows it.
+/// The sign before an operand at the front, and the remaining tokens.
 pub(crate) fn prefix_front<'t>(tokens: &'t [Token]) -> Option<(Pos, PrefixOp, &'t [Token])>
     ensures { MatchOption result ((op : PrefixOp) → NotFront (kind.Punctuator (prefix_sign op)) tokens.now)
         (λ p. Own (kind.Punctuator (prefix_sign p.1)) p.0 tokens.now p.2.now) }
@@ -129,7 +129,7 @@ pub(crate) fn prefix_front<'t>(tokens: &'t [Token]) -> Option<(Pos, PrefixOp, &'
     Some((pos, op, rest))
 }
 
-/// The `++` or `--` at the front, and what follows it.
+/// The `++` or `--` at the front, and the remaining tokens.
 pub(crate) fn step_front<'t>(tokens: &'t [Token]) -> Option<(Pos, StepOp, &'t [Token])>
     ensures { MatchOption result ((op : StepOp) → NotFront (kind.Punctuator (step_sign op)) tokens.now)
         (λ p. Own (kind.Punctuator (step_sign p.1)) p.0 tokens.now p.2.now) }
@@ -139,7 +139,7 @@ pub(crate) fn step_front<'t>(tokens: &'t [Token]) -> Option<(Pos, StepOp, &'t [T
     Some((pos, op, rest))
 }
 
-/// The operator of an assignment at the front, and what follows it.
+/// The operator of an assignment at the front, and the remaining tokens.
 pub(crate) fn assign_front<'t>(tokens: &'t [Token]) -> Option<(Pos, AssignOp, &'t [Token])>
     ensures { MatchOption result ((op : AssignOp) → NotFront (kind.Punctuator (assign_sign op)) tokens.now)
         (λ p. Own (kind.Punctuator (assign_sign p.1)) p.0 tokens.now p.2.now) }
@@ -149,7 +149,7 @@ pub(crate) fn assign_front<'t>(tokens: &'t [Token]) -> Option<(Pos, AssignOp, &'
     Some((pos, op, rest))
 }
 
-/// Whether an expression may stand on the left of an assignment (6.5.16): whether it is a unary one.
+/// Whether an expression may be the left operand of an assignment (6.5.16): whether it is a unary one.
 pub(crate) fn is_unary(expr: &Expr) -> bool
     ensures { IsTrue result ↔ (14 ≤ layer (tree_of expr.now)) }
 {

@@ -1,4 +1,4 @@
-//! Specifiers of types that bring no list of enumerators.
+//! Specifiers of types that contain no list of enumerators.
 
 ghost use Rattle.std.specs.Prelude.{◌≡◌, ◌<◌, ◌↔◌, ℕ, List, length, IsTrue, IfOk, IfErr, MatchOption};
 ghost use Rattle.lexer.specs.declared.token.Token.{Token};
@@ -59,7 +59,7 @@ fn keyword_begins_type(keyword: Keyword) -> bool
     }
 }
 
-/// Whether a type specifier or qualifier stands at the front.
+/// Whether the front is a type specifier or qualifier.
 pub(crate) fn begins_type(tokens: &[Token]) -> bool
     ensures { IsTrue result ↔ BeginsType tokens.now }
 {
@@ -69,7 +69,7 @@ pub(crate) fn begins_type(tokens: &[Token]) -> bool
     }
 }
 
-// The specifier at the front, its place, and what follows it.
+// The specifier at the front, its place, and the remaining tokens.
 fn specifier_front<'t>(tokens: &'t [Token]) -> Result<(Pos, TypeSpecifier, &'t [Token]), Refusal>
     ensures place { IfOk result (λ p. StartsAt p.0 tokens.now) }
     ensures ok { IfOk result (λ p. SpellsSpecifier p.1 tokens.now p.2.now) }

@@ -20,7 +20,7 @@ passed_on Q r f is h = let p = err_from_is_err_and r is in rw (p.1, p.2) h
 pub err_passed_on : {T F : Type 0} (Q : F → Type 0) (r : Result T F) (f : F) → IsErrAnd r (λ e. e ≡ f) → Q f → IfErr r (λ e. Q e)
 err_passed_on Q r f is h = let p = err_from_is_err_and r is in rw (p.1, p.2) h
 
--- what holds of a result that is passed on
+-- a property of a result that is passed on
 pub ok_gives : {T F : Type 0} (P Q : T → Type 0) (r : Result T F) → ((x : T) → P x → Q x) → IfOk r P → IfOk r Q
 ok_gives P Q (Ok x) g h = g x h
 ok_gives P Q (Err e) g h = tt

@@ -1,4 +1,4 @@
--- Whole expressions are begun ones, what they spell is a front, and none spells nothing.
+-- Whole expressions are begun ones, the tokens that they spell are a front, and each spells at least one.
 use Rattle.std.specs.Prelude.{None, Some}
 use Rattle.std.proofs.Common.{◌<◌, ◌≤◌, List, [], ◌∷◌, length, ap, arith}
 use Rattle.lexer.specs.declared.token.Token.{Token}
@@ -91,7 +91,7 @@ mutual
         h.2 r h.7,
   )
 
--- what a tree spells is a front
+-- the tokens that a tree spells are a front
 mutual
   pub whole_reaches : (t : Tree) (ts r : List Token) → Spells None t ts r → Reaches ts r
   whole_reaches hole ts r h = absurd h

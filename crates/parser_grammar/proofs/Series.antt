@@ -1,4 +1,4 @@
--- Lists of parts that a loop reads: parts one behind another, and parts with a comma between any two.
+-- Lists of parts that a loop reads: consecutive parts, and parts with a comma between any two.
 --
 -- Throughout, `P b x ts rest` says that the part x spells the front of ts up to rest, `W` the same of the whole
 -- list from its start, `E` where a whole list can end, `PE` where a part can end, and `h` how deep a part is.
@@ -16,7 +16,7 @@ use Rattle.parser_grammar.specs.layer.Answer.{Excuses, ReadsOf, FailsOf, StandsO
 use Rattle.parser_grammar.proofs.Tokens.{same_token, mark_own, mark_begun, reaches_on, own_reaches}
 use Rattle.parser_grammar.proofs.Exits.{excuses_grow}
 
--- parts one behind another
+-- consecutive parts
 abbrev pub Chain : {A : Type 0} → (A → List Token → List Token → Type 0) → List A → List Token → List Token → Type 0
 Chain P [] ts rest = ts ≡ rest
 Chain P (x ∷ xs) ts rest = (t1 : List Token) × P x ts t1 × Chain P xs t1 rest
@@ -25,7 +25,7 @@ abbrev pub tallest : {A : Type 0} → (A → ℕ) → List A → ℕ
 tallest h [] = 0
 tallest h (x ∷ xs) = max (h x) (tallest h xs)
 
--- What a loop knows before `cur`: the parts xs are read, and whatever list stands at the start goes on from them.
+-- The loop invariant before `cur`: the parts xs are read, and every list of the tokens continues from them.
 pub record Going {A : Type 0} (P : Option (List Token) → A → List Token → List Token → Type 0) (W : Option (List Token) → List A → List Token → List Token →
     Type 0) (E : List A → List Token → Type 0) (h : A → ℕ) (d : ℕ) (ts : List Token) (xs : List A) (k : ℕ) (cur : List Token) : Type 0 where
   pub spells : (m : List A) (r : List Token) → Chain (P None) m cur r → W None (xs ++ m) ts r
@@ -114,7 +114,7 @@ module _ {A : Type 0} (P : Option (List Token) → A → List Token → List Tok
       on us r [] s e = absurd (stays us (subst (λ u. E us u) (sym s) e))
       on us r (y ∷ m) s e = absurd (no_part y s.0 s.1)
 
-  -- no further part stands there
+  -- no further part is there
   pub going_ends : (d : ℕ) (ts : List Token) (xs : List A) (k : ℕ) (cur : List Token) → ((y : A) (r : List Token) → P None y cur r → ⊥) →
       Going P W E h d ts xs k cur → ReadsOf (W None) E (tallest h) d ts xs k cur
   going_ends d ts xs k cur no_part g = record {
@@ -128,7 +128,7 @@ module _ {A : Type 0} (P : Option (List Token) → A → List Token → List Tok
       on us r [] s eq = (eq ∙ append_none xs, sym s)
       on us r (y ∷ m) s eq = absurd (no_part y s.0 s.1)
 
-  -- what stands of the next part stands of the whole
+  -- a refusal that is correct for the next part is correct for the whole
   pub going_stands : (d : ℕ) (ts : List Token) (xs : List A) (k : ℕ) (cur : List Token) (f : Refusal) → Going P W E h d ts xs k cur → StandsOf P h d cur f →
       StandsOf W (tallest h) d ts f
   going_stands d ts xs k cur (Syntax at) g s = tt
@@ -213,7 +213,7 @@ module _ {A : Type 0} (S : Option (List Token) → A → List Token → List Tok
     deep = omega (arith, s.deep);
   }
 
-  -- a part behind a comma
+  -- a part after a comma
   pub comma_reads : (d : ℕ) (cur us : List Token) (at : Pos) (x : A) (k : ℕ) (rest : List Token) → Own (kind.Punctuator sign.Comma) at cur us →
       ReadsOf (S None) PE h d us x k rest → ReadsOf (CommaThen S None) PE h d cur x k rest
   comma_reads d cur us at x k rest own read = record {
@@ -252,7 +252,7 @@ module _ {A : Type 0} (S : Option (List Token) → A → List Token → List Tok
       CommaThen S None y t r → CommaThen S (Some c) y t r
   comma_is_begun begin c y t r s = (s.0, mark_begun c _ t s.0 s.1, begin c y s.0 r s.2)
 
-  -- behind a comma a further part is read
+  -- after a comma a further part is read
   pub series_more : (d : ℕ) (ts : List Token) (xs : List A) (k : ℕ) (cur us : List Token) (at : Pos) (x : A) (j : ℕ) (next : List Token) (n : ℕ) →
       ((vs : List A) → E vs cur → ⊥) → ((vs : List A) (y : A) (r : List Token) → E vs r → PE y r) →
       ((y : A) (o : Pos) (t r : List Token) → Own (kind.Punctuator sign.Comma) o t r → PE y t) → ((c : List Token) (y : A) (t r : List Token) → S None y t r →
@@ -263,7 +263,7 @@ module _ {A : Type 0} (S : Option (List Token) → A → List Token → List Tok
       in comma y o.0 t s.0 o.1) (comma_is_begun begin) (reaches_on cur us next (own_reaches _ at cur us own) reach) g
       (comma_reads d cur us at x j next own read) en
 
-  -- behind a comma the next part fails
+  -- after a comma the next part fails
   pub series_more_fails : (d : ℕ) (ts : List Token) (xs : List A) (k : ℕ) (cur us : List Token) (at : Pos) (f : Refusal) → ((vs : List A) → E vs cur → ⊥) →
       ((vs : List A) (y : A) (r : List Token) → E vs r → PE y r) → ((y : A) (o : Pos) (t r : List Token) → Own (kind.Punctuator sign.Comma) o t r → PE y t) →
       Own (kind.Punctuator sign.Comma) at cur us → Going (CommaThen S) (SeriesOf S) E h d ts xs k cur → FailsOf (S None) PE h d us f →

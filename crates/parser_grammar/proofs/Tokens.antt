@@ -39,7 +39,7 @@ pub mark_own : (k : Kind) (ts rest : List Token) → Mark None k ts rest → (at
 mark_own k ts rest (inl h) = h
 mark_own k ts rest (inr h) = absurd (no_hole h)
 
--- a token that does not stand there is no mark of a whole tree
+-- a token that is not at the front is no mark of a whole tree
 pub mark_not : (k : Kind) (ts rest : List Token) → NotFront k ts → Mark None k ts rest → ⊥
 mark_not k ts rest none h = let m = mark_own k ts rest h in none m.0 rest m.1
 

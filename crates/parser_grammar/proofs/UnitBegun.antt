@@ -1,4 +1,4 @@
--- Whole statements and units are begun ones, and what they spell is a front.
+-- Whole statements and units are begun ones, and the tokens that they spell are a front.
 use Rattle.std.specs.Prelude.{Option, None, Some}
 use Rattle.std.proofs.Common.{List, [], ◌∷◌}
 use Rattle.lexer.specs.declared.token.Token.{Token}

@@ -24,7 +24,7 @@ abbrev pub SpellsSeries : {A : Type 0} → (A → List Token → List Token → 
 SpellsSeries S b [] ts rest = Missing b ts rest
 SpellsSeries S b (x ∷ xs) ts rest = (t1 : List Token) × S x ts t1 × SpellsMoreOf S b xs t1 rest
 
--- a comma may stand behind the last
+-- a comma may follow the last
 abbrev pub Trailing : List Token → List Token → Type 0
 Trailing ts rest = (ts ≡ rest) ⊎ ((at : Pos) × Own (kind.Punctuator sign.Comma) at ts rest)
 
@@ -42,7 +42,7 @@ abbrev pub SpellsTag : Option ℕ → List Token → List Token → Type 0
 SpellsTag None ts rest = ts ≡ rest
 SpellsTag (Some tag) ts rest = (at : Pos) × Own (kind.Identifier tag) at ts rest
 
--- 6.7.1 to 6.7.3; `extern` stands at file scope only
+-- 6.7.1 to 6.7.3; `extern` appears at file scope only
 abbrev pub SpellsDeclarationSpecifier : Option (List Token) → Scope → SpecifierTree → List Token → List Token → Type 0
 SpellsDeclarationSpecifier b scope extern_specifier ts rest = (scope ≡ File) × ((at : Pos) × Own (kind.Keyword keyword.Extern) at ts rest)
 SpellsDeclarationSpecifier b scope static_specifier ts rest = (at : Pos) × Own (kind.Keyword keyword.Static) at ts rest
@@ -69,7 +69,7 @@ SpellsBounds b [] ts rest = ts ≡ rest
 SpellsBounds b (e ∷ es) ts rest = (t1 : List Token) × (t2 : List Token) × (t3 : List Token) × Sign b sign.BracketOpen ts t1
     × SpellsBound b e t1 t2 × Sign b sign.BracketClose t2 t3 × SpellsBounds b es t3 rest
 
--- 6.7.6.3; a parameter without a name stands where its first token does
+-- 6.7.6.3; a parameter without a name has the place of its first token
 abbrev pub SpellsParameterName : ParameterTree → Option ℕ → List Token → List Token → Type 0
 SpellsParameterName p None ts rest = (ts ≡ rest) × (p.at ≡ p.start)
 SpellsParameterName p (Some n) ts rest = Own (kind.Identifier n) p.at ts rest
@@ -78,7 +78,7 @@ abbrev pub SpellsParameter : Option (List Token) → ParameterTree → List Toke
 SpellsParameter b p ts rest = (t1 : List Token) × (t2 : List Token) × StartsAt p.start ts × (0 < length p.specifiers) × SpellsSpecifiers p.specifiers ts t1
     × SpellsParameterName p p.name t1 t2 × SpellsBounds b p.sizes t2 rest
 
--- ( void ) alone stands for no parameters
+-- ( void ) alone denotes no parameters
 pub record IsVoid (p : ParameterTree) : Type 0 where
   pub word_void : p.specifiers ≡ specifier.Word word.Void ∷ []
   pub no_name : p.name ≡ None
@@ -116,7 +116,7 @@ abbrev pub SpellsInitialiser : Option (List Token) → Option Init → List Toke
 SpellsInitialiser b None ts rest = ts ≡ rest
 SpellsInitialiser b (Some i) ts rest = (t1 : List Token) × Sign b sign.Assign ts t1 × SpellsInit b i t1 rest
 
--- 6.7.6; the declarator of a function stands at file scope only
+-- 6.7.6; the declarator of a function appears at file scope only
 abbrev pub SpellsItem : Option (List Token) → Scope → ItemTree → List Token → List Token → Type 0
 SpellsItem b scope (object at n sizes init) ts rest = (t1 : List Token) × (t2 : List Token) × Own (kind.Identifier n) at ts t1
     × SpellsBounds b sizes t1 t2 × SpellsInitialiser b init t2 rest

@@ -1,4 +1,4 @@
-//! What a translation unit is: which tokens a tree spells (`specs/`), and why there is no tree.
+//! The definition of a translation unit: which tokens a tree spells (`specs/`), and why there is no tree.
 #![tactic(auto)]
 
 mod refusal;

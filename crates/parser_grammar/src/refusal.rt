@@ -9,7 +9,7 @@ use std::alloc::{AllocError, AllocFailed};
 /// Why there is no tree.
 #[derive(Clone, Copy, PartialEq, Eq, Debug)]
 pub enum Refusal {
-    /// So many tokens are left where no tree goes on: with the first of them, or, at 0, at the end.
+    /// This number of tokens is left where no tree goes on: with the first of them, or, at 0, at the end.
     Syntax(usize),
     /// With the token at this place a tree becomes too deep.
     Depth(Pos),

@@ -1,6 +1,6 @@
-//! Where a declaration stands.
+//! The scope of a declaration.
 
-/// Where a declaration stands (ISO/IEC 9899:2011 6.2.1).
+/// The scope of a declaration (ISO/IEC 9899:2011 6.2.1).
 #[derive(Clone, Copy, PartialEq, Eq, Debug)]
 pub enum Scope {
     /// Outside of every function.

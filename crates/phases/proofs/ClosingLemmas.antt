@@ -68,7 +68,7 @@ enclosed_none q least m [] h = refl
 enclosed_none q least m (b ∷ bs) h =
     enclosed_none_step (eqb b q) (to_close q true false bs) least (and_parts (cond (eqb b q) (is_none (to_close q true false bs)) true) (unclosed_for q m bs) h).0
 
--- behind a prefix that is shorter than what is known, no literal begins
+-- after a prefix shorter than the known range, no literal begins
 pub hopeless_literal : (q least h k : ℕ) (bs : List ℕ) → unclosed_for q h bs ≡ true → k < h → behind k (enclosed q q least true (drop k bs)) ≡ 0
 hopeless_literal q least h k bs u l =
     let e : h - k ≡ suc (h - k - 1) = omega arith in

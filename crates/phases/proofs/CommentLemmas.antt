@@ -1,4 +1,4 @@
--- What stands at the front of a text, by cases and as a scanner finds it.
+-- The piece at the front of a text, by cases and as a scanner finds it.
 use Rattle.std.proofs.Common.{◌≡◌, ℕ, suc, eqb, ◌||◌, ◌&&◌, Bool, true, false, cond, List, [], ◌∷◌, ◌++◌, length, drop, refl, sym, ap, ◌∙◌, Option, None, Some, slice_index}
 use Rattle.phases.specs.declared.token.Place.{Place}
 use Rattle.phases.specs.declared.token.Piece.TheVariants.{Newline, Gap}
@@ -17,7 +17,7 @@ through_more : (o : Option ℕ) (rest : ℕ) → also (through o rest) ≡ throu
 through_more None rest = refl
 through_more (Some n) rest = refl
 
--- behind a star, where `t` says that a slash comes next
+-- after a star, where `t` says that a slash comes next
 star_step : (t : Bool) (o : Option ℕ) (rest : ℕ) → also (cond t (true, 1) (through o rest)) ≡ through (cond t (Some 0) (further o)) (suc rest)
 star_step true o rest = refl
 star_step false o rest = through_more o rest
@@ -53,7 +53,7 @@ or_parts : (t u : Bool) → (t || u) ≡ false → (t ≡ false) × (u ≡ false
 or_parts true u h = absurd (cc)
 or_parts false u h = (refl, h)
 
--- whether `*/` begins in the last byte of a body depends on no byte behind it
+-- whether `*/` begins in the last byte of a body depends on no later byte
 no_end : (b : ℕ) (bs rest : List ℕ) → ends_comment (b ∷ bs) ≡ false → ends_comment (b ∷ bs ++ 42 ∷ 47 ∷ rest) ≡ false
 no_end b [] rest h = h
 no_end b (c ∷ bs) rest h = h

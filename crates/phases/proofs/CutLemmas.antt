@@ -26,7 +26,7 @@ range_more ts x a e h m =
     ap (take (e - a)) (drop-append-le a ts (x ∷ []) (omega (arith, h, m)))
     ∙ take-append-le (e - a) (drop a ts) (x ∷ []) (omega (arith, h, m, length-drop a ts))
 
--- one more token behind the lines changes none of them
+-- one more token after the lines changes none of them
 pub cut_push : (a : ℕ) (es : List ℕ) (s : ℕ) (ts : List Token) (x : Token) → Ascend a es s → s ≤ length ts → cut a es (ts ++ x ∷ []) ≡ cut a es ts
 cut_push a [] s ts x h m = refl
 cut_push a (e ∷ es) s ts x h m =
@@ -34,7 +34,7 @@ cut_push a (e ∷ es) s ts x h m =
     ap (λ l. l ∷ cut e es (ts ++ x ∷ [])) (range_more ts x a e h.0 (omega (arith, le, m)))
     ∙ ap (λ ls. slice_range ts a e ∷ ls) (cut_push e es s ts x h.1 m)
 
--- one more end makes a line of the tokens behind the last
+-- one more end makes a line of the tokens after the last end
 pub cut_end : (a : ℕ) (es : List ℕ) (s : ℕ) (ts : List Token) → Ascend a es s → cut a (es ++ length ts ∷ []) ts ≡ cut a es ts ++ drop s ts ∷ []
 cut_end a [] s ts h = ap (λ l. l ∷ []) (take_rest ts a ∙ ap (λ k. drop k ts) h)
 cut_end a (e ∷ es) s ts h = ap (λ ls. slice_range ts a e ∷ ls) (cut_end e es s ts h.1)
@@ -75,16 +75,16 @@ lent_range ts a e (Some x) p h = ap Some p.0.2
 abbrev begun : List (List Token) → List Token → Begun
 begun lines line = record { lines = lines; line = line }
 
--- what one more end makes of them
+-- the lines after one more end
 pub cut_ended : (es : List ℕ) (s : ℕ) (ts : List Token) → Ascend 0 es s → begun (cut 0 (es ++ length ts ∷ []) ts) (drop (length ts) ts) ≡ begun (cut 0 es ts ++ drop s ts ∷ []) []
 cut_ended es s ts h = rw (cut_end 0 es s ts h, drop_all (length ts) ts (omega arith)) refl
 
--- the last line is ended where no token is behind it
+-- the last line is ended where no token follows it
 pub ascend_all : (es : List ℕ) (s : ℕ) (ts : List Token) → Ascend 0 es s → s ≤ length ts → drop s ts ≡ [] → Ascend 0 es (length ts)
 ascend_all es s ts h m e =
     let n : s ≡ length ts = omega (arith, m, length-drop s ts, ap length e) in
     rw (← n) h
 
--- what one more token makes of them
+-- the lines after one more token
 pub cut_pushed : (es : List ℕ) (s : ℕ) (ts : List Token) (x : Token) → Ascend 0 es s → s ≤ length ts → begun (cut 0 es (ts ++ x ∷ [])) (drop s (ts ++ x ∷ [])) ≡ begun (cut 0 es ts) (drop s ts ++ x ∷ [])
 cut_pushed es s ts x h m = rw (cut_push 0 es s ts x h m, drop-append-le s ts (x ∷ []) m) refl

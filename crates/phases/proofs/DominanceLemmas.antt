@@ -54,7 +54,7 @@ name_one true true k h = absurd (cc)
 name_one true false k h = omega arith
 name_one false w k h = omega arith
 
--- what the other kinds can be at most
+-- upper bounds for the lengths of the other kinds
 pub record AtMost (bs : List ℕ) (k : ℕ) : Type 0 where
   pub name : name_len bs ≤ k
   pub number : number_len bs ≡ 0

@@ -25,7 +25,7 @@ record Cases (M : List ℕ → Type 0) : Type 0 where
   of_return : OfReturn M
   of_byte : OfByte M
 
--- no trigraph stands first
+-- no trigraph comes first
 no_trigraph_step : (M : List ℕ → Type 0) → Cases M → (a b : ℕ) (r : List ℕ) → trigraph_at a (b ∷ r) ≡ None → M r → M (b ∷ r) → M (a ∷ b ∷ r)
 no_trigraph_step M c a b r h m n =
     elim (cases_Bool (eqb a 13 && eqb b 10)) [
@@ -50,7 +50,7 @@ by_characters M c (a ∷ []) = c.of_byte a [] refl refl c.none
 by_characters M c (a ∷ b ∷ []) = no_trigraph_step M c a b [] refl c.none (c.of_byte b [] refl refl c.none)
 by_characters M c (a ∷ b ∷ t ∷ r) = let m = by_characters M c r in let n = by_characters M c (t ∷ r) in let k = by_characters M c (b ∷ t ∷ r) in three_step M c a b t r m n k
 
--- ---- what a trigraph stands for
+-- ---- the replacement of a trigraph
 
 record IsNoLine (t x : ℕ) : Type 0 where
   byte : eqb t 10 ≡ false
@@ -88,7 +88,7 @@ last_of other (b ∷ bs) = last_of b bs
 abbrev SameLast : List ℕ → Type 0
 SameLast bs = (l o p : ℕ) → eqb o 10 ≡ eqb p 10 → eqb (last_byte o (phase1 0 l bs)) 10 ≡ eqb (last_of p bs) 10
 
--- the character that stands for itself
+-- the character that phase 1 leaves unchanged
 byte_phase1 : (l a : ℕ) (r : List ℕ) → trigraph_at a r ≡ None → is_return a r ≡ false
     → phase1 0 l (a ∷ r) ≡ record { byte = a; line = l } ∷ phase1 0 (cond (eqb a 10) (l + 1) l) r
 byte_phase1 l a r e f = rw (e, f) refl
@@ -225,7 +225,7 @@ tail_law (a ∷ bs) =
     (pointwise nat_eq n3 (a ∷ bs)) (ends_with nat_eq bs n3) (pointwise nat_eq n4 (a ∷ bs)) (ends_with nat_eq bs n4)
     ∙ ap (λ t. is_tail (a ∷ bs) || t) (tail_law bs))
 
--- no trigraph for a backslash stands first
+-- no trigraph for a backslash comes first
 no_mark : (a b c : ℕ) (r : List ℕ) → trigraph_at a (b ∷ c ∷ r) ≡ None → (eqb 63 a && (eqb 63 b && eqb 47 c)) ≡ false
 unfolding trigraph
 no_mark a b c r h =

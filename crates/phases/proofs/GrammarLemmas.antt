@@ -151,7 +151,7 @@ unfolding longest_within
 longest_none place text zero f = refl
 longest_none place text (suc l) f = rw (f (suc l) (omega arith) (omega arith)) (longest_none place text l (λ m x y. f m x (omega arith)))
 
--- what a plain token is, by its kind and length
+-- the properties of a plain token, by its kind and length
 record IsFound (place : Place) (bs : List ℕ) (t : Kind × ℕ) : Type 0 where
   some : 0 < t.1
   room : t.1 ≤ length bs
@@ -164,7 +164,7 @@ record IsNone (place : Place) (bs : List ℕ) (t : Kind × ℕ) : Type 0 where
 plain_found : (bs : List ℕ) (k : Kind) (n : ℕ) → 0 < n → n ≤ length bs → plain_kind (take n bs) ≡ Some k → IsFound Start bs (k, n)
 plain_found bs k n p r h = record { some = p; room = r; kind = h }
 
--- the kind of a front of so many characters, of which some kinds are known to be absent
+-- the kind of a front of a given length, where some kinds are known to be absent
 kind_of_character : (text : List ℕ) → is_character text ≡ true → plain_kind text ≡ Some CharacterConstant
 kind_of_character text h = rw (sym (character_law text) ∙ h) refl
 
@@ -278,7 +278,7 @@ known_of bs c s n d p f =
 known : (bs : List ℕ) → Known bs (plain_token bs)
 known bs = known_of bs (character_len bs) (string_len bs) (name_len bs) (number_len bs) (punctuator_len bs) (fronts bs)
 
--- no longer front has a kind
+-- no front that is longer has a kind
 none_longer : (place : Place) (bs : List ℕ) (m : ℕ) → (token_front place bs).1 < m → m ≤ length bs → kind_at place (take m bs) ≡ None
 none_longer place bs m h l = none_at place (take m bs) (no_token place (take m bs) (front_longest place bs m h l))
 
@@ -340,7 +340,7 @@ token_law AfterHash bs = same_within AfterHash (λ e. absurd (cc)) bs (length bs
 token_law Elsewhere bs = same_within Elsewhere (λ e. absurd (cc)) bs (length bs) ∙ plain_law bs (known bs)
 token_law AfterInclude bs = include_law bs
 
--- ---- what is said of the longest front
+-- ---- properties of the longest front
 
 pub grammar_longest : (place : Place) (bs : List ℕ) → spec.IsLongest place bs
 grammar_longest place bs m h l = no_token place (take m bs) (front_longest place bs m (subst (λ t. t.1 < m) (token_law place bs) h) l)

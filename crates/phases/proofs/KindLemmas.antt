@@ -21,11 +21,11 @@ by_prefix P l u v b h =
       | inr t ↦ subst P (sym (eqb-true b 85 t)) v
     ]
 
--- it stands behind a prefix, of one byte or of two
+-- it follows a prefix of one byte or of two
 abbrev Behind : ℕ → List ℕ → Type 0
 Behind quote bs = (slice_index bs 0 ≡ quote) ⊎ ((slice_index bs 0 ≡ 56) × (slice_index bs 1 ≡ quote))
 
--- it stands first, or behind a prefix
+-- it comes first, or follows a prefix
 abbrev Opens : ℕ → ℕ → List ℕ → Type 0
 Opens quote b bs = (b ≡ quote) ⊎ ((is_prefix b ≡ true) × Behind quote bs)
 
@@ -57,7 +57,7 @@ two_opens false b bs p h = one_opens (is_prefix b) 34 0 b bs refl h
 string_opens : (b : ℕ) (bs : List ℕ) → is_string (b ∷ bs) ≡ true → Opens 34 b bs
 string_opens b bs h = two_opens (eqb b 117 && eqb (slice_index bs 0) 56) b bs refl h
 
--- ---- what else the first bytes may be
+-- ---- other properties of the first bytes
 
 word_at : (bs : List ℕ) (n quote : ℕ) → all_word bs ≡ true → slice_index bs n ≡ quote → 0 < quote → is_word quote ≡ true
 word_at [] n quote h e p = absurd (omega arith)

@@ -35,7 +35,7 @@ close_here close escapes escaped a s p n h = ap (λ t. to_close close escapes es
 pub close_step : (close : ℕ) (escapes escaped : Bool) (a : Cursor) (s : Step) → IsStep a s → (s.byte ≡ 10 → ⊥) → closes close escaped s.byte ≡ false → to_close close escapes escaped (bytes_at a) ≡ one_more (to_close close escapes (escapes_next escapes escaped s.byte) (bytes_at s.next))
 close_step close escapes escaped a s p n h = ap (λ t. to_close close escapes escaped (bytes_of t)) p.text_is ∙ rw (ne_eqb s.byte 10 n, h) refl
 
--- one character, and the front behind it
+-- one character, and the front after it
 pub some_after : (a : Cursor) (s : Step) (n total : ℕ) (t : Span) → IsStep a s → n ≡ t.count → Spans s.next t.count t.after → total ≡ suc n → IsSomeFront a total (record { count = 1 + t.count; after = t.after })
 some_after a s n total t p e q f =
     record { count_is = omega (arith, e, f); spans = spans_join a s.next t.after 1 t.count (spans_step a s p) q; some = omega (arith, f) }
@@ -83,7 +83,7 @@ plus_plus : (n k : ℕ) (o : Option ℕ) → plus n (plus k o) ≡ plus (n + k) 
 plus_plus n k None = refl
 plus_plus n k (Some m) = ap Some (omega arith)
 
--- one character, and a run behind it
+-- one character, and a run after it
 pub close_far : (a b : Cursor) (s : Step) (r : Span) (total : Option ℕ) (n : ℕ) (left m o : Option ℕ) → AlongClose a total n b left → IsStep b s → left ≡ one_more m → Spans s.next r.count r.after → m ≡ plus r.count o → AlongClose a total (n + (1 + r.count)) r.after o
 close_far a b s r total n left m o p q e u f =
     let x = close_more a b s total n left m p q e in

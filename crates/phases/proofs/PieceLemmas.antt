@@ -37,7 +37,7 @@ comment_more a b s total left m n p q e =
 longer_longer : (n k : ℕ) (t : Bool × ℕ) → longer n (longer k t) ≡ longer (n + k) t
 longer_longer n k t = let e : n + (k + t.1) ≡ n + k + t.1 = omega arith in ap (λ j. (t.0, j)) e
 
--- one character, and a run behind it
+-- one character, and a run after it
 pub comment_far : (a b : Cursor) (s : Step) (r : Span) (total left m o : Bool × ℕ) (n : ℕ) → AlongComment a total n b left → IsStep b s → left ≡ also m → Spans s.next r.count r.after → m ≡ longer r.count o → AlongComment a total (n + (1 + r.count)) r.after o
 comment_far a b s r total left m o n p q e u f =
     let x = comment_more a b s total left m n p q e in

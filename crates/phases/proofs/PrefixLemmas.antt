@@ -9,7 +9,7 @@ behind_below : (k n m : ℕ) → behind k n < k + m → 0 < m → n < m
 behind_below k zero m h p = p
 behind_below k (suc n) m h p = omega arith
 
--- a literal behind one byte of prefix, or none
+-- a literal after one byte of prefix, or none
 one_prefix : (t : Bool) (q least : ℕ) (b : ℕ) (bs : List ℕ) (m : ℕ) → behind (cond t 1 0) (enclosed q q least true (drop (cond t 1 0) (b ∷ bs))) < suc m → m ≤ length bs → is_enclosed q q least true (drop (cond t 1 0) (b ∷ take m bs)) ≡ false
 one_prefix true q least b bs m h l =
     enclosed_longest q q least true bs m (λ p. behind_below 1 (enclosed q q least true bs) m (let e : suc m ≡ 1 + m = omega arith in subst (λ k. behind 1 (enclosed q q least true bs) < k) e h) p) l

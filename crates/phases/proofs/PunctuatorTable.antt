@@ -131,7 +131,7 @@ or_false : (t : Bool) → (t || false) ≡ t
 or_false true = refl
 or_false false = refl
 
--- behind a first byte that is known
+-- after a first byte that is known
 three_dots : (b c : Bool) → ((b && c) || false) ≡ (b && (c || false))
 three_dots true c = refl
 three_dots false c = refl

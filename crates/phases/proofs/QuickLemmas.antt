@@ -1,4 +1,4 @@
--- Laws of pieces that are seen from the bytes alone.
+-- Laws of pieces that the raw bytes alone determine.
 use Rattle.std.proofs.Common.{◌≡◌, ℕ, suc, slice_index, ◌+◌, eqb, leb, ltb, ◌&&◌, Bool, true, false, not, cond, List, [], ◌∷◌, ◌++◌, length, take, drop, refl, sym, ap, ◌∙◌, subst, arith, inl, inr}
 use Rattle.std.specs.Prelude.{codes}
 use Rattle.std.proofs.lemmas.Bool.{cases_Bool, and_parts, and_cases, and_left, and_right, or_parts, or_cases, eqb-true, ne_eqb, both_ways, not-true, leb-true, lt-ltb, lt-leb}
@@ -49,7 +49,7 @@ token_front_is AfterInclude b bs k n g e =
 front_is : (place : Place) (b : ℕ) (bs : List ℕ) (k : Kind) (n : ℕ) → Begins b → plain_token (b ∷ bs) ≡ (k, suc n) → front place b bs ≡ (Word k, suc n)
 front_is place b bs k n g e = rw (g.line, g.white, g.slash) (ap word_piece (token_front_is place b bs k n g e))
 
--- a word with no quote behind it is no prefix
+-- a word that no quote follows is no prefix
 no_quote : (q least : ℕ) (bs : List ℕ) → is_word q ≡ false → eqb (slice_index (drop (word_len bs) bs) 0) q ≡ false → enclosed q q least true bs ≡ 0
 no_quote q least [] w h = refl
 no_quote q least (c ∷ bs) w h =
@@ -114,7 +114,7 @@ number_front place b bs h =
     let n : number_len (b ∷ bs) ≡ suc (number_more b bs) = rw h refl in
     front_is place b bs Number (number_more b bs) g (numbered (character_len (b ∷ bs)) (string_len (b ∷ bs)) (name_len (b ∷ bs)) (number_len (b ∷ bs)) (number_more b bs) (punctuator_len (b ∷ bs)) w.character w.string w.name n)
 
--- the bytes behind the first that a run of the raw bytes is, and the sure byte that ends it
+-- the raw bytes of a run after its first byte, and the sure byte that ends it
 after_run : (a b : Cursor) (e : Step) (f : List ℕ) (n : ℕ) → bytes_at a ≡ f ++ bytes_at b → IsSureStep b e → bytes_at a ≡ f ++ e.byte ∷ bytes_at e.next
 after_run a b e f n p s = p ∙ ap (λ t. f ++ t) (ap bytes_of (sure_step b e s).text_is)
 
@@ -148,7 +148,7 @@ number_piece place a b s e n p l m r i u =
     let v : number_more s.byte (bytes_at s.next) ≡ n = ap (number_more s.byte) y ∙ w in
     piece_of a b s n Number (front place s.byte (bytes_at s.next)) p (run_spans s.next b f n g (split s.next b n r) i k) (number_front place s.byte (bytes_at s.next) l ∙ ap (λ j. (Word Number, suc j)) v)
 
--- what these two do not begin
+-- nothing of these kinds begins with these two bytes
 record Alone (b c : ℕ) : Type 0 where
   pub line : (eqb b 47 && eqb c 47) ≡ false
   pub comment : (eqb b 47 && eqb c 42) ≡ false

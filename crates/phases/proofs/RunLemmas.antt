@@ -139,7 +139,7 @@ ordinary_block stop count k bs m e room h =
     let q = ordinary_passes stop k (drop count bs) (rw (length-drop count bs) room) o in
     omega (arith, e, q, ap (ordinary_len stop) (drop-drop k count bs))
 
--- the front, and what is counted behind it
+-- the front, and the count of the bytes after it
 pub ordinary_rest : (stop count : ℕ) (bs : List ℕ) (n : ℕ) → n ≡ ordinary_len stop (take (length bs - count) (drop count bs)) → ordinary_len stop bs ≡ count + ordinary_len stop (drop count bs) → count + n ≤ length bs
 ordinary_rest stop count bs n r e =
     let t : take (length bs - count) (drop count bs) ≡ drop count bs = take_all (length bs - count) (drop count bs) (rw (length-drop count bs) (omega arith)) in

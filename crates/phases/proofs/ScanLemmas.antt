@@ -39,7 +39,7 @@ abbrev token_in : ℕ → Bool → ℕ → Piece → ℕ → List Char → Token
 token_in file space line p n cs =
     record { kind = kind_of p; spelling = take n (bytes_of cs); space_before = space; pos = record { file = file; line = line } }
 
--- what a text holds, by its first piece
+-- the contents of a text, by its first piece
 abbrev by_piece : ℕ → Place → Bool → ℕ → Piece → ℕ → List Char → List Char → Found
 by_piece file place space line p n cs rest =
     with_piece p (token_in file space line p n cs) (found file 0 (place_after p place (take n (bytes_of cs))) (space_after p) rest)

@@ -21,13 +21,13 @@ copied_all a b copy n p e h =
     let t : bytes_at a ≡ copy = ap bytes_of p.reads.text_is ∙ rw (map-append, e, append-nil) (sym p.copy_is) in
     rw t (sym (take_all n copy h))
 
--- as many as were asked for
+-- as many as were requested
 pub copied_count : (a b : Cursor) (copy : List ℕ) (n : ℕ) → Copied a copy b → length copy ≡ n → copy ≡ take n (bytes_at a)
 copied_count a b copy n p e =
     let t : bytes_at a ≡ copy ++ bytes_at b = ap bytes_of p.reads.text_is ∙ rw map-append (ap (λ x. x ++ bytes_at b) (sym p.copy_is)) in
     rw t (sym (take_at copy (bytes_at b) n e))
 
--- where each character takes one byte, the bytes are lent
+-- where each character takes one byte, the bytes are borrowed
 pub lent : (a b : Cursor) (n : ℕ) → Spans a n b → length a.rest.now ≡ n + length b.rest.now → take n a.rest.now ≡ take n (bytes_at a)
 lent a b n p e =
     let h : length a.rest.now ≡ length p.front + length b.rest.now = omega (arith, p.count) in

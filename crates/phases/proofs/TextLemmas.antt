@@ -37,7 +37,7 @@ not_or false true c d h = absurd (cc)
 not_or false false true d h = absurd (cc)
 not_or false false false true h = absurd (cc)
 
--- a plain byte stands for itself
+-- a plain byte denotes itself
 pub plain_first : (l b : ℕ) (bs : List ℕ) → is_plain b ≡ true → logical l (b ∷ bs) ≡ record { byte = b; line = l } ∷ logical l bs
 plain_first l b bs p =
     let h = not_or (eqb b 63) (eqb b 92) (eqb b 13) (eqb b 10) p in

@@ -10,7 +10,7 @@ use Rattle.phases.specs.inside.Lexical.{is_digit, is_letter, is_word, word_len, 
 use Rattle.phases.specs.inside.Grammar.{all_word, is_identifier, continues, is_number, closes_last, is_enclosed, is_character, is_string, is_header, is_punctuator, is_of, IsWhole, IsWholeFront}
 use Rattle.phases.proofs.PunctuatorLemmas.{no_zero_second}
 
--- so many characters are there, and they are a token by this test
+-- there are `n` characters, and they are a token by this test
 pub record Good (test : List ℕ → Bool) (bs : List ℕ) (n : ℕ) : Type 0 where
   pub room : n ≤ length bs
   pub holds : test (take n bs) ≡ true
@@ -84,7 +84,7 @@ enclosed_good first close least escapes (b ∷ bs) h =
     let o = to_close close escapes false bs in
     elim (cases_Bool (eqb b first)) [ inl t ↦ subst (λ k. Good (is_enclosed first close least escapes) (b ∷ bs) (cond k (closed_over least o) 0)) (sym t) (over_good first close least escapes b bs o t (close_good close escapes false bs) (subst (λ k. 0 < cond k (closed_over least o) 0) t h)) | inr t ↦ absurd (let g : 0 < 0 = subst (λ k. 0 < cond k (closed_over least o) 0) t h in omega arith) ]
 
--- a literal behind its prefix
+-- a literal after its prefix
 behind_good : (k e : ℕ) (test : List ℕ → Bool) (bs : List ℕ) (whole : List ℕ → Bool) → 0 < behind k e → (0 < e → Good test (drop k bs) e) → ((m : ℕ) → 0 < m → m ≤ length (drop k bs) → test (take m (drop k bs)) ≡ true → Good whole bs (k + m)) → Good whole bs (behind k e)
 behind_good k zero test bs whole h f g = absurd (omega arith)
 behind_good k (suc e) test bs whole h f g =

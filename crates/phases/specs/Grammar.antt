@@ -18,7 +18,7 @@ abbrev pub is_identifier : List ℕ → Bool
 is_identifier [] = false
 is_identifier (b ∷ bs) = is_letter b && all_word bs
 
--- preprocessing numbers, 6.4.8: how one goes on after the byte `last`
+-- preprocessing numbers, 6.4.8: how one continues after the byte `last`
 abbrev pub goes_on : ℕ → ℕ → Bool
 goes_on last b = is_word b || (b == byte ".") || (is_sign b && is_exponent last)
 
@@ -42,7 +42,7 @@ abbrev pub is_empty : List ℕ → Bool
 is_empty [] = true
 is_empty (b ∷ bs) = false
 
--- what stands behind the opening quote of a literal (6.4.4.4, 6.4.5): the closing quote, and then nothing; or a backslash
+-- the bytes after the opening quote of a literal (6.4.4.4, 6.4.5): the closing quote, and then nothing; or a backslash
 -- and any byte, and so on; or any other byte, and so on. No newline is among them
 abbrev mutual
   pub closes_quote : ℕ → List ℕ → Bool
@@ -57,7 +57,7 @@ abbrev mutual
   escapes quote [] = false
   escapes quote (b ∷ bs) = if b == newline then false else closes_quote quote bs
 
--- a quote and what it opens, which has more than `least` bytes
+-- a quote and the bytes after it through the closing quote, which are more than `least`
 abbrev pub is_quoted : ℕ → ℕ → List ℕ → Bool
 is_quoted quote least [] = false
 is_quoted quote least (b ∷ bs) = (b == quote) && (nat_lt least (length bs) && closes_quote quote bs)
@@ -78,7 +78,7 @@ string_prefix (b ∷ bs) = if (b == byte "u") && (slice_index bs 0 == byte "8") 
 abbrev pub is_string : List ℕ → Bool
 is_string bs = is_quoted double_quote 0 (drop (string_prefix bs) bs)
 
--- what stands behind the opening bracket or quote of a header name (6.4.7): the closing one, and then nothing; or any
+-- the bytes after the opening bracket or quote of a header name (6.4.7): the closing one, and then nothing; or any
 -- other byte but a newline, and so on
 abbrev pub closes_header : ℕ → List ℕ → Bool
 closes_header close [] = false
@@ -109,7 +109,7 @@ punctuators =
 abbrev pub is_punctuator : List ℕ → Bool
 is_punctuator text = list_any (bytes_eq text) punctuators
 
--- the text is no token of any kind that may stand at this place
+-- the text is no token of any kind that may occur at this place
 pub record IsNoToken (place : Place) (text : List ℕ) : Type 0 where
   pub no_identifier : is_identifier text ≡ false
   pub no_number : is_number text ≡ false
@@ -122,7 +122,7 @@ abbrev pub if_kind : Bool → Kind → Option Kind → Option Kind
 if_kind true k other = Some k
 if_kind false k other = other
 
--- the kind of a whole text; what could be a header name or a string literal is a header name where one may stand
+-- the kind of a whole text; a text that could be a header name or a string literal is a header name where one may occur
 abbrev pub plain_kind : List ℕ → Option Kind
 plain_kind text =
     if_kind (is_character text) CharacterConstant (if_kind (is_string text) StringLiteral (if_kind (is_identifier text) Identifier
@@ -169,7 +169,7 @@ is_of HeaderName text = is_header text
 is_of Punctuator text = is_punctuator text
 is_of Other text = is_one text
 
--- so long a front is there, and it is a token of this kind
+-- there is a front of this length, and it is a token of this kind
 pub record IsWhole (t : Kind × ℕ) (text : List ℕ) : Type 0 where
   pub some : 0 < t.1
   pub room : t.1 ≤ length text

@@ -4,8 +4,8 @@ use Rattle.phases.specs.declared.token.Kind.{Kind}
 use Rattle.phases.specs.declared.token.Kind.TheVariants.{Identifier, Number, CharacterConstant, StringLiteral, HeaderName, Punctuator, Other}
 use Rattle.phases.specs.Grammar.{is_of}
 
--- the kinds of 6.4 that may stand at each place. A header name in quotes may be the text of a string literal too, and stands
--- only after `# include` (6.4.7); a character of the kind Other is what is left
+-- the kinds of 6.4 that may occur at each place. A header name in quotes may also be the text of a string literal, and occurs
+-- only after `# include` (6.4.7); every remaining character has the kind Other
 abbrev pub is_plain : Kind → Bool
 is_plain Identifier = true
 is_plain Number = true

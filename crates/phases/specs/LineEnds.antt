@@ -1,4 +1,4 @@
--- Where the token lines of a file end: behind such a line the numbering of #line begins (ISO/IEC 9899:2011 6.10.4).
+-- Where the token lines of a file end: after such a line the numbering of #line begins (ISO/IEC 9899:2011 6.10.4).
 use Rattle.std.specs.Prelude.{◌≡◌, ℕ, zero, suc, ◌-◌, List, [], ◌∷◌, take, codes, refl}
 use Rattle.phases.specs.declared.token.Piece.{Piece}
 use Rattle.phases.specs.declared.token.Piece.TheVariants.{Newline}

@@ -27,7 +27,7 @@ abbrev pub ends_comment : List ℕ → Bool
 ends_comment [] = false
 ends_comment (b ∷ bs) = (b == byte "*") && (slice_index bs 0 == byte "/")
 
--- `*/` stands somewhere in the text
+-- `*/` occurs somewhere in the text
 abbrev pub has_comment_end : List ℕ → Bool
 has_comment_end [] = false
 has_comment_end (b ∷ bs) = ends_comment (b ∷ bs) || has_comment_end bs
@@ -36,7 +36,7 @@ abbrev pub further : Option ℕ → Option ℕ
 further None = None
 further (Some n) = Some (suc n)
 
--- how many characters stand before the first `*/`, if there is one
+-- the number of characters before the first `*/`, if there is one
 abbrev pub body_len : List ℕ → Option ℕ
 body_len [] = None
 body_len (b ∷ bs) = if ends_comment (b ∷ bs) then Some 0 else further (body_len bs)
@@ -53,7 +53,7 @@ word_piece t = (Word t.0, t.1)
 abbrev pub opens : ℕ → ℕ → List ℕ → Bool
 opens second b bs = (b == byte "/") && (slice_index bs 0 == second)
 
--- what stands at the front of a text, by its first byte and the rest, and how long it is
+-- the piece at the front of a text, by its first byte and the rest, and its length
 abbrev pub piece_at : Place → ℕ → List ℕ → Piece × ℕ
 piece_at place b bs =
     if b == newline then (Newline, 1)
@@ -69,7 +69,7 @@ AreComments place body rest =
     → (piece_at place (byte "/") (byte "*" ∷ body ++ byte "*" ∷ byte "/" ∷ rest) ≡ (Gap, suc (suc (suc (suc (length body))))))
     × (piece_at place (byte "/") (byte "*" ∷ body) ≡ (Unclosed, suc (suc (length body))))
 
--- where the next token stands
+-- the place of the next token
 abbrev pub after_first : List ℕ → Place
 after_first s = if bytes_eq s (codes "#") || bytes_eq s (codes "%:") then AfterHash else Elsewhere
 
@@ -123,7 +123,7 @@ abbrev pub kind_of : Piece → Kind
 kind_of (Word k) = k
 kind_of _ = Other
 
--- what a text holds; its first `skip` characters belong to the piece before
+-- the contents of a text; its first `skip` characters belong to the piece before
 unfoldable pub found : ℕ → ℕ → Place → Bool → List Char → Found
 found file skip place space [] = nothing
 found file (suc k) place space (c ∷ cs) = found file k place space cs

@@ -12,7 +12,7 @@ abbrev pub token_of : Kind → CowSlice ℕ Global → Bool → Pos → Token
 token_of kind spelling space_before pos =
     record { kind = kind; spelling = cow_slice_items spelling; space_before = space_before; pos = pos }
 
--- the bytes are lent, not owned
+-- the bytes are borrowed, not owned
 abbrev pub is_lent : CowSlice ℕ Global → Bool
 is_lent (Borrowed bytes) = true
 is_lent (Owned bytes) = false

@@ -8,7 +8,7 @@ pub record Char : Type 0 where
   pub byte : ℕ
   pub line : ℕ
 
--- what two question marks and this byte stand for (5.2.1.1)
+-- the character that two question marks and this byte denote (5.2.1.1)
 unfoldable pub trigraph : ℕ → Option ℕ
 trigraph c =
     if c == byte "=" then Some (byte "#") else if c == byte "(" then Some (byte "[") else if c == byte "/" then Some backslash
@@ -60,7 +60,7 @@ abbrev pub unless : Bool → Char → List Char → List Char
 unless true c cs = cs
 unless false c cs = c ∷ cs
 
--- phase 2: each backslash at the end of a line goes, with the end of the line
+-- phase 2: each backslash at the end of a line is deleted, with the end of the line
 abbrev pub phase2 : ℕ → List Char → List Char
 phase2 skip [] = []
 phase2 (suc k) (c ∷ cs) = phase2 k cs
@@ -73,12 +73,12 @@ logical line bytes = phase2 0 (phase1 0 line bytes)
 abbrev pub bytes_of : List Char → List ℕ
 bytes_of cs = map (λ c. c.byte) cs
 
--- the line behind these bytes, which begin on this line
+-- the line after these bytes, which begin on this line
 abbrev pub line_after : ℕ → List ℕ → ℕ
 line_after line [] = line
 line_after line (b ∷ bs) = line_after (if b == newline then line + 1 else line) bs
 
--- the line on which the last byte stands
+-- the line of the last byte
 abbrev pub last_line : List ℕ → ℕ
 last_line bytes = line_after 1 (take (length bytes - 1) bytes)
 

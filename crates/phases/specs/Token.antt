@@ -1,9 +1,9 @@
--- A preprocessing token, without where its text lies in memory.
+-- A preprocessing token, without the location of its text in memory.
 use Rattle.std.specs.Prelude.{ℕ, Bool, List}
 use Rattle.srcset.specs.declared.refusal.Pos.{Pos}
 use Rattle.phases.specs.declared.token.Kind.{Kind}
 
--- a preprocessing token: its kind, its text, whether white space stands before it on its line, and its place
+-- a preprocessing token: its kind, its text, whether white space precedes it on its line, and its place
 pub record Token : Type 0 where
   pub kind : Kind
   pub spelling : List ℕ

@@ -3,7 +3,7 @@ ghost use Rattle.std.specs.Prelude.{◌≡◌};
 ghost use Rattle.phases.specs.inside.Lexical.{is_letter, is_single, is_white, is_word};
 ghost use Rattle.phases.specs.inside.Runs.{is_sure};
 
-// It goes on with a word.
+// It continues a word.
 const WORD: u8 = 1;
 
 // It begins a name.

@@ -1,4 +1,4 @@
-//! Places in a file, and what stands there in its logical text.
+//! Places in a file, and the logical text at each.
 ghost use Rattle.std.specs.Prelude.{◌+◌, ◌<◌, ◌^◌, length};
 
 use crate::classes::{is_letter, is_single, is_sure, is_white, is_word};
@@ -12,7 +12,7 @@ use crate::token::{Kind, Piece, Place};
 use std::alloc::{AllocError, Global};
 use std::borrow::CowSlice;
 
-/// A place in a file: the bytes that are left, and the line of the first of them.
+/// A place in a file: the remaining bytes, and the line of the first of them.
 #[derive(Clone, Copy)]
 pub struct Cursor<'a> {
     pub(crate) rest: &'a [u8],
@@ -20,7 +20,7 @@ pub struct Cursor<'a> {
     ghost room: { line + length rest.now < 2 ^ 32 },
 }
 
-/// The first character of a text, its line, and the place behind it.
+/// The first character of a text, its line, and the place after it.
 #[derive(Clone, Copy)]
 pub struct Step<'a> {
     pub(crate) byte: u8,
@@ -28,7 +28,7 @@ pub struct Step<'a> {
     pub(crate) next: Cursor<'a>,
 }
 
-/// A front of a text: how many characters, and the place behind them.
+/// A front of a text: the number of its characters, and the place after them.
 #[derive(Clone, Copy)]
 pub struct Span<'a> {
     pub(crate) count: usize,
@@ -42,7 +42,7 @@ pub struct Lexeme<'a> {
     pub(crate) span: Span<'a>,
 }
 
-/// What stands at the front of a text.
+/// The piece at the front of a text.
 #[derive(Clone, Copy)]
 pub struct Front<'a> {
     pub(crate) piece: Piece,
@@ -56,8 +56,8 @@ pub struct Comment<'a> {
     pub(crate) span: Span<'a>,
 }
 
-/// How many characters from some place on hold no quote that opens a literal, since none of them is closed
-/// on its line. Kept so that no line is searched again and again.
+/// How many characters from some place on contain no quote that opens a literal, since none of them is closed
+/// on its line. Stored so that no line is searched repeatedly.
 #[derive(Clone, Copy)]
 pub struct Hopeless {
     pub(crate) single: usize,
@@ -103,7 +103,7 @@ impl<'a> Cursor<'a> {
         })
     }
 
-    /// The place behind the splices here.
+    /// The place after the splices here.
     pub(crate) fn past_splices(self) -> Cursor<'a>
         ensures skips { Skips self.entry result }
         ensures past { IsPastSplices result }
@@ -118,14 +118,14 @@ impl<'a> Cursor<'a> {
         at
     }
 
-    // The first character, where splices or trigraphs may stand before it.
+    // The first character, where splices or trigraphs may precede it.
     fn read_slowly(self) -> Option<Step<'a>>
         ensures { MatchOption result (text_at self.entry ≡ []) (IsStep self.entry) }
     {
         self.past_splices().mapped()
     }
 
-    /// The first character, where its byte alone says what it is.
+    /// The first character, where its byte alone determines it.
     #[inline(always)]
     pub(crate) fn read_sure(self) -> Option<Step<'a>>
         ensures { MatchOption result (Unit {0}) (IsSureStep self.entry) }
@@ -163,7 +163,7 @@ impl<'a> Cursor<'a> {
     ghost use Rattle.std.specs.Prelude.{◌≡◌, ◌≤◌, drop, length};
     ghost use Rattle.phases.specs.inside.Runs.{IsRun, IsWhiteRun};
 
-    /// The place so many bytes further on, on the same line.
+    /// The place `count` bytes further on, on the same line.
     #[inline(always)]
     pub(crate) fn past(self, count: usize) -> Cursor<'a>
         requires { count ≤ length self.rest.now }
@@ -333,7 +333,7 @@ impl<'a> Cursor<'a> {
         })
     }
 
-    // What `first` opens and `close` closes, if more than `least` characters are behind `first`.
+    // The text that `first` opens and `close` closes, if more than `least` characters follow `first`.
     #[inline(always)]
     fn enclosed(self, first: u8, close: u8, least: usize, escapes: bool) -> Option<Span<'a>>
         ensures { MatchOption result (enclosed first close least escapes (bytes_at self.entry) ≡ 0) (IsSomeFront self.entry (enclosed first close least escapes (bytes_at self.entry))) }
@@ -397,7 +397,7 @@ impl<'a> Cursor<'a> {
         })
     }
 
-    // The next character and the place behind it, or 0 and this place at the end.
+    // The next character and the place after it, or 0 and this place at the end.
     #[inline(always)]
     pub(crate) fn ahead(self) -> Step<'a>
         ensures { IsAhead self.entry result }
@@ -573,7 +573,7 @@ impl<'a> Cursor<'a> {
         }
     }
 
-    // The longest token here, where a header name may stand.
+    // The longest token here, where a header name may occur.
     fn header_or_token(self, first: Step<'a>, hopeless: Hopeless) -> Lexeme<'a>
         requires step { IsStep self first }
         requires hopeless { IsHopeless hopeless (bytes_at self) }
@@ -664,7 +664,7 @@ impl<'a> Cursor<'a> {
         }
     }
 
-    // The comment that begins with the slash `first` and the star behind it.
+    // The comment that begins with the slash `first` and the star after it.
     fn comment_front(self, first: Step<'a>) -> Front<'a>
         requires step { IsStep self first }
         requires opened { opens 42 first.byte (bytes_at first.next) ≡ true }
@@ -689,7 +689,7 @@ impl<'a> Cursor<'a> {
         }
     }
 
-    /// What stands here.
+    /// The piece here.
     pub(crate) fn front(self, place: Place, first: Step<'a>, hopeless: Hopeless) -> Front<'a>
         requires step { IsStep self first }
         requires hopeless { IsHopeless hopeless (bytes_at self) }
@@ -787,7 +787,7 @@ impl<'a> Cursor<'a> {
         })
     }
 
-    // The punctuator of one or two characters here, where no header name may stand.
+    // The punctuator of one or two characters here, where no header name may occur.
     #[inline(always)]
     fn quick_punctuator(self, first: Step<'a>) -> Option<Front<'a>>
         requires step { IsStep self first }
@@ -839,7 +839,7 @@ impl<'a> Cursor<'a> {
         }
     }
 
-    /// What stands here, where the bytes alone show it.
+    /// The piece here, where the raw bytes alone determine it.
     #[inline(always)]
     pub(crate) fn quick(self, place: Place, first: Step<'a>) -> Option<Front<'a>>
         requires step { IsStep self first }
@@ -872,7 +872,7 @@ impl<'a> Cursor<'a> {
     ghost use Rattle.phases.specs.inside.Closing.{unclosed_for, IsHopeless};
     ghost use Rattle.phases.specs.inside.Reading.{bytes_at, IsStep};
 
-    // How many characters from here on hold no such quote that is closed, of which `known` is known.
+    // How many characters from here on contain no such quote that is closed; `known` of them are known.
     #[inline(always)]
     fn hopeless_of(self, first: Step<'a>, quote: u8, known: usize) -> usize
         requires step { IsStep self first }
@@ -888,7 +888,7 @@ impl<'a> Cursor<'a> {
         }
     }
 
-    /// What is known from here on, after a look at the first character.
+    /// Updates the knowledge about unclosed quotes after a look at the first character.
     #[inline(always)]
     pub(crate) fn hopeless(self, first: Step<'a>, known: Hopeless) -> Hopeless
         requires step { IsStep self first }
@@ -924,7 +924,7 @@ impl<'a> Cursor<'a> {
         Ok(copy)
     }
 
-    /// The spelling of a token that begins here. It is lent where each character takes one byte.
+    /// The spelling of a token that begins here. It is borrowed where each character takes one byte.
     #[inline(always)]
     pub(crate) fn spelled(
         self,

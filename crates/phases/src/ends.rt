@@ -16,7 +16,7 @@ use crate::scanning::next_place;
 use crate::token::{Piece, Place};
 use std::alloc::{AllocError, Global};
 
-// What stands here, by the bytes alone where they show it.
+// The piece here, by the raw bytes alone where they determine it.
 #[inline(always)]
 fn front_at<'a>(at: Cursor<'a>, place: Place, first: Step<'a>, hopeless: Hopeless) -> Front<'a>
     requires step { IsStep at first }
@@ -29,7 +29,7 @@ fn front_at<'a>(at: Cursor<'a>, place: Place, first: Step<'a>, hopeless: Hopeles
     at.front(place, first, hopeless)
 }
 
-// Where the token behind this piece stands.
+// The place of the token after this piece.
 #[inline(always)]
 fn place_behind<'a>(
     alloc: Global,
@@ -67,7 +67,7 @@ fn add_end(ends: &mut Vec<u32>, piece: Piece, line: u32) -> Result<(), AllocErro
     }
 }
 
-/// The physical line on which each token line of a file ends, counted from 1, for a file of at most 1,048,576 bytes. Behind
+/// The physical line on which each token line of a file ends, counted from 1, for a file of at most 1,048,576 bytes. After
 /// such a line the numbering of `#line` begins (ISO/IEC 9899:2011 6.10.4). It reads any bytes, also those for which `scan` has
 /// a fault: a last line with no end has no number then. Fails only where memory runs out.
 pub fn end_lines(alloc: Global, bytes: &[u8]) -> Result<Vec<u32>, AllocError>

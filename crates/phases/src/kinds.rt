@@ -1,4 +1,4 @@
-//! The kind of a text that is one whole preprocessing token, as the operators `#` and `##` ask it of the texts that they make
+//! The kind of a text that is one whole preprocessing token, as the operators `#` and `##` need it for the texts that they make
 //! (ISO/IEC 9899:2011 6.10.3.2, 6.10.3.3).
 ghost use Rattle.std.specs.Prelude.{◌≡◌, drop};
 ghost use Rattle.phases.specs.Grammar.{all_word, is_identifier, continues, is_number, is_character, is_string, is_punctuator, plain_kind, character_prefix, string_prefix, is_quoted, closes_quote};
@@ -30,7 +30,7 @@ fn is_identifier(text: &[u8]) -> bool
     }
 }
 
-// Whether a preprocessing number goes on with all bytes, behind the byte `first`.
+// Whether a preprocessing number continues with all bytes, after the byte `first`.
 fn continues(first: u8, bytes: &[u8]) -> bool
     ensures { result ≡ continues first bytes.now }
 {
@@ -56,12 +56,12 @@ fn is_number(text: &[u8]) -> bool
     }
 }
 
-/// What a quote, and what stands behind it, have come to.
+/// The state of a literal after its quote and the bytes read so far.
 #[derive(Clone, Copy, PartialEq, Eq)]
 pub(crate) enum Quote {
     /// It is not closed.
     Open,
-    /// It is not closed, and a backslash stands last.
+    /// It is not closed, and the last byte is a backslash.
     Escaped,
     /// It is closed by the last byte.
     Closed,
@@ -69,7 +69,7 @@ pub(crate) enum Quote {
     Broken,
 }
 
-// What it comes to with one more byte.
+// The state after one more byte.
 fn quote_after(state: Quote, quote: u8, byte: u8) -> Quote
     ensures { result ≡ quote_after state quote byte }
 {
@@ -92,7 +92,7 @@ fn quote_after(state: Quote, quote: u8, byte: u8) -> Quote
     }
 }
 
-// Whether the closing quote stands last, and only there.
+// Whether the closing quote is the last byte, and occurs only there.
 fn closes_quote(quote: u8, bytes: &[u8]) -> bool
     ensures { result ≡ closes_quote quote bytes.now }
 {
@@ -179,8 +179,8 @@ fn is_of_signs(text: &[u8]) -> bool
     }
 }
 
-/// The kind of a text that is one whole preprocessing token, or `None` where it is none. The text is taken as it
-/// stands: trigraphs and splices are none here. No text is a header name, or of the kind `Other`.
+/// The kind of a text that is one whole preprocessing token, or `None` where it is none. The text is taken
+/// literally: it has no trigraphs and splices here. No text is a header name, or of the kind `Other`.
 pub fn token_kind(text: &[u8]) -> Option<Kind>
     ensures { result ≡ plain_kind text.now }
 {

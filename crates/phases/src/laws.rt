@@ -1,4 +1,4 @@
-//! A law of the grammar, for proofs about what is built on it. The function does nothing: it has a contract so that the law is
+//! A law of the grammar, for proofs of the layers above. The function does nothing: it has a contract so that the law is
 //! proved.
 ghost use Rattle.phases.specs.Kinds.{KindsExclude};
 

@@ -30,7 +30,7 @@ fn is_exponent(byte: u8) -> bool
     byte == b'e' || byte == b'E' || byte == b'p' || byte == b'P'
 }
 
-// Whether a preprocessing number goes on with `byte` after `last`.
+// Whether a preprocessing number continues with `byte` after `last`.
 #[inline(always)]
 pub(crate) fn goes_on(last: u8, byte: u8) -> bool
     ensures { result ≡ goes_on last byte }
@@ -45,7 +45,7 @@ pub(crate) fn is_prefix(byte: u8) -> bool
     byte == b'L' || byte == b'u' || byte == b'U'
 }
 
-// Whether `byte` closes what `close` closes, after a backslash or not.
+// Whether `byte` is the closing `close`, after a backslash or not.
 #[inline(always)]
 pub(crate) fn closes(close: u8, escaped: bool, byte: u8) -> bool
     ensures { result ≡ closes close escaped byte }

@@ -1,4 +1,4 @@
-//! Token lines, one behind another in one list.
+//! Token lines, one after another in one list.
 ghost use Rattle.std.specs.Prelude.{◌≡◌, ◌≤◌, ◌==◌, [], ◌∷◌, ◌++◌, length, slice_get, IfOk, OnOk, option_map};
 ghost use Rattle.std.specs.List.{flat_map};
 ghost use Rattle.phases.specs.inside.Cut.{line_start};
@@ -9,7 +9,7 @@ use std::alloc::{AllocError, Global};
 use std::marker::Model;
 
 /// The token lines of a file: each holds the tokens up to the next end of a line that lies in no comment. A line
-/// with no token is empty, not absent. All tokens lie in one list, and a line is one number beside it.
+/// with no token is empty, not absent. All tokens lie in one list, and each line adds one number to another list.
 #[derive(Drop)]
 pub struct Lines<'a> {
     // The tokens of all lines, in their order.
@@ -49,7 +49,7 @@ impl<'a> Lines<'a> {
         self.ends.len()
     }
 
-    /// The tokens of the line with this number, counted from 0. `None` where there are not so many lines.
+    /// The tokens of the line with this number, counted from 0. `None` where there are not that many lines.
     pub fn get(&self, index: usize) -> Option<&[PpToken<'a>]>
         ensures { option_map (λ line. line.now) result ≡ slice_get self.now index }
     {
@@ -73,12 +73,12 @@ impl<'a> Lines<'a> {
     }
 }
 
-/// Token lines that are being made.
+/// Token lines under construction.
 #[derive(Drop)]
 pub struct LineBuilder<'a> {
     tokens: Vec<PpToken<'a>>,
     ends: Vec<usize>,
-    // How many tokens stand in ended lines.
+    // The number of tokens in ended lines.
     start: usize,
 }
 
@@ -94,7 +94,7 @@ impl<'a> Model for LineBuilder<'a> {
 }
 
 impl<'a> LineBuilder<'a> {
-    /// No line, and room for so many tokens.
+    /// No line, and room for `room` tokens.
     pub(crate) fn new(alloc: Global, room: usize) -> Result<LineBuilder<'a>, AllocError>
         ensures ok { IfOk result (λ builder. builder ≡ record { lines = []; line = [] }) }
     {
@@ -107,7 +107,7 @@ impl<'a> LineBuilder<'a> {
         })
     }
 
-    /// Puts a token last on the line.
+    /// Appends a token to the line.
     #[inline(always)]
     pub(crate) fn push(&mut self, token: PpToken<'a>) -> Result<(), AllocError>
         ensures ok { OnOk result (self.new ≡ record { lines = self.old.lines; line = self.old.line ++ token.entry ∷ [] }) }

@@ -16,7 +16,7 @@ use crate::scanner::Scanner;
 use srcset::{Code, Fault, Names, Pos, Refusal};
 use std::alloc::Global;
 
-// The line behind these bytes, which begin on line 1.
+// The line after these bytes, which begin on line 1.
 fn line_behind(bytes: &[u8]) -> u32
     requires { length bytes.now < 2 ^ 31 }
     ensures { result ≡ line_after 1 bytes.now }
@@ -30,7 +30,7 @@ fn line_behind(bytes: &[u8]) -> u32
     line
 }
 
-// The line on which the last byte stands.
+// The line of the last byte.
 fn last_line(bytes: &[u8]) -> u32
     requires { length bytes.now < 2 ^ 31 }
     ensures { result ≡ last_line bytes.now }
@@ -62,7 +62,7 @@ fn ends_spliced(bytes: &[u8]) -> bool
     backslash | (backslash_return | (trigraph | trigraph_return))
 }
 
-// What is known so many characters further on.
+// The same knowledge, `count` characters further on.
 pub(crate) fn behind(known: Hopeless, count: usize) -> Hopeless
     ensures single { result.single ≡ known.single - count }
     ensures double { result.double ≡ known.double - count }
@@ -96,7 +96,7 @@ fn token_lines<'a>(alloc: Global, start: Cursor<'a>, file: usize) -> Result<Line
     scanner.end_file()
 }
 
-/// The token lines of a file, as `scan` gives them; a refusal names no file, and takes no memory.
+/// The token lines of a file, as `scan` returns them; an error names no file, and allocates nothing.
 pub fn try_scan<'a>(alloc: Global, bytes: &'a [u8], file: usize) -> Result<Lines<'a>, Refusal>
     requires { length bytes.now ≤ max_file_bytes }
     ensures ok { IfOk result (λ lines. scanned file bytes.now ≡ Ok lines) }
@@ -136,14 +136,14 @@ pub fn try_scan<'a>(alloc: Global, bytes: &'a [u8], file: usize) -> Result<Lines
 /// most 1,048,576 bytes. `file` is the number of its name in `names`.
 ///
 /// A line ends in a line feed, or in a carriage return and a line feed. Comments and white space are no
-/// tokens; they show in the marks of the tokens behind them. A line with no token is empty, not absent.
+/// tokens; they show in the marks of the tokens after them. A line with no token is empty, not absent.
 ///
-/// Fails with the lowest of these codes that stands, under the file's name:
+/// Fails with the lowest of these codes that applies, under the file's name:
 /// 111 where the last line does not end, and 112 where the file ends in a splice, both at the last line;
 /// 113 where a comment is not closed, at the line where it opens; 703 where a spelling is longer than
 /// 4,095 bytes, at the line of the first such token. Fails with 801 where memory runs out.
 ///
-/// Each token is the longest one that can stand where it begins (6.4, clauses `longest`, `whole` and `other`). A
+/// Each token is the longest one that can begin where it does (6.4, clauses `longest`, `whole` and `other`). A
 /// comment is `/*`, a body without `*/`, and `*/` (6.4.9, clause `comments`).
 pub fn scan<'a>(
     alloc: Global,

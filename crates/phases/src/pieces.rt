@@ -12,7 +12,7 @@ use crate::classes::is_white;
 use crate::cursor::{Comment, Cursor, Front, Hopeless, Lexeme, Span, Step};
 use crate::token::{Kind, Piece, Place};
 
-// Whether a slash and this byte stand here.
+// Whether the text here begins with a slash and this byte.
 #[inline(always)]
 pub(crate) fn opens<'a>(second: u8, first: Step<'a>) -> bool
     ensures { result ≡ opens second first.entry.byte (bytes_at first.entry.next) }

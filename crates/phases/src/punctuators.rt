@@ -8,7 +8,7 @@ ghost use Rattle.phases.specs.inside.Fronts.{IsSomeFront};
 use crate::classes::is_single;
 use crate::cursor::{Cursor, Span};
 
-// The characters that make a punctuator of two behind this one.
+// The characters that form a punctuator of two after this one.
 #[tactic(auto, unfolding(crate::specs::inside::Lexical::seconds))]
 fn seconds(first: u8) -> &'static [u8]
     ensures { result.now ≡ seconds first }

@@ -1,4 +1,4 @@
-//! The pieces that are seen from the bytes alone: no trigraph, splice, literal or comment can be among them.
+//! The pieces that the raw bytes alone determine: no trigraph, splice, literal or comment can be among them.
 ghost use Rattle.std.specs.Prelude.{◌≡◌, true, MatchOption};
 ghost use Rattle.phases.specs.declared.token.Place.{Place};
 ghost use Rattle.phases.specs.declared.token.Place.TheVariants.{AfterInclude};

@@ -27,7 +27,7 @@ fn trigraph(third: u8) -> Option<u8>
     }
 }
 
-// What the trigraph that begins with `first` stands for, and the bytes behind it.
+// The character that the trigraph beginning with `first` denotes, and the bytes after it.
 pub(crate) fn trigraph_at<'a>(first: u8, rest: &'a [u8]) -> Option<(u8, &'a [u8])>
     ensures { MatchOption result (trigraph_at first rest.now ≡ None) (λ t. (trigraph_at first rest.now ≡ Some t.0) × (t.1.now ≡ drop 2 rest.now) × (length t.1.now + 2 ≡ length rest.now)) }
 {
@@ -43,7 +43,7 @@ pub(crate) fn trigraph_at<'a>(first: u8, rest: &'a [u8]) -> Option<(u8, &'a [u8]
     }
 }
 
-// The bytes behind a line's end of two bytes that begins with `first`.
+// The bytes after a line end of two bytes that begins with `first`.
 pub(crate) fn after_return<'a>(first: u8, rest: &'a [u8]) -> Option<&'a [u8]>
     ensures { MatchOption result (is_return first rest.now ≡ false) (λ after. (is_return first rest.now ≡ true) × (after.now ≡ drop 1 rest.now) × (length after.now + 1 ≡ length rest.now)) }
 {
@@ -60,7 +60,7 @@ pub(crate) fn is_plain(byte: u8) -> bool
     !(byte == b'?' || byte == b'\\' || byte == b'\r' || byte == b'\n')
 }
 
-// The place behind the splice that begins with this character of phase 1.
+// The place after the splice that begins with this character of phase 1.
 pub(crate) fn after_splice<'a>(step: Step<'a>) -> Option<Cursor<'a>>
     ensures { MatchOption result (IsNoSplice step.entry) (EndsSplice step.entry) }
 {

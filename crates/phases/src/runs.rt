@@ -1,4 +1,4 @@
-//! Runs of plain bytes, which need no look at trigraphs and splices.
+//! Runs of plain bytes, which need no test for trigraphs and splices.
 ghost use Rattle.std.specs.Prelude.{◌≡◌, ◌≤◌, ◌<◌, ◌+◌, ◌^◌, drop, length};
 ghost use Rattle.phases.specs.inside.Lexical.{word_len, number_more};
 ghost use Rattle.phases.specs.inside.Runs.{next_line, is_ordinary, all_ordinary, ordinary_len, white_len, IsRun, IsWhiteRun};
@@ -8,7 +8,7 @@ use crate::cursor::{Cursor, Span};
 use crate::lexical::goes_on;
 use crate::reading::is_plain;
 
-/// The line behind a sure byte on this line.
+/// The line after a sure byte on this line.
 #[inline(always)]
 pub(crate) fn next_line(byte: u8, line: u32) -> u32
     requires { line + 1 < 2 ^ 32 }
@@ -24,10 +24,10 @@ fn is_ordinary(stop: u8, byte: u8) -> bool
     is_plain(byte) && !(byte == stop)
 }
 
-// How many bytes are looked at side by side.
+// How many bytes are tested in parallel.
 const BLOCK: usize = 16;
 
-// Whether all bytes are plain and not `stop`. Each is looked at, so that the processor may take them at once.
+// Whether all bytes are plain and not `stop`. Each is tested, so that the processor may test them in parallel.
 #[inline(always)]
 fn all_ordinary(bytes: &[u8], stop: u8) -> bool
     ensures { result ≡ all_ordinary stop bytes.now }
@@ -82,8 +82,8 @@ fn white_front(bytes: &[u8]) -> usize
     count
 }
 
-// How many bytes from the first on are white space. Mostly it is one or none, and which of the two the processor
-// cannot foresee: so no branch asks for it.
+// The number of leading white-space bytes. Mostly it is one or none, and the processor cannot predict
+// which: so no branch tests for it.
 #[inline(always)]
 pub(crate) fn white_bytes(bytes: &[u8]) -> usize
     ensures { result ≡ white_len bytes.now }
@@ -98,7 +98,7 @@ pub(crate) fn white_bytes(bytes: &[u8]) -> usize
     one
 }
 
-/// How many bytes from the first on go on with a word.
+/// How many of the first bytes continue a word.
 #[inline(always)]
 pub(crate) fn word_bytes(bytes: &[u8]) -> usize
     ensures { result ≡ word_len bytes.now }
@@ -113,7 +113,7 @@ pub(crate) fn word_bytes(bytes: &[u8]) -> usize
     count
 }
 
-/// How many bytes from the first on go on with a preprocessing number after the byte `first`.
+/// How many of the first bytes continue a preprocessing number after the byte `first`.
 pub(crate) fn number_bytes(bytes: &[u8], first: u8) -> usize
     ensures { result ≡ number_more first bytes.now }
 {

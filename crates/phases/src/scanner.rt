@@ -3,14 +3,14 @@ use crate::line_list::LineBuilder;
 use crate::token::Place;
 use srcset::Pos;
 
-/// What is scanned of a file.
+/// The state of a scan: the part of a file that is scanned.
 #[derive(Drop)]
 pub struct Scanner<'a> {
     // The number of the file's name.
     pub(crate) file: usize,
     // The lines so far, and the tokens of the line that is not ended yet.
     pub(crate) list: LineBuilder<'a>,
-    // Where the next token stands, and whether white space stands before it.
+    // The place of the next token, and whether white space precedes it.
     pub(crate) place: Place,
     pub(crate) space: bool,
     // The first token that is too long.

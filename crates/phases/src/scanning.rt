@@ -15,10 +15,10 @@ use std::alloc::Global;
 /// The greatest number of bytes in the spelling of a token.
 pub const MAX_SPELLING_BYTES: usize = 4095;
 
-// Room for one token in so many bytes of the file is asked for at first. A file with more tokens asks for more.
+// The initial capacity is one token for this many bytes of the file. A file with more tokens allocates more.
 const BYTES_PER_TOKEN: usize = 4;
 
-// Where the token behind this one stands.
+// The place of the token after this one.
 #[inline(always)]
 pub(crate) fn next_place(place: Place, spelling: &[u8]) -> Place
     ensures { result ≡ next_place place spelling.now }
@@ -31,7 +31,7 @@ pub(crate) fn next_place(place: Place, spelling: &[u8]) -> Place
     }
 }
 
-// Where the second token of a line stands.
+// The place of the second token of a line.
 fn after_first(spelling: &[u8]) -> Place
     ensures { result ≡ after_first spelling.now }
 {
@@ -41,7 +41,7 @@ fn after_first(spelling: &[u8]) -> Place
     Place::Elsewhere
 }
 
-// Where the token behind a `#` and this one stands.
+// The place of the token after a `#` and this one.
 fn after_hash(spelling: &[u8]) -> Place
     ensures { result ≡ after_hash spelling.now }
 {
@@ -118,7 +118,7 @@ impl<'a> Scanner<'a> {
         Ok(())
     }
 
-    /// Adds the piece that stands at this place.
+    /// Adds the piece at this place.
     #[inline(always)]
     pub(crate) fn put(
         &mut self,
@@ -150,7 +150,7 @@ impl<'a> Scanner<'a> {
         }
     }
 
-    // Passes so much white space.
+    // Passes `count` characters of white space.
     #[inline(always)]
     fn pass_white(&mut self, count: usize)
         ensures { PassesWhite self.old self.new count }
@@ -158,7 +158,7 @@ impl<'a> Scanner<'a> {
         self.space = self.space || count > 0;
     }
 
-    /// Adds the pieces from here on, each with the white space behind it, as long as the bytes alone show them.
+    /// Adds the pieces from here on, each with the white space after it, as long as the raw bytes alone determine them.
     #[inline(always)]
     pub(crate) fn put_quick(
         &mut self,

@@ -27,7 +27,7 @@ pub enum Kind {
     Other,
 }
 
-/// Where on its line a token stands, as far as header names depend on it (ISO/IEC 9899:2011 6.4.7).
+/// Where on its line a token is, as far as header names depend on it (ISO/IEC 9899:2011 6.4.7).
 #[derive(Clone, Copy, Debug, PartialEq, Eq)]
 pub enum Place {
     /// First on its line.
@@ -40,7 +40,7 @@ pub enum Place {
     Elsewhere,
 }
 
-/// What stands at the front of a text (ISO/IEC 9899:2011 5.1.1.2, phase 3).
+/// The piece at the front of a text (ISO/IEC 9899:2011 5.1.1.2, phase 3).
 #[derive(Clone, Copy)]
 pub enum Piece {
     /// The end of a line.
@@ -53,12 +53,12 @@ pub enum Piece {
     Word(Kind),
 }
 
-/// The parts of a preprocessing token; the variant says whether the bytes of its spelling are lent or its own.
-/// All parts stand in each variant so that the tag, the kind and the mark share four bytes: with the fields in
+/// The parts of a preprocessing token; the variant says whether the bytes of its spelling are borrowed or owned.
+/// All parts are in each variant so that the tag, the kind and the mark share four bytes: with the fields in
 /// this order a token takes 32 bytes.
 #[derive(Drop)]
 enum Held<'a> {
-    /// Lent from the bytes of the file.
+    /// Borrowed from the bytes of the file.
     Lent {
         kind: Kind,
         space_before: bool,
@@ -66,7 +66,7 @@ enum Held<'a> {
         file: usize,
         spelling: &'a [u8],
     },
-    /// Owned by the token and its copies together, so that a spelling stands once however often its token is copied.
+    /// Shared by the token and its copies, so that a spelling is stored once however often its token is copied.
     Owned {
         kind: Kind,
         space_before: bool,
@@ -78,7 +78,7 @@ enum Held<'a> {
 
 /// A preprocessing token (ISO/IEC 9899:2011 6.4).
 ///
-/// Its spelling has no trigraphs and no splices. It is lent from the bytes of the file, and owned, by it and its
+/// Its spelling has no trigraphs and no splices. It is borrowed from the bytes of the file, and owned, by it and its
 /// copies together, only where something was rewritten inside it.
 #[derive(Drop)]
 pub struct PpToken<'a> {
@@ -96,8 +96,8 @@ impl<'a> Model for PpToken<'a> {
 
 impl<'a> PpToken<'a> {
     /// The token with this kind and spelling, at this place. `space_before` says whether white space or
-    /// a comment stands directly before it. Fails only where memory runs out, which only an owned spelling
-    /// can meet.
+    /// a comment directly precedes it. Fails only where memory runs out, which only an owned spelling
+    /// causes.
     #[inline(always)]
     pub fn new(
         kind: Kind,
@@ -128,7 +128,7 @@ impl<'a> PpToken<'a> {
         Ok(PpToken { held })
     }
 
-    /// What kind of token it is.
+    /// The kind of the token.
     pub fn kind(&self) -> Kind
         ensures { result ≡ self.now.kind }
     {
@@ -148,7 +148,7 @@ impl<'a> PpToken<'a> {
         }
     }
 
-    /// Its text, for as long as the bytes of the file are lent; `None` where the token owns it.
+    /// Its text, for as long as the bytes of the file are borrowed; `None` where the token owns it.
     pub fn lent_spelling(&self) -> Option<&'a [u8]>
         ensures { IfSome result (λ s. s.now ≡ self.now.spelling) }
     {
@@ -158,7 +158,7 @@ impl<'a> PpToken<'a> {
         }
     }
 
-    /// Whether white space or a comment stands directly before it on its line.
+    /// Whether white space or a comment directly precedes it on its line.
     pub fn space_before(&self) -> bool
         ensures { result ≡ self.now.space_before }
     {
@@ -179,7 +179,7 @@ impl<'a> PpToken<'a> {
         Pos { file, line }
     }
 
-    /// The same token with this mark: whether white space or a comment stands directly before it.
+    /// The same token with this mark: whether white space or a comment directly precedes it.
     pub fn with_space(self, space_before: bool) -> PpToken<'a>
         ensures { result ≡ record self.entry { space_before = space_before } }
     {
@@ -248,7 +248,7 @@ impl<'a> PpToken<'a> {
         PpToken { held }
     }
 
-    /// The same token once more, with the same spelling in memory. Fails only where an owned spelling has as many copies as
+    /// A copy of the token, with the same spelling in memory. Fails only where an owned spelling has as many copies as
     /// can be counted.
     #[inline(always)]
     pub fn copy(&self) -> Result<PpToken<'a>, AllocError>
@@ -285,7 +285,7 @@ impl<'a> PpToken<'a> {
         Ok(PpToken { held })
     }
 
-    /// The same token once more, with this mark and at this place. Fails as `copy` does.
+    /// A copy of the token, with this mark and at this place. Fails as `copy` does.
     pub fn copy_at(&self, space_before: bool, pos: Pos) -> Result<PpToken<'a>, AllocError>
         ensures { IfOk result (λ t. t ≡ record self.now { space_before = space_before; pos = pos }) }
     {

@@ -1,4 +1,4 @@
--- What lines of conditionals do to the conditionals that are open.
+-- The effect of lines of conditionals on the conditionals that are open.
 use Rattle.std.proofs.Common.{◌≡◌, ℕ, List, [], ◌∷◌, length, Bool, true, false, Option, Some, None, Result, Ok, Err, OnOk, IfErr, refl, sym, ap, subst, ◌∙◌}
 use Rattle.std.specs.Prelude.{nat_le, if◌then◌else◌}
 use Rattle.std.proofs.lemmas.Option.{none-some}
@@ -21,7 +21,7 @@ use Rattle.pp.specs.inside.Stepping.{first_of, behind_first, presumed_by, line_w
 use Rattle.pp.proofs.RestLemmas.{open_rest, divide_rest, divide_amiss, divide_alone, close_rest, close_alone, directive_rest, skipped_rest}
 use Rattle.pp.proofs.FileLemmas.{stops_all}
 
--- where a line of these conditionals stands, and what comes of it
+-- the place of a line of these conditionals, and its outcome
 abbrev at_line : Texts → Held → State → List Token → Pos → Type 0
 at_line names held s ts at = Agrees names held s × (at ≡ presumed_by (presumed_of held.presumed) (place_of ts))
 

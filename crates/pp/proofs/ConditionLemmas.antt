@@ -302,7 +302,7 @@ pub asks_nothing : (texts names : Texts) (held : Held) (ts : List Token) (end : 
 unfolding branch_taken
 asks_nothing texts names held ts end s h a = record { after = s; agrees = a; gives_is = short_branch texts ts s h }
 
--- ---- behind a branch that is taken
+-- ---- after a branch that is taken
 
 pub past_stops : (r : Refusal) (names : Texts) (l : Line) (s : State) → StopsAs s.given names r (else_checked l s) → StopsAs s.given names r (else_checked l s >>= to_branch Past)
 past_stops r names l s st = stops_then s.given r names (else_checked l s) (to_branch Past) st

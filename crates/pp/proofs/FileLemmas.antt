@@ -1,4 +1,4 @@
--- What the lines of a file come to.
+-- The outcomes of the lines of a file.
 use Rattle.std.proofs.Common.{◌≡◌, ◌<◌, ◌≤◌, ℕ, zero, suc, List, [], ◌∷◌, ◌++◌, length, drop, Bool, true, false, Option, Some, None, Result, Ok, Err, OnOk, IfErr, refl, sym, ap, subst, ◌∙◌, arith}
 use Rattle.std.specs.Prelude.{slice_get, not, ◌&&◌}
 use Rattle.std.specs.List.{list_all}
@@ -57,7 +57,7 @@ placed_files names p [] h i t e = absurd (none-some t e)
 placed_files names p (x ∷ xs) h zero t e = subst (λ (k : Token). k.pos.file < length names) (some_is (record x { pos = presumed_by p x.pos }) t e) h
 placed_files names p (x ∷ xs) h (suc i) t e = placed_files names p xs h i t e
 
--- what stops a part stops all
+-- a part that stops, stops the whole
 pub stops_all : {A : Type 0} (given : List Token) (names : Texts) (r : Refusal) (o : Outcome A) (whole : Outcome State) (f : A → Outcome State) → whole ≡ (o >>= f) → StopsAs given names r o → StopsAs given names r whole
 stops_all given names Memory o whole f e s = tt
 stops_all given names (At c at) o whole f e s = record { stops_is = e ∙ ap (λ k. k >>= f) s.stops_is }
@@ -77,7 +77,7 @@ stops_then given (Told c at n) names o f s = record { text = s.text; number_is =
 pub stops_same : {A : Type 0} (given : List Token) (names : Texts) (r : Refusal) (o whole : Outcome A) → whole ≡ o → StopsAs given names r o → StopsAs given names r whole
 stops_same given names r o whole e s = subst (StopsAs given names r) (sym e) s
 
--- what stops with what is given ends all
+-- a part that stops with the tokens given so far ends the whole
 pub ends_with : {A : Type 0} (held new : ℕ) (given : List Token) (names : Texts) (r : Refusal) (o : Outcome A) → new ≡ held → IsGiven held given → StopsAs given names r o → EndsAs new names r o
 ends_with held new given names Memory o e g s = tt
 ends_with held new given names (At c at) o e g s = record { given = given; given_is = subst (λ h. IsGiven h given) (sym e) g; stops = s }
@@ -153,7 +153,7 @@ text_nothing names held run around os l p o text out st =
 
 -- ---- a directive
 
--- no run has begun where a directive stands
+-- no run has begun at a directive
 pub not_in_run : (b : Bool) (r : Role) → (b && not (is_text r)) ≡ false → is_text r ≡ false → b ≡ false
 not_in_run true r e t = absurd (true-false (sym (ap not t) ∙ e))
 not_in_run false r e t = refl

@@ -1,4 +1,4 @@
--- What was given stays given: each step of phase 4 gives more, behind what was given before it.
+-- Tokens that were given stay given: each step of phase 4 appends to them.
 use Rattle.std.proofs.Common.{◌≡◌, ℕ, zero, suc, List, [], ◌∷◌, ◌++◌, length, Bool, true, false, Option, Some, None, Result, Ok, Err, refl, sym, ap, subst, ◌∙◌}
 use Rattle.std.specs.Prelude.{nat_le, nat_lt, slice_get, codes, if◌then◌else◌, ◌&&◌, not}
 use Rattle.srcset.specs.declared.refusal.Pos.{Pos}
@@ -320,7 +320,7 @@ entered_more (suc n) files texts name at s =
     let around = around_with n files texts in
     meant_more (file_meant files name) at s (λ name bytes. file_done around name bytes s) (λ name bytes. file_more around (entered_more n files texts) name bytes s)
 
--- ---- what is left
+-- ---- the rest
 
 within_more : (b : BranchState) (around : Around) → Enters around.enter → (at : Pos) (depth : ℕ) (g : Group) (s : State) → GivesMore s.given (within b around at depth g s)
 within_more Taken around h at depth g s = group_more around h at depth g s
@@ -380,7 +380,7 @@ unfolding OnFront
 ending_front front (goes s) h = h
 ending_front front (stops given f) h = h
 
--- what is left of a file, and of those that wait for it, gives what was given, and more
+-- the rest of a file, and of the includers that wait for it, keeps the given tokens and appends to them
 pub left_front : (files : Files) (texts : Texts) (room further : ℕ) (is : List Includer) (os : List Open) (p : Parsed) (s : State) (o : Outcome State)
     → o ≡ resumed_all files texts room is (rest_done (around_with further files texts) os p s) → Front s.given (ending_of o).tokens
 left_front files texts room further is os p s o e =

@@ -82,7 +82,7 @@ not_run false active h e = refl
 
 -- ---- a line that does nothing
 
--- what stands behind the line, in front of which there is no run
+-- the rest after the line, with no run before it
 passed : (around : Around) (s : State) (cs : List Open) (o : Outcome State) (p : Parsed) (os : List Open) → unplaced os ≡ cs → o ≡ rest_done around os p s → Passes around s cs o p
 passed around s cs o p os u e = record {
   conditionals = os;
@@ -92,7 +92,7 @@ passed around s cs o p os u e = record {
   comes_to = e ∙ ap (λ q. rest_done around os q s) (sym (in_none [] p));
 }
 
--- a directive stands behind an empty run
+-- a directive follows an empty run
 directive_comes : (r : Role) (around : Around) (s : State) (cs : List Open) (o : Outcome State) (l : Line) (p : Parsed) → is_text r ≡ false → length s.given ≤ max_tokens
     → role_of l.tokens ≡ r → (w : Passes around s cs o (with_line (role_of l.tokens) l p)) → o ≡ rest_done around w.conditionals (with_line r l p) s
 directive_comes r around s cs o l p t h e w =

@@ -1,4 +1,4 @@
--- Which file an #include enters, and what is left behind it.
+-- Which file an #include enters, and the rest after it.
 use Rattle.std.proofs.Common.{◌≡◌, ◌≤◌, ◌<◌, ◌-◌, ℕ, zero, suc, List, [], ◌∷◌, length, take, drop, Bool, true, false, Option, Some, None, Result, Ok, Err, codes, slice_index_or, IfOk, refl, sym, ap, subst, ◌∙◌, arith}
 use Rattle.std.specs.Prelude.{slice_index, ◌==◌, ◌&&◌}
 use Rattle.srcset.specs.declared.refusal.Pos.{Pos}
@@ -100,7 +100,7 @@ room_for (suc n) names source files texts spelling at s z keeps m = record {
 
 -- ---- the directive
 
--- what is entered is resumed
+-- the rest of the entered file is resumed
 pub includes_then : (result : Result Source Refusal) (names after : Texts) (held : Held) (files : Files) (texts : Texts) (room : ℕ) (s : State) (o whole : Outcome State)
     → Agrees names held s → KeepsNumbers names after → IfOk result (λ x. NumbersOnce after) → whole ≡ (o >>= resumed s)
     → EntersOrStops result after files texts room s o → IncludesOrStops s.given result after held files texts room whole
@@ -138,7 +138,7 @@ made_alone enter at [] s h = record { stops_is = refl }
 made_alone enter at (x ∷ []) s h = absurd (h refl)
 made_alone enter at (x ∷ y ∷ xs) s h = record { stops_is = refl }
 
--- by the first token behind the name
+-- by the first token after the name
 pub none_left : (xs : List Token) → length xs < 1 → xs ≡ []
 none_left [] h = refl
 none_left (x ∷ xs) h = absurd (omega (arith, h))
@@ -163,7 +163,7 @@ done_made texts enter at xs rest x s e k =
     ∙ if_false (is_header_kind x.kind) (include_named enter at (presume s (x ∷ rest)) s) (expand texts (presume s (x ∷ rest)) of_directive s >>= include_made enter at) k
     ∙ ap (λ xs. expand texts (presume s xs) of_directive s >>= include_made enter at) (sym e)
 
--- by what macros make of the tokens, which were presumed in their places
+-- by the tokens that macro expansion produces, at their presumed places
 pub made_is : (texts names : Texts) (enter : Enter) (at : Pos) (held : Held) (xs tokens rest : List Token) (x : Token) (s : State) → Agrees names held s → tokens ≡ placed (presumed_of held.presumed) xs
     → xs ≡ x ∷ rest → is_header_kind x.kind ≡ false
     → include_done texts enter at (presume s xs) s ≡ (expand texts tokens of_directive s >>= include_made enter at)
@@ -181,7 +181,7 @@ include_first enter at [] s = refl
 include_first enter at (x ∷ []) s = refl
 include_first enter at (x ∷ y ∷ rest) s = refl
 
--- what it includes is told by the first two tokens
+-- the first two tokens determine which file it includes
 include_made_first : (texts names : Texts) (enter : Enter) (at : Pos) (new : Held) (tokens list : List Token) (s : State) (g : GivesFirst 2 list names new (expand texts tokens of_directive s))
     → (expand texts tokens of_directive s >>= include_made enter at) ≡ include_made enter at (list, g.gives.after)
 include_made_first texts names enter at new tokens list s g =
@@ -235,7 +235,7 @@ include_is texts names enter held (k ∷ x ∷ ts) end h at s n f p i a =
     ∙ if_true (is_identifier x) (named texts enter x rest end at s) (fails s code.BadDirective at) q.0
     ∙ named_include texts enter x rest end at s q.1
 
--- what is left behind the run comes to the directive, and to what is left behind that
+-- the rest after the run results in the directive and the rest after that
 pub line_is : (texts names between : Texts) (held now : Held) (run : Run) (around : Around) (os : List Open) (ts : List Token) (end : ℕ) (p : Parsed) (o : Outcome State)
     → is_include ts ≡ true → (st : Stands names held run around os (with_line (role_of ts) (line_with ts end) p) o)
     → (m : Goes between now (run_ended around.texts run.begun st.text st.now)) → is_active os ≡ true

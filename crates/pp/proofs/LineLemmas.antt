@@ -1,4 +1,4 @@
--- What #line does to the state.
+-- The effect of #line on the state.
 use Rattle.std.proofs.Common.{◌≡◌, ◌<◌, ◌≤◌, inl, inr, ℕ, suc, ◌+◌, ◌*◌, ◌-◌, take, get_or, Result, List, [], ◌∷◌, length, drop, Bool, true, false, Some, None, refl, sym, ap, subst, ◌∙◌, arith}
 use Rattle.std.specs.Prelude.{nat_le, ◌&&◌, if◌then◌else◌, slice_get, slice_index_or}
 use Rattle.std.specs.List.{list_all}
@@ -158,7 +158,7 @@ line_first texts end at (n ∷ []) s = refl
 line_first texts end at (n ∷ f ∷ []) s = refl
 line_first texts end at (n ∷ f ∷ x ∷ rest) s = refl
 
--- what it does is told by the first three tokens
+-- the first three tokens determine its effect
 line_made_first : (texts names : Texts) (new : Held) (raw tokens list : List Token) (end : ℕ) (at : Pos) (s : State) (g : GivesFirst 3 list names new (expand texts tokens of_directive s))
     → (expand texts tokens of_directive s >>= line_made texts end at) ≡ line_made texts end at (list, g.gives.after)
 line_made_first texts names new raw tokens list end at s g =

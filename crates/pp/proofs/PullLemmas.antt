@@ -45,7 +45,7 @@ drop_all [] (suc n) h = refl
 drop_all (x ∷ xs) zero h = absurd (omega (arith, h))
 drop_all (x ∷ xs) (suc n) h = drop_all xs n (omega (arith, h))
 
--- ---- what a run does of which some was given
+-- ---- the outcome of a run of which some tokens were given
 
 pub run_fails : (s : State) (before : List Token) (r : Result (List Token × ℕ) expansion.Fault) (f : expansion.Fault) → r ≡ Err f
     → run_comes s before r ≡ stops s.given (record { code = f.code; at = f.at; text = [] })
@@ -68,7 +68,7 @@ run_past s before x r a e full =
     ∙ ap (λ o. first_past o all s (record s { left = a.1 })) (ap (λ (l : List Token). slice_get l max_tokens) same ∙ some_at (s.given ++ before) a.0 x max_tokens
     (omega (arith, full, length-append s.given before)))
 
--- it stops with what was given before it, or goes on behind all of it
+-- it stops with the tokens given before it, or continues after all of it
 pub record StopsSo (s : State) (before : List Token) (r : Result (List Token × ℕ) expansion.Fault) : Type 0 where
   pub fault : Fault
   pub stops_is : run_comes s before r ≡ stops s.given fault
@@ -118,7 +118,7 @@ run_first_by (Some ts) around os b xs tss es i s e t h =
 pub ends_begun : (r : Reading) → ends_run r ≡ true → r.file.run.begun ≡ true
 ends_begun r e = (and_true r.file.run.begun (not (is_text_line (slice_get r.lines r.next))) e).0
 
--- what is left of a file whose run ends
+-- the rest of a file whose run ends
 pub run_first : (around : Around) (r : Reading) (xs : List Token) (s : State) → ends_run r ≡ true → (r.file.run.begun ≡ true → is_active r.file.conditionals ≡ true)
     → rest_done around r.file.conditionals (in_first (pending r.file.run.begun xs) (left_of r)) s ≡ (run_done around.texts xs s >>= λ s. rest_done around r.file.conditionals (left_of r) s)
 run_first around r xs s e h =

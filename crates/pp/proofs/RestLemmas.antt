@@ -1,4 +1,4 @@
--- What a line does to what the lines from it on come to.
+-- The effect of a line on the outcome of the lines from it on.
 use Rattle.std.proofs.Common.{◌≡◌, ℕ, suc, List, [], ◌∷◌, ◌++◌, length, Bool, true, false, refl, sym, ap, subst, ◌∙◌}
 use Rattle.std.specs.Prelude.{Option, Some, None, nat_le, if◌then◌else◌}
 use Rattle.srcset.specs.declared.refusal.Pos.{Pos}
@@ -43,7 +43,7 @@ here : Around → List Open → Group → State → Outcome State
 here around [] g s = group_done around nowhere 0 g s
 here around (o ∷ os) g s = within o.branch around o.at (suc (length os)) g s
 
--- what puts something in front of a group, and what that comes to
+-- a function that prepends to a group, and the outcome of that group
 record Front (around : Around) (os : List Open) (f : Group → Group) (a : State → Outcome State) : Type 0 where
   first : (g : Group) (s : State) → here around os (f g) s ≡ (a s >>= λ s. here around os g s)
   missing : (g : Group) → ended_by missing_end (f g) ≡ f (ended_by missing_end g)
@@ -158,7 +158,7 @@ pub text_joined : (b : Bool) (xs ts : List Token) (p : Parsed) → (b ≡ false 
 text_joined b xs ts (to_end g) fresh = ap to_end (text_pending b xs ts g fresh)
 text_joined b xs ts (to_line g l rest) fresh = ap (λ g. to_line g l rest) (text_pending b xs ts g fresh)
 
--- ---- the end of a run, in front of what is no text
+-- ---- the end of a run, before something that is no text
 
 section_run : (xs : List Token) (t : Tail) → in_first (with_text xs) (with_section t) ≡ in_first (λ g. run xs g) (with_section t)
 section_run xs (closed bs e (to_end g)) = refl
@@ -233,7 +233,7 @@ skipped_rest around os l p s e =
     front around os (λ g. directive l g) (λ s. goes s)
     (record { first = directive_nothing around os l e; missing = λ g. refl; amiss = λ at g. refl }) p s
 
--- ---- conditionals: behind a branch that began
+-- ---- conditionals: after a branch that began
 
 others : BranchState → Around → Pos → ℕ → Branches → State → Outcome State
 others Waiting around at depth bs s = branches_done around at depth bs s
@@ -346,7 +346,7 @@ others_first Taken around at depth l g bs s = left_first around at depth l g bs 
 others_first Past around at depth l g bs s = left_first around at depth l g bs s
 others_first Skipped around at depth l g bs s = skipped_then s at depth g bs
 
--- all states of branches behind one another have the same #endif
+-- consecutive states of the branches of a conditional have the same #endif
 same_end : (b : BranchState) (around : Around) (l : Line) (s : State) (f : BranchState → State → Outcome State) (e : Line) (k : State → Outcome State)
     → (next_branch b around l s >>= λ r. f r.0 r.1 >>= λ s. closed_by b e s >>= k)
     ≡ (next_branch b around l s >>= λ r. f r.0 r.1 >>= λ s. closed_by r.0 e s >>= k)
@@ -380,7 +380,7 @@ others_next b around at depth l (unclosed (branch m g bs)) k s h =
     others_first b around at depth m g bs s
     ∙ ap (λ m'. next_branch b around m' s >>= λ r. in_branches r.0 around at depth (branch m g bs) r.1) h
 
--- ---- a conditional that is open is what is left of its section
+-- ---- an open conditional is the rest of its section
 
 group_alone : (b : BranchState) (around : Around) (at : Pos) (depth : ℕ) (l : Line) (g : Group) (s : State)
     → within b around at depth g s ≡ in_branches b around at depth (branch l g no_branch) s

@@ -30,7 +30,7 @@ spaced [] = []
 spaced (x ∷ []) = x.spelling
 spaced (x ∷ y ∷ rest) = x.spelling ++ codes " " ++ spaced (y ∷ rest)
 
--- what a set of files comes to: the text, or the number of the fault's code, its file, line and text
+-- the outcome of a set of files: the text, or the number of the fault's code, its file, line and text
 pub data Shown : Type 0 where
   Prints : (text : List ℕ) → Shown
   Refuses : (c : Code) (file : List ℕ) (line : ℕ) (text : List ℕ) → Shown
@@ -528,7 +528,7 @@ main_missing = refl
 abbrev lone_file : Around
 lone_file = record { texts = texts; enter = λ name at s. goes s }
 
--- the file main.c alone, with so many replacements left
+-- the file main.c alone, with this number of replacements left
 abbrev of_left : ℕ → List ℕ → Shown
 of_left n bytes = shown_whole (ending_of (file_done lone_file (codes "main.c") bytes (record start { left = n })))
 

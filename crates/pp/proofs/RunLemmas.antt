@@ -1,4 +1,4 @@
--- What is left of a run behind each call that expands more of it.
+-- The rest of a run after each call that expands more of it.
 use Rattle.std.proofs.Common.{◌≡◌, inl, inr, ℕ, List, [], ◌∷◌, ◌++◌, Some, None, Result, Ok, Err, refl, sym, ap, ◌∙◌, append_assoc}
 use Rattle.srcset.specs.declared.code.Code.TheVariants as code
 use Rattle.srcset.specs.declared.refusal.Pos.{Pos}
@@ -17,7 +17,7 @@ use Rattle.pp_expand.proofs.Pulls.{expanding_pulled}
 use Rattle.pp.specs.Left.{with_front, run_left, IsGoing}
 use Rattle.pp.specs.inside.Calls.{Calls, IsRefusedAt}
 
--- ---- what is left of a run
+-- ---- the rest of a run
 
 pub with_none : (r : Result (List Token × ℕ) Fault) → with_front [] r ≡ r
 with_none (Ok a) = refl
@@ -55,9 +55,9 @@ err_pulled known names run new left after (At c pos) g p =
     by_pull known (list_left known.texts run) left (Err (record { code = c; at = pos })) e
 err_pulled known names run new left after (Told c pos text) g p = p
 
--- ---- a run that is refused behind the first token too many
+-- ---- a run that is refused after the first token in excess
 
--- of what was left at first so much was expanded
+-- from the first number of replacements left, this many were used
 pub record Reaches (known : Known) (names : Texts) (first run : Stream) (left now : ℕ) : Type 0 where
   pub front : List Token
   pub going : IsGoing names run

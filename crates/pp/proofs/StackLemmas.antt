@@ -32,7 +32,7 @@ use Rattle.pp.proofs.PhaseLemmas.{begun_in, file_is, scan_stops}
 use Rattle.pp.proofs.RestLemmas.{in_none}
 use Rattle.pp.proofs.StateLemmas.{still_within}
 
--- ---- what is left stops
+-- ---- the rest stops
 
 pub stops_on : (set : Files) (texts : Texts) (room : ℕ) (is : List Includer) (given : List _) (f : Fault) → resumed_all set texts room is (stops given f) ≡ stops given f
 stops_on set texts room [] given f = refl

@@ -1,4 +1,4 @@
--- What ends of runs and directives do to the state.
+-- The effect of ends of runs and of directives on the state.
 use Rattle.std.proofs.Common.{◌≡◌, ◌≤◌, ◌<◌, ℕ, zero, suc, List, [], ◌∷◌, ◌++◌, length, Bool, true, false, Result, Ok, Err, OnOk, IfErr, get_or, drop, take, ◌-◌, arith, slice_index_or, refl, sym, ap, subst, ◌∙◌}
 use Rattle.std.specs.Prelude.{codes, if◌then◌else◌, map, ◌&&◌}
 use Rattle.std.specs.List.{flat_map}
@@ -38,7 +38,7 @@ still_within names after n keeps h =
 pub still_files : (names after : Texts) (ts : List Token) → KeepsNumbers names after → HaveFiles names ts → HaveFiles after ts
 still_files names after ts keeps h i t e = still_within names after t.pos.file keeps (h i t e)
 
--- files of tokens behind others
+-- files of tokens appended to others
 pub append_files : (names : Texts) (xs ys : List Token) → HaveFiles names xs → HaveFiles names ys → HaveFiles names (xs ++ ys)
 append_files names [] ys hx hy i t e = hy i t e
 append_files names (x ∷ xs) ys hx hy zero t e = hx zero t e
@@ -108,7 +108,7 @@ if_true b u v e = ap (λ c. if c then u else v) e
 pub if_false : {A : Type 0} (b : Bool) (u v : A) → b ≡ false → (if b then u else v) ≡ v
 if_false b u v e = ap (λ c. if c then u else v) e
 
--- what a line of two tokens and more is
+-- the form of a line of two tokens or more
 two_items : (ts : List Token) (h x : Token) → 2 ≤ length ts → h ≡ slice_index_or ts 0 h → x ≡ slice_index_or ts 1 x → ts ≡ h ∷ x ∷ drop 2 ts
 two_items [] h x n p q = absurd (omega (arith, n))
 two_items (a ∷ []) h x n p q = absurd (omega (arith, n))
@@ -362,7 +362,7 @@ unfolding given_of IsGoing
 expansion_given s (Ok b) a e = sym (ap (λ (o : Outcome (List Token × State)). given_of s o) e)
 expansion_given s (Err f) a e = absurd (subst IsGoing (sym e) tt)
 
--- what a directive is expanded to is not given
+-- the expansion of a directive is not given
 pub expand_given : (texts : Texts) (xs : List Token) (ending : Ending) (s : State) (a : List Token × State) → expand texts xs ending s ≡ goes a → a.1.given ≡ s.given
 expand_given texts xs ending s a e = expansion_given s (expanded (record { macros = s.macros; texts = texts }) xs ending s.left) a e
 

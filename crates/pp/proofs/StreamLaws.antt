@@ -1,4 +1,4 @@
--- Laws of streams: what is left stays, as names get further numbers.
+-- Laws of streams: the rest stays the same as further names are numbered.
 use Rattle.std.proofs.Common.{refl}
 use Rattle.srcset.specs.NameTable.{Texts, KeepsNumbers, NumbersOnce}
 use Rattle.pp.specs.declared.stream.Pp.{Pp}

@@ -66,7 +66,7 @@ size_now Pulls pp e = absurd (true-false (sym e))
 size_now Ended pp e = absurd (true-false (sym e))
 size_now (Refused refusal) pp e = absurd (true-false (sym e))
 
--- ---- behind a line
+-- ---- after a line
 
 ended_at : (n : ℕ) (given : List Token) (o : Outcome State) (fault : Fault) (rest : Phase4) → length given ≤ n → o ≡ stops given fault → rest ≡ left_behind n (ending_of o)
     → rest ≡ ends_with (Some fault)
@@ -180,14 +180,14 @@ pulling_now (Refused refusal) names pp e r = absurd (true-false (sym e))
 abbrev pub with_state : Held → Stream → Stage → Pp → Pp
 with_state state run stage pp = record { set = pp.set; files = pp.files; state = state; run = run; stage = stage }
 
--- the stream behind it
+-- the stream after it
 abbrev pub pulled_with : Stream → ℕ → ℕ → Stage → Pp → Pp
 pulled_with run left given stage pp = record { set = pp.set; files = pp.files; state = record pp.state { budget = left; given = given }; run = run; stage = stage }
 
 abbrev known_of : Macros → Texts → Known
 known_of macros texts = record { macros = macros; texts = texts }
 
--- what is left of the files behind the run
+-- the rest of the files after the run
 abbrev on_file : Texts → Pp → State → Outcome State
 on_file texts pp s = rest_done (around_with (room_of pp.files.includers.items) pp.set.now texts) pp.files.innermost.file.conditionals (left_of pp.files.innermost) s
 
@@ -260,7 +260,7 @@ pulled_err (Told c at n) names texts pp new run after rest keeps calls r =
     let p = r.pulls in
     absurd (err_pulled (known_of p.now.macros texts) names pp.run run pp.state.budget after (Told c at n) p.going (calls p.now.macros texts p.table_is keeps p.going.knows p.going.not_refused))
 
--- behind a token more
+-- after one more token
 module _ (names texts : Texts) (pp : Pp) (run : Stream) (after : ℕ) (x : Token) (rest : Phase4) (keeps : KeepsNumbers names texts)
     (calls : CallsAll names pp.state.table pp.run run pp.state.budget after (Ok (Some x)))
     (knows : KnowsAll names pp.state.table pp.run run) (end : run.end ≡ pp.run.end) (none : run.refused ≡ None) (r : PullsTo names texts pp rest) where
@@ -343,7 +343,7 @@ module _ (names texts : Texts) (pp : Pp) (run : Stream) (after : ℕ) (x : Token
     pub pulled_some : IsFirst x names texts (pulled_with run after n Pulls pp) rest
     pulled_some = ⊎_elim stopped went (run_cases r.pulls.now (r.pulls.before ++ x ∷ []) left)
 
--- ---- what stays while no token is given
+-- ---- what stays the same while no token is given
 
 pub stays_first : (names : Texts) (pp : Pp) → Stays names names pp pp
 stays_first names pp = record { rest = λ texts rest keeps r. r; taken = refl; still = λ refusal r. r }
@@ -369,7 +369,7 @@ pub stays_pulling : (names after : Texts) (old new : Pp) → is_pulling old.stag
     → ((texts : Texts) (rest : Phase4) → KeepsNumbers after texts → IsRest names texts old rest → IsRest after texts new rest) → taken_of new ≡ taken_of old → Stays names after old new
 stays_pulling names after old new pulls step count = record { rest = step; taken = count; still = λ refusal f. absurd (not_pulling old refusal f pulls) }
 
--- ---- what a call that pulls does
+-- ---- the effect of a call that pulls
 
 stage_pulls : (stage : Stage) → is_pulling stage ≡ true → stage ≡ Pulls
 stage_pulls Reads e = absurd (true-false (sym e))
@@ -441,7 +441,7 @@ past_given names pp new run after x f pulling full calls knows end none refused 
     (λ texts rest keeps is. subst (λ s. RestBy s names texts new rest) (sym stage)
     (pulled_past names texts pp run after x rest keeps calls knows end none (pulls_now pp.stage names texts pp rest pulling is) f new full refused)) count
 
--- ---- what is answered
+-- ---- the result
 
 pub first_answer : (names after : Texts) (old pp new : Pp) (x : Token) → Stays names after old pp → IsPulled (Some x) after pp new → IsAnswer (Ok (Some x)) names after old new
 first_answer names after old pp new x r p = record {

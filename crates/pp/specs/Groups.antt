@@ -7,7 +7,7 @@ use Rattle.macros.specs.Macro.{is_identifier, is_spelled, is_hash}
 use Rattle.pp.specs.Lines.{Line}
 
 mutual
-  -- a group of lines, and what ends it
+  -- a group of lines, and its end
   pub data Group : Type 0 where
     -- the end of the file, or a line that ends the group
     ends : Group
@@ -21,7 +21,7 @@ mutual
     open_section : (bs : Branches) → Group
     -- the file ends, and the #endif of the conditional that opened the group is missing
     missing_end : Group
-    -- an #elif, #else or #endif that belongs to no conditional, or stands behind its #else
+    -- an #elif, #else or #endif that belongs to no conditional, or that follows its #else
     unbalanced : (at : Pos) → Group
 
   -- the branches of a section: the line of each, and its group
@@ -71,8 +71,8 @@ place_of (x ∷ xs) = x.pos
 
 -- ---- groups
 
--- What the lines from some line on are: a group to the end of the file; or a group up to an #elif, #else or #endif whose
--- conditional stands before, that line, and what the lines behind it are.
+-- The parse of the lines from some line on: a group to the end of the file; or a group up to an #elif, #else or #endif whose conditional precedes the group,
+-- that line, and the parse of the lines after it.
 pub data Parsed : Type 0 where
   to_end : (g : Group) → Parsed
   to_line : (g : Group) (l : Line) (rest : Parsed) → Parsed
@@ -107,7 +107,7 @@ abbrev pub with_branch : Line → Group → Tail → Tail
 with_branch l g (closed bs e rest) = closed (branch l g bs) e rest
 with_branch l g (unclosed bs) = unclosed (branch l g bs)
 
--- an #elif or #else behind a branch: behind an #else there may be none
+-- an #elif or #else after a branch: none may follow an #else
 abbrev pub divided_by : Bool → Line → Group → Line → (Unit {0} → Tail) → Tail
 divided_by true l g m rest = unclosed (branch l (ended_by (unbalanced (place_of m.tokens)) g) no_branch)
 divided_by false l g m rest = with_branch l g (rest tt)
@@ -124,7 +124,7 @@ abbrev pub with_section : Tail → Parsed
 with_section (closed bs e rest) = in_first (λ g. section bs e g) rest
 with_section (unclosed bs) = to_end (open_section bs)
 
--- a line in front of what the lines behind it are
+-- a line before the parse of the lines after it
 abbrev pub with_line : Role → Line → Parsed → Parsed
 with_line of_text l rest = in_first (with_text l.tokens) rest
 with_line opens l rest = with_section (branches_from l rest)

@@ -1,4 +1,4 @@
--- What the state that a stream holds is to that of the definition.
+-- The relation of the state that a stream holds to that of the definition.
 use Rattle.std.specs.Prelude.{◌≡◌, ◌≤◌, ◌<◌, ℕ, suc, List, length}
 use Rattle.srcset.specs.NameTable.{Texts}
 use Rattle.phases.specs.Token.{Token}
@@ -10,7 +10,7 @@ use Rattle.pp.specs.Phase4.{Presumed, State, max_tokens}
 abbrev pub presumed_of : Places → Presumed
 presumed_of p = record { from = suc p.behind; line = p.line; file = p.file }
 
--- so many tokens are given
+-- the count of given tokens
 abbrev pub IsGiven : ℕ → List Token → Type 0
 IsGiven held given = length given ≡ held
 

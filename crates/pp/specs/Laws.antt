@@ -1,4 +1,4 @@
--- Laws of streams: what stays where the table gets further names.
+-- Laws of streams: what stays the same as the table of names grows.
 use Rattle.srcset.specs.NameTable.{Texts, KeepsNumbers, NumbersOnce}
 use Rattle.pp.specs.declared.stream.Pp.{Pp}
 use Rattle.pp.specs.Phase4.{Phase4}

@@ -1,4 +1,4 @@
--- What is left of the files that are open, the includers with the innermost first.
+-- The rest of the files that are open, the includers with the innermost first.
 use Rattle.std.specs.Prelude.{◌≡◌, ◌≤◌, ◌<◌, ◌-◌, ◌+◌, ◌++◌, ◌&&◌, not, ℕ, suc, List, [], ◌∷◌, length, drop, slice_get, Bool, true, false, Option, Some, None, Result, Ok, Err}
 use Rattle.srcset.specs.NameTable.{Texts}
 use Rattle.phases.specs.Token.{Token}
@@ -21,7 +21,7 @@ use Rattle.pp.specs.declared.files.Reading.{Reading}
 use Rattle.pp.specs.Lines.{lines_with}
 use Rattle.pp.specs.Held.{presumed_of, Agrees}
 
--- what is left of a file behind its run comes to this
+-- the rest of a file after its run results in this outcome
 pub record Stands (names : Texts) (held : Held) (run : Run) (around : Around) (os : List Open) (p : Parsed) (o : Outcome State) : Type 0 where
   pub now : State
   pub text : List Token
@@ -31,16 +31,16 @@ pub record Stands (names : Texts) (held : Held) (run : Run) (around : Around) (o
   pub active : run.begun ≡ true → is_active os ≡ true
   pub comes_to : o ≡ rest_done around os (in_first (pending run.begun text) p) now
 
--- behind what was given of a run
+-- after the tokens of a run that were given
 abbrev pub with_front : List Token → Result (List Token × ℕ) expansion.Fault → Result (List Token × ℕ) expansion.Fault
 with_front before (Ok a) = Ok (before ++ a.0, a.1)
 with_front before (Err f) = Err f
 
--- the expansion of what is left of a run, with so many replacements left
+-- the expansion of the rest of a run, with this number of replacements left
 abbrev pub run_left : Known → Stream → ℕ → Result (List Token × ℕ) expansion.Fault
 run_left known run left = shown_answer (expanding known (list_left known.texts run) of_run left)
 
--- what a run does of which some was given
+-- the outcome of a run of which some tokens were given
 abbrev pub run_comes : State → List Token → Result (List Token × ℕ) expansion.Fault → Outcome State
 run_comes s before left = of_expansion s (with_front before left) >>= give s
 
@@ -50,7 +50,7 @@ pub record IsGoing (names : Texts) (run : Stream) : Type 0 where
   pub end_is : run.end ≡ OfRun
   pub not_refused : run.refused ≡ None
 
--- what is left of a run of which some was given, and of a file behind it, comes to this
+-- the rest of a run of which some tokens were given, and of the file after it, results in this outcome
 pub record Pulling (names : Texts) (held : Held) (run : Stream) (around : Around) (os : List Open) (p : Parsed) (o : Outcome State) : Type 0 where
   pub now : State
   pub before : List Token
@@ -60,7 +60,7 @@ pub record Pulling (names : Texts) (held : Held) (run : Stream) (around : Around
   pub going : IsGoing names run
   pub comes_to : o ≡ (run_comes now before (run_left (record { macros = now.macros; texts = around.texts }) run held.budget) >>= λ s. rest_done around os p s)
 
--- where so many further files may be opened, one in the other
+-- where this number of further files may be open at once, nested
 abbrev pub around_with : ℕ → Files → Texts → Around
 around_with room files texts = record { texts = texts; enter = entered room files texts }
 
@@ -94,7 +94,7 @@ abbrev pub AreWaiting : Texts → List Includer → Type 0
 AreWaiting names [] = Unit {0}
 AreWaiting names (i ∷ is) = IsWaiting names i × AreWaiting names is
 
--- the files that are open, at most so many of which wait
+-- the open files, of which at most this number wait
 pub record AreStacked (names : Texts) (innermost : Reading) (is : List Includer) : Type 0 where
   pub few : length is ≤ max_includes
   pub reading : IsReading innermost
@@ -106,26 +106,26 @@ pub record AreOpen (names : Texts) (innermost : Reading) (is : List Includer) : 
   pub has_files : HaveFiles names innermost.file.run.tokens
   pub idle : innermost.file.run.begun ≡ false → innermost.file.run.tokens ≡ []
 
--- how many further files may be opened, one in the other
+-- how many further files may be opened, nested
 abbrev pub room_of : List Includer → ℕ
 room_of is = max_includes - length is
 
--- ---- what is left
+-- ---- the rest
 
 -- places are presumed as they were in the includer
 abbrev pub back_in : Includer → State → State
 back_in i s = record s { presumed = presumed_of i.presumed }
 
--- an includer goes on behind its #include
+-- an includer continues after its #include
 abbrev pub goes_on : Files → Texts → ℕ → Includer → State → Outcome State
 goes_on files texts room i s = rest_done (around_with room files texts) i.reading.file.conditionals (left_of i.reading) (back_in i s)
 
--- The includers, the innermost first, go on where the file for which they wait comes to this, and leaves room for so many.
+-- The includers, innermost first, continue where the file for which they wait results in this outcome and leaves this much room.
 abbrev pub resumed_all : Files → Texts → ℕ → List Includer → Outcome State → Outcome State
 resumed_all files texts room [] o = o
 resumed_all files texts room (i ∷ is) o = resumed_all files texts (suc room) is (o >>= goes_on files texts (suc room) i)
 
--- what is left of the files that are open comes to this
+-- the rest of the open files results in this outcome
 pub record Left (names : Texts) (held : Held) (set : Files) (texts : Texts) (innermost : Reading) (is : List Includer) (o : Outcome State) : Type 0 where
   pub inner : Outcome State
   pub stands : Stands names held innermost.file.run (around_with (room_of is) set texts) innermost.file.conditionals (left_of innermost) inner

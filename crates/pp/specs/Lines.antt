@@ -1,4 +1,4 @@
--- The token lines of a file, each with the physical line on which it ends, behind which the numbering of #line begins
+-- The token lines of a file, each with the physical line on which it ends; the numbering of #line begins after that line
 -- (ISO/IEC 9899:2011 6.10.4).
 use Rattle.std.specs.Prelude.{ℕ, List, [], ◌∷◌, drop, Result, Ok, Err}
 use Rattle.srcset.specs.declared.refusal.Refusal.{Refusal}

@@ -26,7 +26,7 @@ use Rattle.pp.specs.Groups.{Group, ends, run, directive, section, open_section, 
 
 -- ---- faults and states
 
--- what is wrong, the presumed place, and the text that the fault adds
+-- the kind of the fault, its presumed place, and the text that it adds
 pub record Fault : Type 0 where
   pub code : Code
   pub at : Pos
@@ -38,7 +38,7 @@ pub record Presumed : Type 0 where
   pub line : ℕ
   pub file : ℕ
 
--- What was done so far: the macros, the replacements left, the tokens of whole runs, and how places are presumed.
+-- The state so far: the macros, the replacements left, the tokens of whole runs, and how places are presumed.
 pub record State : Type 0 where
   pub macros : Macros
   pub left : ℕ
@@ -93,7 +93,7 @@ of_expansion s (Err f) = fails s f.code f.at
 abbrev pub expand : Texts → List Token → Ending → State → Outcome (List Token × State)
 expand texts xs ending s = of_expansion s (expanded (record { macros = s.macros; texts = texts }) xs ending s.left)
 
--- at most so many tokens are given in all
+-- the total number of given tokens is limited
 abbrev pub first_past : Option Token → List Token → State → State → Outcome State
 first_past None all old s = goes (record s { given = all })
 first_past (Some x) all old s = fails old code.TokenLimit x.pos
@@ -116,7 +116,7 @@ undefined s at _ = fails s code.BadDirective at
 
 -- ---- #include (6.10.2)
 
--- what stands between the quotes or brackets
+-- the text between the quotes or brackets
 abbrev pub inside : List ℕ → List ℕ
 inside text = take (length text - 2) (drop 1 text)
 
@@ -159,7 +159,7 @@ abbrev pub is_header_kind : Kind → Bool
 is_header_kind kind.HeaderName = true
 is_header_kind _ = false
 
--- a header name, and nothing behind it (6.10p1)
+-- a header name, and nothing after it (6.10p1)
 abbrev pub include_named : Enter → Pos → List Token → State → Outcome State
 include_named enter at (x ∷ []) s = enter x.spelling at s >>= resumed s
 include_named enter at _ s = fails s code.BadDirective at
@@ -183,7 +183,7 @@ is_file_byte b = nat_le 32 b && nat_le b 126 && not (b == backslash)
 abbrev pub is_file_text : Token → Bool
 is_file_text x = is_plain_string x && list_all is_file_byte (inside x.spelling)
 
--- the line behind the directive's is presumed to be this one
+-- the line after the directive is presumed to have this number
 abbrev pub numbered : ℕ → List ℕ → ℕ → State → Outcome State
 numbered end digits file s =
     goes (record s { presumed = record { from = suc end; line = value_of 10 digits; file = file } })
@@ -205,7 +205,7 @@ line_done texts end at xs s = expand texts xs of_directive s >>= line_made texts
 abbrev pub printable : ℕ → ℕ
 printable b = if nat_le 32 b && nat_le b 126 then b else byte "?"
 
--- each token behind a space, cut after 200 bytes
+-- each token after a space, cut after 200 bytes
 abbrev pub error_text : List Token → List ℕ
 error_text xs = take 200 (map printable (flat_map (λ x. byte " " ∷ x.spelling) xs))
 
@@ -242,7 +242,7 @@ truth_token b x = record x { kind = kind.Number; spelling = (if b then codes "1"
 abbrev pub name_operand : Token → ℕ → Option (List ℕ × ℕ)
 name_operand x n = if is_identifier x then Some (x.spelling, n) else None
 
--- the name behind a `defined`, and how many tokens it takes
+-- the name after a `defined`, and how many tokens it takes
 abbrev pub operand_of : List Token → Option (List ℕ × ℕ)
 operand_of [] = None
 operand_of (x ∷ []) = name_operand x 1
@@ -303,11 +303,11 @@ branch_by texts _ s = goes (false, s)
 unfoldable pub branch_taken : Texts → Line → State → Outcome (Bool × State)
 branch_taken texts l s = branch_by texts (presume s l.tokens) s
 
--- behind a branch that is taken an #elif is not read
+-- after a branch that is taken an #elif is not read
 abbrev pub else_checked : Line → State → Outcome State
 else_checked l s = if is_else l.tokens && nat_lt 2 (length l.tokens) then fails s code.BadDirective (presumed_at s (place_of l.tokens)) else goes s
 
--- #endif, and nothing behind it
+-- #endif, and nothing after it
 abbrev pub end_checked : Line → State → Outcome State
 end_checked l s = if nat_lt 2 (length l.tokens) then fails s code.BadDirective (presumed_at s (place_of l.tokens)) else goes s
 
@@ -324,12 +324,12 @@ or_else None other = other
 abbrev pub plain_fault : Code → Pos → Option Fault
 plain_fault c at = Some (record { code = c; at = at; text = [] })
 
--- a conditional within so many open ones is one too many
+-- a conditional nested in this number of open ones is one too many
 abbrev pub nested : ℕ → Pos → (Unit {0} → Option Fault) → Option Fault
 nested depth at rest = if nat_le max_conditionals depth then plain_fault code.NestingLimit at else rest tt
 
 -- In a group that is skipped directives only keep track of the nesting (6.10.1p6): the first place where that fails.
--- `opened` is where the conditional stands that opened the group, `depth` how many are open.
+-- `opened` is the place of the conditional that opened the group, `depth` how many are open.
 unfoldable mutual
   pub skipped : State → Pos → ℕ → Group → Option Fault
   skipped s opened depth ends = None
@@ -351,7 +351,7 @@ abbrev pub unless_fault : Option Fault → State → Outcome State
 unless_fault None s = goes s
 unless_fault (Some f) s = stops s.given f
 
--- what is fixed: the numbers of texts, and what a file does that is entered
+-- the fixed context: the numbers of texts, and the effect of entering a file
 pub record Around : Type 0 where
   pub texts : Texts
   pub enter : Enter
@@ -403,7 +403,7 @@ abbrev pub lines_done : Around → Result (List Line) Refusal → State → Outc
 lines_done around (Ok ls) s = group_done around (record { file = 0; line = 0 }) 0 (groups ls) s
 lines_done around (Err r) s = refused r s
 
--- a file is scanned whole as it is entered, and its lines are presumed to be what they are
+-- a file is scanned whole as it is entered; the presumed places of its lines start as the physical ones
 unfoldable pub file_done : Around → List ℕ → List ℕ → State → Outcome State
 file_done around name bytes s =
     let file = number_in around.texts name in
@@ -413,7 +413,7 @@ abbrev pub entered_by : Option (List ℕ × List ℕ) → Pos → State → (Lis
 entered_by None at s enter = fails s code.IncludeNotFound at
 entered_by (Some f) at s enter = enter f.0 f.1
 
--- with so many further includes, one in the other
+-- with room for this number of further nested includes
 unfoldable pub entered : ℕ → Files → Texts → Enter
 entered zero files texts name at s = entered_by (file_meant files name) at s (λ _ _. fails s code.NestingLimit at)
 entered (suc n) files texts name at s =

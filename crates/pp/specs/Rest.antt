@@ -1,4 +1,4 @@
--- What the lines from some line on still come to, within the conditionals that are open there, the innermost first.
+-- The outcome of the lines from some line on, within the conditionals that are open there, innermost first.
 use Rattle.std.specs.Prelude.{ℕ, suc, List, [], ◌∷◌, length, Bool, true, false}
 use Rattle.srcset.specs.declared.refusal.Pos.{Pos}
 use Rattle.pp.specs.declared.conditionals.BranchState.{BranchState}
@@ -59,7 +59,7 @@ closed_by Skipped l s = goes s
 abbrev pub open_at : Pos → BranchState → Line → Open
 open_at at b l = record { at = at; branch = b; behind_else = is_else l.tokens }
 
--- an #elif or #else: behind an #else there may be none
+-- an #elif or #else: none may follow an #else
 abbrev pub divided : Bool → BranchState → Around → Pos → ℕ → Group → Line → (Open → State → Outcome State) → State → Outcome State
 divided true b around at depth g l rest s = within b around at depth (ended_by (unbalanced (place_of l.tokens)) g) s
 divided false b around at depth g l rest s =

@@ -13,13 +13,13 @@ use Rattle.pp.specs.Phase4.{Fault, State, Outcome, Phase4, ending_of, max_tokens
 use Rattle.pp.specs.Left.{around_with, AreOpen, ends_run, Left, left_of, Pulling, resumed_all, room_of}
 use Rattle.pp.specs.Held.{IsSound}
 
--- ---- what is left
+-- ---- the rest
 
 -- how many tokens it gave
 abbrev pub taken_of : Pp → ℕ
 taken_of pp = pp.state.given
 
--- what is left behind so many tokens
+-- the rest after this number of tokens
 abbrev pub left_behind : ℕ → Phase4 → Phase4
 left_behind n whole = record { tokens = drop n whole.tokens; fault = whole.fault }
 
@@ -29,13 +29,13 @@ fault_meant texts Memory = None
 fault_meant texts (At c at) = Some (record { code = c; at = at; text = [] })
 fault_meant texts (Told c at n) = Some (record { code = c; at = at; text = shown_text texts n })
 
--- what is left of the open files comes to this
+-- the rest of the open files results in this phase 4
 pub record ComesTo (names texts : Texts) (pp : Pp) (rest : Phase4) : Type 0 where
   pub outcome : Outcome State
   pub left : Left names pp.state pp.set.now texts pp.files.innermost pp.files.includers.items outcome
   pub rest_is : rest ≡ left_behind (taken_of pp) (ending_of outcome)
 
--- what is left of the run that is pulled, and of the open files behind it, comes to this
+-- the rest of the pulled run, and of the open files after it, results in this phase 4
 pub record PullsTo (names texts : Texts) (pp : Pp) (rest : Phase4) : Type 0 where
   pub outcome : Outcome State
   pub inner : Outcome State
@@ -62,7 +62,7 @@ RestBy (Refused (Told c at n)) names texts pp rest = rest ≡ ends_with (fault_m
 abbrev pub IsRest : Texts → Texts → Pp → Phase4 → Type 0
 IsRest names texts pp rest = RestBy pp.stage names texts pp rest
 
--- ---- what a stream keeps
+-- ---- the invariant of a stream
 
 -- the files that are read have numbers among these
 abbrev pub ReadsBy : Stage → Texts → Pp → Type 0
@@ -76,19 +76,19 @@ pub record IsStream (names : Texts) (pp : Pp) : Type 0 where
   pub few : taken_of pp ≤ max_tokens
   pub reads : ReadsBy pp.stage names pp
 
--- ---- what it answers
+-- ---- its results
 
 -- it refuses each further token like this
 pub record Refuses (pp : Pp) (refusal : Refusal) : Type 0 where
   pub stage_is : pp.stage ≡ Refused refusal
 
--- the first token of what is left; or one of a run that ends in a fault, before that is told
+-- the first token of the rest; or a token of a run that ends in a fault, before that fault is reported
 abbrev pub IsFirst : Token → Texts → Texts → Pp → Phase4 → Type 0
 IsFirst x names texts pp rest =
     ((more : List Token) × (rest.tokens ≡ x ∷ more) × IsRest names texts pp (record { tokens = more; fault = rest.fault }))
     ⊎ ((rest.tokens ≡ []) × (is_some rest.fault ≡ true) × IsRest names texts pp rest)
 
--- What comes of this rest: its first token, and the others are left; none, where it is the end alone; its fault, where no token is
+-- The result of this rest: its first token, and the others are left; none, where it is the end alone; its fault, where no token is
 -- left.
 abbrev pub IsNext : Result (Option Token) Refusal → Texts → Texts → Pp → Phase4 → Type 0
 IsNext (Ok (Some x)) names texts pp rest = IsFirst x names texts pp rest
@@ -103,14 +103,14 @@ taken_after (Ok (Some x)) n = suc n
 taken_after (Ok None) n = n
 taken_after (Err refusal) n = n
 
--- What a stream answers where names had the first numbers, and have the second ones behind it. It refuses for ever.
+-- The result of a stream where the names had the first numbers, and have the second ones afterwards. A refused stream stays refused.
 pub record IsAnswer (answer : Result (Option Token) Refusal) (names after : Texts) (old new : Pp) : Type 0 where
   pub next : (texts : Texts) (rest : Phase4) → KeepsNumbers after texts → IsRest names texts old rest → IsNext answer after texts new rest
   pub taken : taken_of new ≡ taken_after answer (taken_of old)
   pub refuses : IfErr answer (Refuses new)
   pub again : (refusal : Refusal) → Refuses old refusal → answer ≡ Err refusal
 
--- the same answer, told by a fault
+-- the same result, reported as a fault
 abbrev pub IsTold : Result (Option Token) ToldFault → Texts → Result (Option Token) Refusal → Type 0
 IsTold (Ok given) texts answer = answer ≡ Ok given
 IsTold (Err fault) texts answer = (refusal : Refusal) × IsFaultOfRefusal fault texts refusal × (answer ≡ Err refusal)

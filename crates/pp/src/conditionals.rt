@@ -21,9 +21,9 @@ pub enum BranchState {
     Waiting,
     /// The branch is the one that is taken.
     Taken,
-    /// The branch stands behind the one that was taken.
+    /// The branch follows the one that was taken.
     Past,
-    /// The conditional stands in a group that is skipped.
+    /// The conditional is in a group that is skipped.
     Skipped,
 }
 

@@ -55,7 +55,7 @@ fn name_operand<'a, 'b>(name: &'b PpToken<'a>, taken: usize) -> Option<(&'b [u8]
     }
 }
 
-// The name behind a `defined`, in parentheses or not, and how many tokens that takes.
+// The name after a `defined`, in parentheses or not, and how many tokens that takes.
 fn operand_of<'a, 'b>(further: &'b [PpToken<'a>]) -> Option<(&'b [u8], usize)>
     ensures { operand_meant result ≡ operand_of further.now }
 {
@@ -82,7 +82,7 @@ fn is_defined(token: &PpToken) -> bool
     is_identifier(token) && is_spelled(token, b"defined")
 }
 
-// Puts what the first token is once `defined` is resolved, and says how many tokens behind it are its operand's.
+// Appends the first token with `defined` resolved, and returns how many tokens after it are its operand's.
 fn put_resolved<'a>(
     state: &State<'a>,
     alloc: Global,
@@ -112,7 +112,7 @@ fn put_resolved<'a>(
     Ok(taken)
 }
 
-// The same with the token of this number, unless it is one of so many that belong to an operand.
+// The same with the token of this number, unless it is one of the `skip` tokens that belong to an operand.
 fn put_next<'a>(
     state: &State<'a>,
     alloc: Global,
@@ -156,7 +156,7 @@ fn resolved<'a>(
     Ok(list)
 }
 
-// Whether the condition of an `#if` or `#elif` holds, by the tokens behind its name.
+// Whether the condition of an `#if` or `#elif` holds, by the tokens after its name.
 fn condition<'a>(
     state: &mut State<'a>,
     alloc: Global,
@@ -176,7 +176,7 @@ fn condition<'a>(
     truth(alloc, &tokens, at)
 }
 
-// Whether the name behind `#ifdef` or `#ifndef` is one of a macro, or is none, as is wanted.
+// Whether the name after `#ifdef` or `#ifndef` is that of a macro, or is not, as `wanted` says.
 fn macro_asked<'a>(
     state: &State<'a>,
     wanted: bool,
@@ -199,7 +199,7 @@ fn macro_asked<'a>(
     }
 }
 
-// An `#else` is taken, where nothing stands behind it.
+// An `#else` is taken, where nothing follows it.
 fn else_asked<'a>(state: &State<'a>, further: &[PpToken<'a>], at: Pos) -> Result<bool, Refusal>
     ensures { (names : Texts) (s : Done) → Agrees names state.now s → Asks s.given result names state.now (else_asked at (presume s further.now) s) }
 {
@@ -238,7 +238,7 @@ fn branch_taken<'a>(
     condition(state, alloc, further, at, names)
 }
 
-// Refused where anything stands behind an `#else`.
+// Refused where anything follows an `#else`.
 fn check_else<'a>(state: &State<'a>, line: &[PpToken<'a>]) -> Result<(), Refusal>
     ensures { (names : Texts) (end : ℕ) → Does result names state.now names state.now (else_checked (line_with line.now end)) }
 {
@@ -248,7 +248,7 @@ fn check_else<'a>(state: &State<'a>, line: &[PpToken<'a>]) -> Result<(), Refusal
     Ok(())
 }
 
-/// Refused where anything stands behind an `#endif`.
+/// Refused where anything follows an `#endif`.
 pub fn check_end<'a>(state: &State<'a>, line: &[PpToken<'a>]) -> Result<(), Refusal>
     ensures { (names : Texts) (end : ℕ) → Does result names state.now names state.now (end_checked (line_with line.now end)) }
 {

@@ -11,7 +11,7 @@ use srcset::Refusal;
 use std::alloc::Global;
 use std::marker::Model;
 
-/// The physical lines on which the token lines of a file end, which are counted when the first is asked for.
+/// The physical lines on which the token lines of a file end, counted when the first is requested.
 #[derive(Drop)]
 pub struct LineEnds<'a> {
     bytes: &'a [u8],

@@ -24,7 +24,7 @@ fn printable(byte: u8) -> u8
     }
 }
 
-// Puts the bytes, as far as they are printable.
+// Appends the bytes, as far as they are printable.
 fn put_printable(text: &mut Vec<u8>, bytes: &[u8]) -> Result<(), AllocError>
     ensures { OnOk result (text.new.items ≡ text.old.items ++ map printable bytes.now) }
 {
@@ -34,7 +34,7 @@ fn put_printable(text: &mut Vec<u8>, bytes: &[u8]) -> Result<(), AllocError>
     Ok(())
 }
 
-// Puts each token behind a space.
+// Appends each token after a space.
 fn put_tokens(text: &mut Vec<u8>, tokens: &[PpToken]) -> Result<(), AllocError>
     ensures { OnOk result (text.new.items ≡ text.old.items ++ map printable (flat_map spaced_out tokens.now)) }
 {
@@ -55,7 +55,7 @@ fn error_text(alloc: Global, tokens: &[PpToken]) -> Result<Vec<u8>, AllocError>
     Ok(text)
 }
 
-/// The refusal of an `#error`, by the tokens behind its name, at this place.
+/// The refusal of an `#error`, by the tokens after its name, at this place.
 pub fn refusal_of(alloc: Global, tokens: &[PpToken], at: Pos, names: &mut Names) -> Refusal
     ensures told { (s : Done) → StopsAs s.given names.new result (error_done at tokens.now s) }
     ensures keeps { KeepsNumbers names.old names.new }

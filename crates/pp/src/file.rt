@@ -24,7 +24,7 @@ use phases::{Lines, PpToken};
 use srcset::{Code, Names, Pos, Refusal};
 use std::alloc::Global;
 
-/// What is held of a file while its lines are done: the run and the conditionals that are open, and where its lines end.
+/// The state of a file while its lines are processed: the run and the conditionals that are open, and where its lines end.
 #[derive(Drop)]
 pub struct OpenFile<'a> {
     pub run: Run<'a>,
@@ -120,7 +120,7 @@ fn closes<'a>(
     }
 }
 
-// A directive, behind the end of a run.
+// A directive, after the end of a run.
 fn directive_done<'a>(
     alloc: Global,
     line: &[PpToken<'a>],

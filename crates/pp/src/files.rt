@@ -25,7 +25,7 @@ use std::alloc::Global;
 use std::collections::VecDeque;
 use std::mem;
 
-/// How many files may be open at once beside the main one, each included by the one before it.
+/// How many files may be open at once in addition to the main one, each included by the one before it.
 pub const MAX_INCLUDES: usize = 32;
 
 /// A file, the lines of which are done one after another.
@@ -119,7 +119,7 @@ impl<'a> Reading<'a> {
         }
     }
 
-    // Does the next line. Gives the file that it includes, if it includes one; so many may still be opened, one in the other.
+    // Processes the next line. Returns the file that it includes, if any; `room` further nested files may still be opened.
     fn line_done(
         &mut self,
         alloc: Global,
@@ -181,7 +181,7 @@ impl<'a> Files<'a> {
         })
     }
 
-    // How many further files may be opened, one in the other.
+    // How many further files may be opened, nested.
     fn room(&self) -> usize
         ensures { result ≡ room_of self.now.includers.items }
     {

@@ -1,4 +1,4 @@
-//! Files behind a guard: `#ifndef` of a macro around all that a file has, so that it does nothing once the macro is defined.
+//! Files with an include guard: `#ifndef` of a macro around the whole file, so that it does nothing once the macro is defined.
 ghost use Rattle.std.specs.Prelude.{◌≡◌, ◌∷◌, ℕ, List, true, nat_lt, length, Ok, IfSome};
 ghost use Rattle.phases.specs.Lines.{scanned};
 ghost use Rattle.pp.specs.Groups.{of_text, opens, divides, closes, stands_alone, role_of};
@@ -28,7 +28,7 @@ fn guard_name<'a>(line: &[PpToken<'a>]) -> Option<&'a [u8]>
     name.lent_spelling()
 }
 
-// A conditional opens, or goes on with a further branch. Where it stands is left out, since it differs.
+// A conditional opens, or continues with a further branch. Its place is left out, since it differs.
 fn put(line: &[PpToken], branch: BranchState, conditionals: &mut Conditionals) -> bool
     ensures { result ≡ true → conditionals.new ≡ opened_by line.now branch ∷ conditionals.old }
 {
@@ -70,7 +70,7 @@ fn text_passed(line: &[PpToken], conditionals: &Conditionals) -> bool
     true
 }
 
-// The guard itself does nothing where its macro is defined; what opens behind it is skipped.
+// The guard itself does nothing where its macro is defined; a conditional that opens after it is skipped.
 fn opens_passed<'a>(
     line: &[PpToken<'a>],
     guard: &mut Option<&'a [u8]>,
@@ -115,7 +115,7 @@ fn divides_passed(line: &[PpToken], conditionals: &mut Conditionals) -> bool
     }
 }
 
-// Behind the `#endif` of the guard nothing may stand in its line.
+// Nothing may follow the `#endif` of the guard in its line.
 fn closes_passed(line: &[PpToken], conditionals: &mut Conditionals) -> bool
     requires role { role_of line.now ≡ closes }
     ensures passes { result ≡ true → PassesAlways line.now conditionals.old conditionals.new }

@@ -150,7 +150,7 @@ fn source_named<'a>(
     Ok(source)
 }
 
-// The file of a header name, behind which nothing may stand (6.10p1).
+// The file of a header name, which nothing may follow (6.10p1).
 fn header_named<'a>(
     alloc: Global,
     set: &'a FileSet,
@@ -170,7 +170,7 @@ fn header_named<'a>(
     source_named(alloc, set, room, name.spelling(), at, names)
 }
 
-// The file of what macros made of the tokens: one string literal.
+// The file named by the expansion of the tokens: one string literal.
 fn string_named<'a>(
     alloc: Global,
     set: &'a FileSet,
@@ -193,7 +193,7 @@ fn string_named<'a>(
     source_named(alloc, set, room, name.spelling(), at, names)
 }
 
-// The file that an `#include` names, by the tokens behind its name. So many may still be opened, one in the other.
+// The file that an `#include` names, by the tokens after its name. `room` further nested files may still be opened.
 fn included<'a>(
     alloc: Global,
     set: &'a FileSet,
@@ -222,8 +222,8 @@ fn included<'a>(
     string_named(alloc, set, room, &tokens, at, state, names)
 }
 
-/// The file that an `#include` names, before which the run has ended; `None` where the line is skipped. So many files may still
-/// be opened, one in the other.
+/// The file that an `#include` names, before which the run has ended; `None` where the line is skipped. `room` further files may still
+/// be opened, nested.
 pub fn include_done<'a>(
     alloc: Global,
     set: &'a FileSet,

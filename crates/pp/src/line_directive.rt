@@ -50,7 +50,7 @@ fn line_number(text: &[u8]) -> Option<u32>
     if value == 0 { None } else { Some(value) }
 }
 
-/// What stands between the quotes or brackets.
+/// The text between the quotes or brackets.
 pub fn inside(text: &[u8]) -> &[u8]
     ensures { result.now ≡ inside text.now }
 {
@@ -60,14 +60,14 @@ pub fn inside(text: &[u8]) -> &[u8]
     &text[1..text.len() - 1]
 }
 
-// Whether it may stand in the name of a file.
+// Whether the byte may appear in the name of a file.
 fn is_file_byte(byte: u8) -> bool
     ensures { result ≡ is_file_byte byte }
 {
     byte >= 32 && byte <= 126 && byte != b'\\'
 }
 
-// Whether each byte may stand in the name of a file.
+// Whether each byte may appear in the name of a file.
 fn are_file_bytes(text: &[u8]) -> bool
     ensures { result ≡ list_all is_file_byte text.now }
 {
@@ -112,7 +112,7 @@ fn bad_line(at: Pos) -> Refusal
     }
 }
 
-// Presumes that the line behind this physical one has this number, in the file that the string literal gives.
+// Presumes that the line after this physical one has this number, in the file that the string literal gives.
 fn rename<'a>(
     state: &mut State<'a>,
     end: u32,
@@ -141,7 +141,7 @@ fn rename<'a>(
     Ok(())
 }
 
-// Presumes that the line behind this physical one has this number, in this file or in that of a string literal.
+// Presumes that the line after this physical one has this number, in this file or in that of a string literal.
 fn renumber<'a>(
     state: &mut State<'a>,
     end: u32,
@@ -170,7 +170,7 @@ fn renumber<'a>(
     }
 }
 
-/// Does what a `#line` says that ends on this physical line, by the tokens behind its name.
+/// Executes a `#line` that ends on this physical line, by the tokens after its name.
 pub fn line_done<'a>(
     state: &mut State<'a>,
     alloc: Global,

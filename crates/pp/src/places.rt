@@ -7,7 +7,7 @@ ghost use Rattle.pp.specs.inside.Stepping.{presumed_by, placed};
 use phases::PpToken;
 use srcset::{Pos, Refusal};
 
-/// How places are presumed (ISO/IEC 9899:2011 6.10.4): behind the physical line `behind` as `line` and those after it, of
+/// How places are presumed (ISO/IEC 9899:2011 6.10.4): after the physical line `behind` as `line` and those after it, of
 /// the file with this number of `Names`.
 #[derive(Clone, Copy)]
 pub struct Presumed {
@@ -44,7 +44,7 @@ impl Presumed {
         })
     }
 
-    /// Puts the tokens behind others, each at its presumed place.
+    /// Appends the tokens, each at its presumed place.
     pub fn put<'a>(self, line: &[PpToken<'a>], tokens: &mut Vec<PpToken<'a>>) -> Result<(), Refusal>
         ensures ok { OnOk result (tokens.new.items ≡ tokens.old.items ++ placed (presumed_of self) line.now) }
         ensures err { IfErr result (λ refusal. refusal ≡ Memory) }

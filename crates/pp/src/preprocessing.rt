@@ -13,7 +13,7 @@ use std::alloc::Global;
 ///
 /// Refused with the fault in which phase 4 ends: 103 at line 0 where the set has no file of that name; the fault
 /// of a file's phases 1 to 3, as it is entered; those of the directives and of the replacement of macros; 707 where a 33rd
-/// file would be open beside the main one; 708 at the first token past 1,048,576. `Memory` where memory runs out.
+/// file would be open in addition to the main one; 708 at the first token past 1,048,576. `Memory` where memory runs out.
 pub fn try_preprocess<'a>(
     alloc: Global,
     set: &'a FileSet,

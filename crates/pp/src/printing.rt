@@ -9,7 +9,7 @@ use srcset::{Code, Fault, write_text};
 use std::alloc::{AllocError, Global};
 use std::io::Write;
 
-// Puts each spelling behind a space.
+// Appends each spelling after a space.
 fn put_further(text: &mut Vec<u8>, further: &[PpToken]) -> Result<(), AllocError>
     ensures { OnOk result (text.new.items ≡ text.old.items ++ flat_map behind_space further.now) }
 {
@@ -20,7 +20,7 @@ fn put_further(text: &mut Vec<u8>, further: &[PpToken]) -> Result<(), AllocError
     Ok(())
 }
 
-// Puts the spellings with one space between.
+// Appends the spellings with one space between.
 fn put_spaced(text: &mut Vec<u8>, list: &[PpToken]) -> Result<(), AllocError>
     ensures { OnOk result (text.new.items ≡ text.old.items ++ spaced list.now) }
 {

@@ -27,7 +27,7 @@ pub fn pull_run<'a>(
     run.try_next(alloc, &state.table, &mut state.budget, names)
 }
 
-// Why a run is refused whose token at this place is the first that is too many: what is left of it is expanded, and not kept.
+// Why a run is refused whose token at this place is the first in excess: the rest is expanded, and not kept.
 fn refusal_by<'a>(
     alloc: Global,
     run: &mut Expander<'a>,
@@ -53,7 +53,7 @@ fn refusal_by<'a>(
     }
 }
 
-/// Why a run is refused whose token at this place is the first that is too many: what is left of it is expanded, and not kept.
+/// Why a run is refused whose token at this place is the first in excess: the rest is expanded, and not kept.
 pub fn refusal_behind<'a>(
     alloc: Global,
     run: &mut Expander<'a>,

@@ -11,7 +11,7 @@ use srcset::Refusal;
 use std::alloc::Global;
 use std::mem;
 
-// Puts the tokens behind others, each at its presumed place.
+// Appends the tokens, each at its presumed place.
 fn gather<'a>(
     line: &[PpToken<'a>],
     presumed: Presumed,
@@ -47,7 +47,7 @@ impl<'a> Run<'a> {
         }
     }
 
-    /// Puts a line last. A newline between two lines is white space (ISO/IEC 9899:2011 6.10.3p10).
+    /// Appends a line. A newline between two lines is white space (ISO/IEC 9899:2011 6.10.3p10).
     pub fn put_line(&mut self, line: &[PpToken<'a>], presumed: Presumed) -> Result<(), Refusal>
         ensures begun { self.new.begun ≡ true }
         ensures ok { OnOk result (self.new.tokens ≡ self.old.tokens ++ placed (presumed_of presumed) (behind_line self.old.begun line.now)) }

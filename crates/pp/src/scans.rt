@@ -65,7 +65,7 @@ impl<'a> Scanned<'a> {
         self.lines.len()
     }
 
-    /// The tokens of the line with this number, counted from 0. `None` where there are not so many lines.
+    /// The tokens of the line with this number, counted from 0. `None` where there are fewer lines.
     pub fn get(&self, index: usize) -> Option<&[PpToken<'a>]>
         ensures { option_map (λ line. line.now) result ≡ slice_get self.now index }
     {
@@ -89,7 +89,7 @@ impl<'a> Scanned<'a> {
         self.name == name
     }
 
-    /// The same lines once more, where they are those of this file.
+    /// The same lines, shared, where they are those of this file.
     pub fn shared_as(&self, source: &Source<'a>) -> Option<Scanned<'a>>
         ensures { IfSome result (λ lines. scanned source.now.name source.now.bytes.now ≡ Ok lines) }
     {
@@ -112,7 +112,7 @@ impl<'a> Scanned<'a> {
     }
 }
 
-/// A file behind a guard, which does nothing where the guard's macro is defined.
+/// A file with an include guard, which does nothing where the guard's macro is defined.
 #[derive(Drop)]
 struct Guarded<'a> {
     name: usize,

@@ -1,4 +1,4 @@
-//! What phase 4 has done so far, and what ends of runs and directives do to it.
+//! The state of phase 4, and the effect on it of ends of runs and of directives.
 ghost use Rattle.std.specs.Prelude.{◌≡◌, ◌<◌, true, false, length, drop, codes, IfOk, IfErr, OnOk};
 ghost use Rattle.srcset.specs.NameTable.{Texts, KeepsNumbers};
 ghost use Rattle.srcset.specs.declared.refusal.Refusal.TheVariants.{At};
@@ -28,7 +28,7 @@ use std::alloc::Global;
 /// The greatest number of replacements of macros.
 pub const MAX_REPLACEMENTS: u32 = 1048576;
 
-/// What was done so far: the macros, the replacements left, how many tokens were given, and how places are presumed.
+/// The state so far: the macros, the replacements left, how many tokens were given, and how places are presumed.
 #[derive(Drop)]
 pub struct State<'a> {
     pub table: MacroTable<'a>,
@@ -37,7 +37,7 @@ pub struct State<'a> {
     pub presumed: Presumed,
 }
 
-/// Behind the name of a directive stand tokens that it does not take, or there is no such directive.
+/// Tokens that the directive does not take follow its name, or there is no such directive.
 pub fn bad_directive(at: Pos) -> Refusal
     ensures { result ≡ At BadDirective at }
 {
@@ -62,7 +62,7 @@ impl<'a> State<'a> {
         }
     }
 
-    /// What comes of the tokens of a directive once macros are replaced.
+    /// The expansion of the tokens of a directive.
     pub fn expand_directive(
         &mut self,
         alloc: Global,
@@ -87,7 +87,7 @@ impl<'a> State<'a> {
         Ok(list)
     }
 
-    /// The first of these tokens, so many at the most: no more are kept, however many come.
+    /// The expansion of these tokens, at most its first `most` tokens: no more are kept, however many come.
     pub fn expand_first(
         &mut self,
         alloc: Global,
@@ -117,7 +117,7 @@ impl<'a> State<'a> {
         Ok(first)
     }
 
-    // `#define` (ISO/IEC 9899:2011 6.10.3), by the tokens behind the name of the directive.
+    // `#define` (ISO/IEC 9899:2011 6.10.3), by the tokens after the name of the directive.
     fn define(
         &mut self,
         alloc: Global,
@@ -136,7 +136,7 @@ impl<'a> State<'a> {
         self.table.try_define(&tokens, at, names)
     }
 
-    // `#undef` (6.10.3.5), by the tokens behind the name of the directive.
+    // `#undef` (6.10.3.5), by the tokens after the name of the directive.
     fn undef(&mut self, line: &[PpToken<'a>], at: Pos, names: &Names) -> Result<(), Refusal>
         requires { IsSound names.now self.old }
         ensures does { Does result names.now self.old names.now self.new (λ s. undefined s at (presume s line.now)) }
@@ -152,8 +152,7 @@ impl<'a> State<'a> {
         self.table.try_undef(name, at, names)
     }
 
-    // What a directive of this name says that is no part of a conditional section and no `#include` (6.10p1), by the tokens
-    // behind the name.
+    // Executes a directive of this name that is no part of a conditional section and no `#include` (6.10p1), by the tokens after the name.
     fn named(
         &mut self,
         alloc: Global,
@@ -191,7 +190,7 @@ impl<'a> State<'a> {
         Err(bad_directive(at))
     }
 
-    /// Does what a directive says that is no part of a conditional section. A `#` alone does nothing (6.10.7).
+    /// Executes a directive that is no part of a conditional section. A `#` alone does nothing (6.10.7).
     pub fn directive(
         &mut self,
         alloc: Global,

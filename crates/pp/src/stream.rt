@@ -24,7 +24,7 @@ const MAX_TOKENS: usize = 1048576;
 pub enum Stage {
     /// Lines are left.
     Reads,
-    /// A run is pulled, and lines behind it are left.
+    /// A run is pulled, and lines after it are left.
     Pulls,
     /// All lines are done.
     Ended,
@@ -32,19 +32,19 @@ pub enum Stage {
     Refused(Refusal),
 }
 
-/// The tokens after translation phase 4 of a set of files, one after the other (ISO/IEC 9899:2011 5.1.1.2, 6.10). Nothing of a
-/// run is expanded before it is asked for.
+/// The tokens after translation phase 4 of a set of files, one after the other (ISO/IEC 9899:2011 5.1.1.2, 6.10). Nothing of a run is expanded before it is
+/// requested.
 #[derive(Drop)]
 pub struct Pp<'a> {
     set: &'a FileSet,
     files: Files<'a>,
     state: State<'a>,
-    // What is left of the run that is pulled, where one is.
+    // The rest of the run that is pulled, if there is one.
     run: Expander<'a>,
     stage: Stage,
 }
 
-// How far a stream is behind a step, which says whether lines are left.
+// The stage of a stream after a step, which says whether lines are left.
 fn stage_after(done: Result<bool, Refusal>) -> Stage
     ensures { result ≡ stage_after done }
 {
@@ -177,7 +177,7 @@ impl<'a> Pp<'a> {
         self.stage = Stage::Pulls;
     }
 
-    // Does the next line, or ends a file. A run that ends behind it is pulled next.
+    // Processes the next line, or ends a file. A run that ends after it is pulled next.
     fn step(&mut self, alloc: Global, names: &mut Names)
         requires stream { IsStream names.old self.old }
         requires reads { is_reading self.old.stage ≡ true }
@@ -193,7 +193,7 @@ impl<'a> Pp<'a> {
         }
     }
 
-    // The next token of the run that is pulled, where one is. Behind its last one lines are read.
+    // The next token of the run that is pulled, if there is one. After its last one lines are read.
     #[inline(always)]
     fn pull(&mut self, alloc: Global, names: &Names) -> Option<PpToken<'a>>
         requires { IsStream names.now self.old }
@@ -232,7 +232,7 @@ impl<'a> Pp<'a> {
         }
     }
 
-    // What the stream ends with.
+    // The end of the stream.
     fn end(&self) -> Result<Option<PpToken<'a>>, Refusal>
         ensures { result ≡ end_of self.now.stage }
     {
@@ -244,7 +244,7 @@ impl<'a> Pp<'a> {
         }
     }
 
-    /// The next token, with its file and its line, counted from 1. `None` behind the last one. New names get numbers in `names`,
+    /// The next token, with its file and its line, counted from 1. `None` after the last one. New names get numbers in `names`,
     /// which is the table that `new` had, or one with further texts.
     ///
     /// Refused with the fault in which phase 4 ends, once no token is left. `Memory` where memory runs out. A stream that was

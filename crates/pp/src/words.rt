@@ -1,4 +1,4 @@
-//! What a line is, by its first tokens.
+//! The role of a line, by its first tokens.
 ghost use Rattle.std.specs.Prelude.{◌≡◌, ◌||◌, codes};
 ghost use Rattle.macros.specs.Macro.{is_spelled};
 ghost use Rattle.pp.specs.Groups.{is_text, word_role, hash_role, role_of, is_else, place_of};
@@ -8,7 +8,7 @@ use macros::{is_hash, is_identifier};
 use phases::PpToken;
 use srcset::Pos;
 
-/// What a directive is to conditional sections (ISO/IEC 9899:2011 6.10p1).
+/// The role of a directive in conditional sections (ISO/IEC 9899:2011 6.10p1).
 #[derive(Clone, Copy)]
 pub enum Role {
     /// `#if`, `#ifdef` or `#ifndef`.
@@ -42,7 +42,7 @@ fn divides(name: &PpToken) -> bool
     is_spelled(name, b"elif") || is_spelled(name, b"else")
 }
 
-// What a directive of this name is.
+// The role of a directive of this name.
 fn word_role(name: &PpToken) -> Role
     ensures { role_meant result ≡ word_role name.now }
 {
@@ -58,7 +58,7 @@ fn word_role(name: &PpToken) -> Role
     Role::StandsAlone
 }
 
-// What a directive is, by the tokens behind its `#`.
+// The role of a directive, by the tokens after its `#`.
 fn hash_role(further: &[PpToken]) -> Role
     ensures { role_meant result ≡ hash_role further.now }
 {
@@ -72,7 +72,7 @@ fn hash_role(further: &[PpToken]) -> Role
     }
 }
 
-/// What the line is; `None` for text. The first token of a directive is a `#` (ISO/IEC 9899:2011 6.10p2).
+/// The role of the line; `None` for text. The first token of a directive is a `#` (ISO/IEC 9899:2011 6.10p2).
 pub fn role_of(line: &[PpToken]) -> Option<Role>
     ensures { line_role_meant result ≡ role_of line.now }
 {

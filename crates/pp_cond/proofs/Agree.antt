@@ -1,4 +1,4 @@
--- The reading with a stack gives what the definition reads.
+-- The reading with a stack gives the result of the definition's reading.
 use Rattle.std.proofs.Common.{◌≡◌, ℕ, zero, suc, ◌+◌, ◌*◌, ◌≤◌, ◌<◌, Bool, true, false, Option, Some, None, List, [], ◌∷◌, length, refl, sym, ap, ◌∙◌, arith}
 use Rattle.std.specs.Prelude.{codes, nat_le, nat_lt, ◌==◌, if◌then◌else◌}
 use Rattle.std.specs.Map.{lookup}
@@ -19,7 +19,7 @@ use Rattle.pp_cond.specs.inside.Roles.{role_of, bound_of}
 use Rattle.pp_cond.specs.inside.Reading.{Waits, open_parenthesis, sign, left, asked, otherwise, closes, combined, closed, constant_taken, primary_taken, prefix_taken, followed, behind_as, alone_in, then_run, run, start, truth_known}
 use Rattle.pp_cond.proofs.Roles.{at_level, is_question, is_colon, is_close, is_low, Fits, levels_fit, facts}
 
--- ---- what is known of a compound
+-- ---- the type and value of a compound
 
 of_prefix : (op : PrefixOperator) (a : Condition) → known_prefix op (known a) ≡ known (prefix op a)
 unfolding value_of
@@ -50,7 +50,7 @@ after ws a xs = run xs (record { waiting = ws; operand = Some a })
 abbrev expect : List Waits → List Token → Option Known
 expect ws xs = run xs (record { waiting = ws; operand = None })
 
--- how loose what stands first may be, which ends an operand before it
+-- the bound of the first token, which ends an operand before it
 abbrev bound_at : List Token → ℕ
 bound_at [] = 11
 bound_at (x ∷ xs) = bound_of (role_of x.spelling)
@@ -66,14 +66,14 @@ if_false false x y e = refl
 closed_first : (bound : ℕ) (w : Waits) (ws : List Waits) (a : Known) → closes bound w ≡ true → closed bound (w ∷ ws) a ≡ closed bound ws (combined w a)
 closed_first bound w ws a e = if_true (closes bound w) (closed bound ws (combined w a)) (record { waiting = w ∷ ws; operand = a }) e
 
--- what is ended by what follows is ended
+-- a waiting frame that the next token ends is ended
 ends : (w : Waits) (ws : List Waits) (a : Known) (xs : List Token) → closes (bound_at xs) w ≡ true → after (w ∷ ws) a xs ≡ after ws (combined w a) xs
 ends w ws a [] e = ap alone_in (closed_first 11 w ws a e)
 ends w ws a (x ∷ xs) e =
     let r = role_of x.spelling in
     ap (λ c. then_run (followed r c) (λ t. run xs t)) (closed_first (bound_of r) w ws a e)
 
--- what is not ended by operators below a level
+-- frames that operators below a level do not end
 abbrev Keeps : ℕ → List Waits → Type 0
 Keeps n [] = Unit {0}
 Keeps n (w ∷ ws) = (k : ℕ) → k < n → closes k w ≡ false
@@ -110,7 +110,7 @@ bind : (Q : List Token → Type 0) (r : Read) (go : Condition → List Token →
 bind Q None go f g h k = refl
 bind Q (Some r) go f g h k = k r.0 r.1 h
 
--- ---- what is left behind a reading: fewer tokens, and none that the reading would have taken
+-- ---- the rest after a reading: fewer tokens, and none that the reading would have taken
 
 abbrev Rests : ℕ → ℕ → List Token → Type 0
 Rests n bound rest = (length rest < n) × (bound ≤ bound_at rest)
@@ -129,7 +129,7 @@ leaves_none : Leaves zero
 unfolding read
 leaves_none = record { of_operand = λ xs. tt; of_level = λ ls xs f. tt; of_further = λ l tighter a xs f h. tt; of_whole = λ xs. tt }
 
--- behind a text of this spelling
+-- after a token of this spelling
 on_past : (P : List Token → Type 0) (text : List ℕ) (xs : List Token) (go : List Token → Read) → ((rest : List Token) → suc (length rest) ≤ length xs → OnRead P (go rest)) → OnRead P (past text xs go)
 on_past P text [] go h = tt
 on_past P text (x ∷ xs) go h = by (is_spelled text x)
@@ -165,7 +165,7 @@ leaves_level n h (l ∷ tighter) xs f =
     on_then (Rests (length xs) (length tighter)) (Rests (length xs) (suc (length tighter))) (read n (level tighter) xs) (λ a rest. read n (further l tighter a) rest) (h.of_level tighter xs f.2)
     (λ a rest k. weaker (suc (length rest)) (length xs) (suc (length tighter)) (suc (length tighter)) (read n (further l tighter a) rest) (omega (arith, k.0)) (omega arith) (h.of_further l tighter a rest f k.1))
 
--- what is no operator of a level and none of the tighter ones is looser
+-- a token that is no operator of a level, nor of the tighter ones, is looser
 looser : (k : ℕ) (r : Role) → k ≤ 9 → k ≤ bound_of r → at_level k r ≡ None → suc k ≤ bound_of r
 looser k (Infix j op) low h e = by (j == k) refl
   where
@@ -190,7 +190,7 @@ unfolding read
 leaves_further n h l tighter a [] f low = (omega arith, omega (arith, f.0))
 leaves_further n h l tighter a (x ∷ rest) f low = leaves_further_by n h l tighter a x rest f low (lookup (bytes_eq x.spelling) l) (f.1 x.spelling)
 
--- behind all operators and `?` stand only those that end a whole condition
+-- after all operators and `?` come only tokens that end a whole condition
 whole_ends : (r : Role) → is_low r ≡ true → 10 ≤ bound_of r → is_question r ≡ false → 11 ≤ bound_of r
 whole_ends (Infix j op) low h e = absurd (grind (arith, nat_tests))
 whole_ends Question low h e = cc
@@ -287,7 +287,7 @@ agrees_level n g (m ∷ tighter) xs ws f k l =
     ∙ bind (Rests (length xs) (length tighter)) (read n (level tighter) xs) (λ a rest. read n (further m tighter a) rest) (after ws) (after ws) ((leaves n).of_level tighter xs f.2)
     (λ a rest q. g.on_further m tighter a rest ws f k q.1 (omega (arith, q.0)))
 
--- an operator of the level goes on with its right operand; anything else ends the level
+-- an operator of the level is followed by its right operand; anything else ends the level
 further_as : (n : ℕ) → Agrees n → (l : Level) (tighter : List Level) (a : Condition) (x : Token) (rest : List Token) (ws : List Waits) → Fits (l ∷ tighter) → Keeps (suc (length tighter)) ws → 16 * length rest + 16 ≤ n
     → (r : Role) → r ≡ role_of x.spelling → (o : Option Operator) → o ≡ at_level (length tighter) r
     → then_run (behind_as r ws (known a)) (λ t. run rest t) ≡ then_known (maybe_further o a x rest (λ q. read n (level tighter) q) (λ b q. read n (further l tighter b) q)) (after ws)
@@ -328,7 +328,7 @@ unfolding read
 agrees_further n g l tighter a [] ws f k b m = refl
 agrees_further n g l tighter a (x ∷ rest) ws f k b m = further_as n g l tighter a x rest ws f k (omega arith) (role_of x.spelling) refl (lookup (bytes_eq x.spelling) l) (f.1 x.spelling)
 
--- behind `?` and its operand stands `:`, and then the last operand
+-- after `?` and its operand follows `:`, and then the last operand
 separates_as : (n : ℕ) → Agrees n → (r : Role) (b : Bool) (c a : Condition) (q : List Token) (ws : List Waits) → 11 ≤ bound_of r → is_low r ≡ true → b ≡ is_colon r → 16 * length q + 13 ≤ n
     → then_run (behind_as r (asked (known c) ∷ ws) (known a)) (λ t. run q t) ≡ then_known (if b then then_read (read n whole q) (λ d s. Some (choice c a d, s)) else None) (after ws)
 separates_as n g (Infix j op) b c a q ws h low e m = absurd (grind (arith, nat_tests))
@@ -412,6 +412,6 @@ truth_is : (o : Option Condition) → truth_known (known_condition o) ≡ condit
 truth_is None = refl
 truth_is (Some c) = refl
 
--- what the stack reads is what the definition says
+-- the stack's reading is the definition's result
 pub truth_of_run : (xs : List Token) → truth_known (run xs start) ≡ condition_truth (condition_of xs)
 truth_of_run xs = ap truth_known (run_is xs) ∙ truth_is (condition_of xs)

@@ -1,4 +1,4 @@
--- What a token is behind an operand, against the tables of operators.
+-- The role of a token after an operand, against the tables of operators.
 use Rattle.std.proofs.Common.{◌≡◌, length, get_or, ℕ, ◌≤◌, Bool, true, false, Option, Some, None, List, [], ◌∷◌, refl, sym, arith, subst}
 use Rattle.std.specs.Prelude.{codes, nat_lt, ◌==◌, if◌then◌else◌}
 use Rattle.std.specs.Map.{lookup}
@@ -10,7 +10,7 @@ use Rattle.pp_cond.specs.declared.operators.Role.TheVariants.{Infix, Question, C
 use Rattle.pp_cond.specs.Condition.{Level, levels}
 use Rattle.pp_cond.specs.inside.Roles.{role_of, arithmetic_role, comparison_role, bitwise_role}
 
--- ---- what the definition asks of a token, told of its role
+-- ---- the definition's tests of a token, in terms of its role
 
 abbrev pub at_level : ℕ → Role → Option Operator
 at_level k (Infix level op) = if level == k then Some op else None
@@ -41,7 +41,7 @@ abbrev pub Fits : List Level → Type 0
 Fits [] = Unit {0}
 Fits (l ∷ tighter) = (length tighter ≤ 9) × ((s : List ℕ) → lookup (bytes_eq s) l ≡ at_level (length tighter) (role_of s)) × Fits tighter
 
--- of a text: what each level says of it, then the marks of `? :` and `)`
+-- of a spelling: the operator that it is at each level, then the marks of `? :` and `)`
 abbrev pub Facts : List ℕ → Type 0
 Facts s =
     (lookup (bytes_eq s) (get_or levels 0 []) ≡ at_level 9 (role_of s)) ×

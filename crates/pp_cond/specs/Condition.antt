@@ -1,4 +1,4 @@
--- What the tokens of a condition say, once `defined` is resolved and macros are replaced (ISO/IEC 9899:2011 6.10.1p1, p4):
+-- The meaning of the tokens of a condition, once `defined` is resolved and macros are replaced (ISO/IEC 9899:2011 6.10.1p1, p4):
 -- a constant expression (6.6) of integer and character constants, where each identifier left is 0.
 use Rattle.std.specs.Prelude.{ℕ, zero, suc, ◌+◌, ◌*◌, ◌^◌, List, [], ◌∷◌, length, take, drop, Bool, true, false, not, ◌&&◌, ◌||◌, ◌==◌, nat_lt, Option, Some, None, Result, Ok, Err, ℤ, pos, codes, if◌then◌else◌}
 use Rattle.std.specs.List.{list_any}
@@ -86,7 +86,7 @@ joined_by OrElse a b = either a b
 joined_by AndThen a b = both a b
 joined_by (Two op) a b = binary op a b
 
--- ---- reading: a condition at the front, and what follows it
+-- ---- reading: a condition at the front, and the tokens that follow it
 
 abbrev pub Read : Type 0
 Read = Option (Condition × List Token)
@@ -95,17 +95,17 @@ abbrev pub then_read : Read → (Condition → List Token → Read) → Read
 then_read None go = None
 then_read (Some r) go = go r.0 r.1
 
--- on behind a token of this spelling
+-- continues after a token of this spelling
 abbrev pub past : List ℕ → List Token → (List Token → Read) → Read
 past text [] go = None
 past text (x ∷ rest) go = if is_spelled text x then go rest else None
 
 pub data Part : Type 0 where
-  -- logical-OR, with `? :` behind it or not (6.5.15)
+  -- logical-OR, followed by `? :` or not (6.5.15)
   whole : Part
   -- a level and those that are tighter
   level : (ls : List Level) → Part
-  -- further operands of a level, behind a left operand
+  -- further operands of a level, after a left operand
   further : (l : Level) (tighter : List Level) (a : Condition) → Part
   -- a unary operator and its operand, a constant, or parentheses (6.5.1, 6.5.3)
   operand : Part
@@ -114,7 +114,7 @@ abbrev pub constant_read : Option Value → List Token → Read
 constant_read None rest = None
 constant_read (Some v) rest = Some (constant v, rest)
 
--- behind a condition: `?`, a condition, `:` and a condition, or anything else
+-- after a condition: `?`, a condition, `:` and a condition, or anything else
 abbrev pub choice_read : Bool → Condition → Token → List Token → (List Token → Read) → Read
 choice_read false c x more again = Some (c, x ∷ more)
 choice_read true c x more again =
@@ -124,7 +124,7 @@ abbrev pub maybe_choice : Condition → List Token → (List Token → Read) →
 maybe_choice c [] again = Some (c, [])
 maybe_choice c (x ∷ more) again = choice_read (is_spelled (codes "?") x) c x more again
 
--- behind a left operand: an operator of the level and a right operand, and so on, or anything else
+-- after a left operand: an operator of the level and a right operand, and so on, or anything else
 abbrev pub maybe_further : Option Operator → Condition → Token → List Token → (List Token → Read) → (Condition → List Token → Read) → Read
 maybe_further None a x rest right again = Some (a, x ∷ rest)
 maybe_further (Some op) a x rest right again = then_read (right rest) (λ b rest. again (joined_by op a b) rest)

@@ -26,7 +26,7 @@ fn has_defined(tokens: &[PpToken]) -> bool
     tokens.iter().any(is_defined_word)
 }
 
-// The whole condition that the tokens are, or `None` where they are none. Fails for want of memory alone.
+// The whole condition that the tokens are, or `None` where they are none. Fails only when out of memory.
 fn read(alloc: Global, tokens: &[PpToken]) -> Result<Option<Operand>, Refusal>
     ensures ok { IfOk result (λ operand. known_option operand ≡ run tokens.now start) }
     ensures err { IfErr result (λ refusal. refusal ≡ Memory) }
@@ -58,8 +58,8 @@ fn truth_of(operand: Option<Operand>) -> Result<bool, Code>
 ///
 /// # Errors
 ///
-/// All stand at `at`: 223 where a `defined` is left, which replacement made; else 221 where the tokens are no such
-/// expression, or a constant is none of these types; else 222 where what is evaluated overflows, divides by zero or
+/// All are at `at`: 223 where a `defined` is left, which replacement made; else 221 where the tokens are no such
+/// expression, or a constant is none of these types; else 222 where an evaluated operation overflows, divides by zero or
 /// shifts by no count of a bit. 801 where memory runs out.
 pub fn truth(alloc: Global, tokens: &[PpToken], at: Pos) -> Result<bool, Refusal>
     ensures ok { IfOk result (λ b. holds tokens.now ≡ Ok b) }

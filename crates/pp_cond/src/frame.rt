@@ -1,4 +1,4 @@
-//! What waits for an operand while a condition is read.
+//! A frame that waits for an operand while a condition is read.
 ghost use Rattle.std.specs.Prelude.{◌≡◌};
 ghost use Rattle.pp_cond.specs.inside.Operands.{known_of};
 ghost use Rattle.pp_cond.specs.inside.Reading.{wait_of, closes, combined};
@@ -6,7 +6,7 @@ ghost use Rattle.pp_cond.specs.inside.Reading.{wait_of, closes, combined};
 use crate::operand::Operand;
 use crate::operators::{Operator, PrefixOperator};
 
-/// What waits for an operand, or for what stands behind one.
+/// A frame that waits for an operand, or for the token after one.
 #[derive(Clone, Copy, Debug)]
 pub enum Frame {
     /// `(`
@@ -29,7 +29,7 @@ pub enum Frame {
 }
 
 impl Frame {
-    /// Whether what ends operators up to this level ends it. A level over 10 ends `? :`.
+    /// Whether a token that ends operators up to this level ends it. A level over 10 ends `? :`.
     pub(crate) fn closes(self, bound: u8) -> bool
         ensures { result ≡ closes bound (wait_of self) }
     {
@@ -46,7 +46,7 @@ impl Frame {
         }
     }
 
-    /// What it makes of its last operand.
+    /// The operand that it makes of its last operand.
     pub(crate) fn combined(self, last: Operand) -> Operand
         ensures { known_of result ≡ combined (wait_of self) (known_of last) }
     {

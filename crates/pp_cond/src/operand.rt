@@ -10,7 +10,7 @@ use crate::arithmetic::{
 use crate::operators::{Operator, PrefixOperator};
 use ctypes::BinOp;
 
-/// What is known of an operand: its type, and its value, `None` where evaluating it gives none.
+/// The type of an operand, and its value, `None` where evaluating it gives none.
 #[derive(Clone, Copy, PartialEq, Eq, Debug)]
 pub enum Operand {
     /// Of intmax_t.

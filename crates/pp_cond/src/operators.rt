@@ -31,7 +31,7 @@ pub enum Operator {
     Two(BinOp),
 }
 
-/// What a token is behind an operand.
+/// The role of a token after an operand.
 #[derive(Clone, Copy, PartialEq, Eq, Debug)]
 pub enum Role {
     /// An operator of two operands.
@@ -145,7 +145,7 @@ fn arithmetic_role(spelling: &[u8]) -> Role
     comparison_role(spelling)
 }
 
-/// What the token with this spelling is behind an operand.
+/// The role after an operand of the token with this spelling.
 #[tactic(auto, unfolding(crate::specs::inside::Roles::role_of))]
 pub(crate) fn role_of(spelling: &[u8]) -> Role
     ensures { result ≡ role_of spelling.now }
@@ -163,7 +163,7 @@ pub(crate) fn role_of(spelling: &[u8]) -> Role
 }
 
 impl Role {
-    /// How loose what it ends may be: a level; 10 ends every operator, 11 also a `? :`.
+    /// How loose the operators that it ends may be: a level; 10 ends every operator, 11 also a `? :`.
     pub(crate) fn bound(self) -> u8
         ensures { result ≡ bound_of self }
     {

@@ -12,8 +12,8 @@ use phases::PpToken;
 use srcset::Refusal;
 use std::alloc::Global;
 
-/// A condition of which some tokens are read. It keeps what waits for operands, of which it knows types and values
-/// alone, so that its depth costs no stack of the host.
+/// A condition of which some tokens are read. It keeps the frames that wait for operands, with only the types and values of
+/// these, so that its depth costs no stack of the host.
 #[derive(Drop)]
 pub struct Reader {
     /// The newest last.
@@ -22,7 +22,7 @@ pub struct Reader {
     operand: Option<Operand>,
 }
 
-// Ends what waits and is ended by a token with this bound behind the operand; the result is the operand then.
+// Ends the waiting frames that a token with this bound after the operand ends; the result is the operand then.
 fn close(frames: &mut Vec<Frame>, bound: u8, operand: Operand) -> Operand
     ensures { closed bound (waits_of frames.old.items) (known_of operand) ≡ record { waiting = waits_of frames.new.items; operand = known_of result } }
 {
@@ -79,7 +79,7 @@ impl Reader {
         Ok(true)
     }
 
-    // Takes a `:` behind an operand.
+    // Takes a `:` after an operand.
     fn take_colon(&mut self, operand: Operand) -> Result<bool, Refusal>
         ensures ok { IfOk result (λ taken. IsStep taken (separated (waits_of self.old.frames.items) (known_of operand)) (state_of self.new)) }
         ensures err { IfErr result (λ refusal. refusal ≡ Memory) }
@@ -96,7 +96,7 @@ impl Reader {
         }
     }
 
-    // Takes a `)` behind an operand.
+    // Takes a `)` after an operand.
     fn take_close(&mut self, operand: Operand) -> bool
         ensures { IsStep result (parenthesis_closed (waits_of self.old.frames.items) (known_of operand)) (state_of self.new) }
     {
@@ -112,7 +112,7 @@ impl Reader {
         }
     }
 
-    // Takes a token behind an operand.
+    // Takes a token after an operand.
     fn take_behind(&mut self, operand: Operand, token: &PpToken) -> Result<bool, Refusal>
         ensures ok { IfOk result (λ taken. IsStep taken (behind (waits_of self.old.frames.items) (known_of operand) token.now) (state_of self.new)) }
         ensures err { IfErr result (λ refusal. refusal ≡ Memory) }
@@ -138,9 +138,9 @@ impl Reader {
         }
     }
 
-    /// Takes the next token. The result says whether a condition may go on with it.
+    /// Takes the next token. The result says whether a condition may continue with it.
     ///
-    /// Fails for want of memory alone.
+    /// Fails only when out of memory.
     pub(crate) fn take(&mut self, token: &PpToken) -> Result<bool, Refusal>
         ensures ok { IfOk result (λ taken. IsStep taken (step (state_of self.old) token.now) (state_of self.new)) }
         ensures err { IfErr result (λ refusal. refusal ≡ Memory) }

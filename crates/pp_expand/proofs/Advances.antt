@@ -1,4 +1,4 @@
--- On to the next replacement of a list.
+-- Advancing to the next replacement of a list.
 use Rattle.std.proofs.Common.{◌≡◌, ℕ, List, [], ◌∷◌, ◌++◌, Option, Some, None, Result, Ok, Err, sym, ap, ◌∙◌, subst, append-nil}
 use Rattle.std.proofs.lemmas.List.{map-append}
 use Rattle.srcset.specs.declared.refusal.Pos.{Pos}

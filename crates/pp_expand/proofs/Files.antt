@@ -20,13 +20,13 @@ use Rattle.pp_expand.specs.Expansion.{Ending, of_run, of_directive, of_argument,
 use Rattle.pp_expand.specs.Expands.{HaveFiles}
 use Rattle.pp_expand.specs.Pulled.{expanding, made_by, Pull, one_less, pulled_at, pulled_first, pulled_by, pulled}
 
--- ---- what holds of a result
+-- ---- properties of a result
 
 abbrev Res : {A E : Type 0} → (A → Type 0) → Result A E → Type 0
 Res P (Ok x) = P x
 Res P (Err e) = Unit {0}
 
--- two that go on alike, and what holds of the first
+-- two results that are equal, and a property of the first
 abbrev Alike : {A E : Type 0} → (A → Type 0) → (r s : Result A E) → Type 0
 Alike P r s = (r ≡ s) × Res P r
 
@@ -304,7 +304,7 @@ module _ (c : ℕ) where
   substituted_has call full ps h l m p =
       bind_res Pieces All (joints_done (arguments_put call full ps) call.at) _ (joints_have call.at h (arguments_put call full ps) (puts_have call full ps l m p)) (λ qs q. tokens_have qs q)
 
-  -- ---- two expansions that go on alike
+  -- ---- two equal expansions
 
   at_place_res : {A : Type 0} (P : A → Type 0) (at : Pos) (r : Result A Code) → Res P r → Res P (at_place at r)
   at_place_res P at (Ok x) p = p
@@ -417,7 +417,7 @@ module _ (m : Macros) (t u : Texts) (keeps : KeepsNumbers t u) where
   expands zero xs e left a = walks (λ _ _ _. Ok ([], 0)) (λ _ _ _. Ok ([], 0)) (λ ys d k b. (refl, tt)) xs e left a
   expands (suc n) xs e left a = walks (expanded_by n before) (expanded_by n later) (expands n) xs e left a
 
-  -- ---- what is pulled
+  -- ---- the pulled token
 
   abbrev HasPull : Option Hidden × List Hidden × ℕ → Type 0
   HasPull a = HasOne a.0 × All c a.1
@@ -468,7 +468,7 @@ have_shown texts (x ∷ xs) a zero y e = subst (λ o. Res (λ z. z.pos.file < le
     or_error (Some z) = Ok z
 have_shown texts (x ∷ xs) a (suc i) y e = have_shown texts xs a.1 i y e
 
--- texts that come later change nothing
+-- later texts change nothing
 pub texts_may_grow : (m : Macros) (t u : Texts) (xs : List Token) (e : Ending) (left : ℕ) → KeepsNumbers t u → HaveFiles t xs → expanded (record { macros = m; texts = t }) xs e left ≡ expanded (record { macros = m; texts = u }) xs e left
 unfolding expanded
 texts_may_grow m t u xs e left keeps h = ap shown_answer (expands m t u keeps left (unhidden xs) e left (all_unhidden t xs h)).0
@@ -497,14 +497,14 @@ all_hidden : (texts : Texts) (xs : List Hidden) → HaveHidden texts xs → All 
 all_hidden texts [] h = tt
 all_hidden texts (x ∷ xs) h = (h 0 x.token refl, all_hidden texts xs (λ i y e. h (suc i) y e))
 
--- texts that come later change nothing
+-- later texts change nothing
 pub expanding_grows : (m : Macros) (t u : Texts) (xs : List Hidden) (e : Ending) (left : ℕ) → KeepsNumbers t u → HaveHidden t xs → expanding (record { macros = m; texts = t }) xs e left ≡ expanding (record { macros = m; texts = u }) xs e left
 expanding_grows m t u xs e left keeps h = (expands m t u keeps left xs e left (all_hidden t xs h)).0
 
 pub pulled_grows : (m : Macros) (t u : Texts) (xs : List Hidden) (e : Ending) (left : ℕ) → KeepsNumbers t u → HaveHidden t xs → pulled (record { macros = m; texts = t }) xs e left ≡ pulled (record { macros = m; texts = u }) xs e left
 pulled_grows m t u xs e left keeps h = (pulls_by m t u keeps left xs e left (all_hidden t xs h)).0
 
--- what is pulled has files of the list, and so has the list that is left
+-- the pulled token has files of the list, and so has the list that is left
 pub pulled_files : (m : Macros) (t : Texts) (xs : List Hidden) (e : Ending) (left : ℕ) (x : Hidden) (rest : List Hidden) (after : ℕ) → HaveHidden t xs → pulled (record { macros = m; texts = t }) xs e left ≡ Ok (Some x, rest, after) → (x.token.pos.file < length t) × HaveHidden t rest
 pulled_files m t xs e left x rest after h is =
     let both = subst (λ p. Res (HasPull m t t (λ i text q. q)) p) is (pulls_by m t t (λ i text q. q) left xs e left (all_hidden t xs h)).1 in

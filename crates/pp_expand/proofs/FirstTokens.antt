@@ -1,4 +1,4 @@
--- What the first token of a list does, by the macro that it names.
+-- The effect of a list's first token, by the macro that it names.
 use Rattle.std.specs.Prelude.{◌↔◌}
 use Rattle.std.proofs.Common.{◌≡◌, ℕ, ◌<◌, ◌≤◌, List, [], ◌∷◌, length, drop, slice_get, not, ◌&&◌, Bool, true, false, cond, Option, Some, None, refl, sym, ap, ◌∙◌, subst, arith}
 use Rattle.std.specs.Option.{option_copied}
@@ -56,7 +56,7 @@ module _ (known : Known) (x : Hidden) where
 pub no_identifier : (x : Hidden) → is_identifier x.token ≡ false → is_live x ≡ false
 no_identifier x e = ap (λ b. b && not (is_hidden x.token.spelling x.hides)) e
 
--- what is known of a spelling holds of its copy
+-- the facts known of a spelling hold for its copy
 pub finds_as : (names : Texts) (number : Option ℕ) (seen text : List ℕ) → seen ≡ text → ((n : ℕ) → (number ≡ Some n) ↔ (slice_get names n ≡ Some seen)) → (n : ℕ) → (number ≡ Some n) ↔ (slice_get names n ≡ Some text)
 finds_as names number seen text e h n = subst (λ t. (number ≡ Some n) ↔ (slice_get names n ≡ Some t)) e (h n)
 
@@ -76,7 +76,7 @@ same_some texts n (Some m) h = (m, (refl, h))
 copied_none : (r : Option (Bor NumberedMacro)) → r ≡ None → option_copied r ≡ None
 copied_none r e = ap option_copied e
 
--- what is known of a look-up by number
+-- the facts known of a look-up by number
 module _ (names : Texts) (table : Table) (macros : Macros) (is_table : IsTable names table macros) (x : HiddenToken) (sets later : Sets) (extends : Extends sets later) (in_sets : x.hides ≤ length sets) (below : NamesBelow (length names) sets) (once : NumbersOnce names) where
   abbrev here : Hidden
   here = hidden_of names later x

@@ -15,7 +15,7 @@ use Rattle.pp_expand.proofs.Sets.{are_in_append, lists_in_append}
 
 -- ---- commas
 
--- whether a comma separates arguments, with so many before it
+-- whether a comma separates arguments when `before` arguments precede it
 abbrev pub separator : Bool → ℕ → ℕ → Bool
 separator variadic named before = not variadic || nat_lt before named
 
@@ -108,7 +108,7 @@ module _ (variadic : Bool) (named : ℕ) (before : List (List Hidden)) (now : Li
 
 -- ---- the same of the engine's lists
 
--- what the arguments begun are, with these lists before the one in hand
+-- the arguments begun so far: these lists, then the current one
 abbrev pub Held : Bool → ℕ → List HiddenToken → List (Vec HiddenToken Global) → List HiddenToken → ℕ → List HiddenToken → Type 0
 Held variadic named start before now depth rest =
     (texts : Texts) (sets : Sets) → gathered variadic named [] [] (arguments_in 0 (hidden_all texts sets start)) ≡ gathered variadic named (hidden_lists texts sets before) (hidden_all texts sets now) (arguments_in depth (hidden_all texts sets rest))
@@ -148,7 +148,7 @@ module _ (variadic : Bool) (named : ℕ) (start : List HiddenToken) (before : Li
         let q = subst (λ l. AreIn count l) first p.0 in
         (q.1, subst (λ l. AreIn count l) (sym e) (are_in_append count now (x ∷ []) p.1 (q.0, tt)), p.2)
 
-  -- the list in hand goes behind the others
+  -- the current list is appended to the others
   module _ (before2 : List (Vec HiddenToken Global)) (v : Vec HiddenToken Global) (of : v.items ≡ now) (e : before2 ≡ before ++ v ∷ []) where
     lists : (texts : Texts) (sets : Sets) → hidden_lists texts sets before2 ≡ hidden_lists texts sets before ++ hidden_all texts sets now ∷ []
     lists texts sets =

@@ -1,4 +1,4 @@
--- Tokens that are put behind others, so many at the most.
+-- Tokens appended to others, up to a maximum count.
 use Rattle.std.specs.Prelude.{take}
 use Rattle.std.proofs.Common.{◌≡◌, ℕ, zero, suc, ◌-◌, ◌<◌, ◌≤◌, List, [], ◌∷◌, ◌++◌, map, length, Result, Ok, Err, refl, sym, ap, subst, arith, append_assoc, append-nil, length-append, ⊎_elim, ◌∙◌}
 use Rattle.std.proofs.lemmas.Bool.{cases_lt}
@@ -19,7 +19,7 @@ pub tokens_all : (texts : Texts) (sets : Sets) (xs : List HiddenToken) → map (
 tokens_all texts sets [] = refl
 tokens_all texts sets (x ∷ xs) = ap (λ l. x.token ∷ l) (tokens_all texts sets xs)
 
--- ---- tokens that are put behind others as far as they are so many
+-- ---- tokens appended to others, up to the maximum count
 
 abbrev no_tokens : List Token
 no_tokens = []
@@ -67,13 +67,13 @@ all_kept most before list h =
     (λ (p : length list ≤ most - length before). ap (λ l. before ++ l) (take_all (most - length before) list p))
     (cases_lt (most - length before) (length list))
 
--- a token that stands may be given before the rest is expanded
+-- a token that is final may be delivered before the rest is expanded
 pub given_first : (most : ℕ) (given : List Token) (x : Hidden) (a : Answer) → shown_behind most given (behind_one x a) ≡ shown_behind most (put_behind most given (x.token ∷ [])) a
 given_first most given x (Ok a) =
     ap (λ (l : List Token). Ok (l, a.1)) (sym (put_again most given (x.token ∷ []) (map (λ x. x.token) a.0)))
 given_first most given x (Err e) = refl
 
--- the list that was expanded, behind what was given before
+-- the expanded list, appended to the tokens delivered before
 pub record Behind (most : ℕ) (before all : List Token) (left : ℕ) (r : Result (List Token × ℕ) Fault) : Type 0 where
   pub list : List Token
   pub list_is : r ≡ Ok (list, left)

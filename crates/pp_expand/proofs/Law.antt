@@ -9,7 +9,7 @@ abbrev pub Within : {X : Type 0} → ℕ → Result (X × ℕ) Fault → Type 0
 Within m (Ok a) = a.1 ≤ m
 Within m (Err e) = Unit {0}
 
--- two ways to go on agree below n
+-- two continuations agree below n
 abbrev pub Agree : ℕ → Next → Next → Type 0
 Agree n f g = (xs : List Hidden) (e : Ending) (m : ℕ) → m < n → f xs e m ≡ g xs e m
 
@@ -110,7 +110,7 @@ by_falls zero known l e m h = walk_within m _ _ (agree_self m (λ _ _ _. Ok ([],
 by_falls (suc k) known l e m h =
     walk_within (suc k) _ _ (agree_self (suc k) (expanded_by k known)) (by_falls k known) known l e m (omega (arith, h))
 
--- one more turn of the recursion changes nothing
+-- one more level of the recursion changes nothing
 by_more : (k : ℕ) (known : Known) → Agree (suc k) (expanded_by (suc k) known) (expanded_by k known)
 unfolding expanded_by
 by_more zero known l e m h =
@@ -118,7 +118,7 @@ by_more zero known l e m h =
 by_more (suc k) known l e m h =
     walk_same (suc k) _ _ (by_more k known) (λ l e n p. by_falls (suc k) known l e n (omega (arith, p))) known l e m (omega (arith, h))
 
--- any number of turns that is enough
+-- any number of levels that is enough
 by_any : (d m : ℕ) (known : Known) (l : List Hidden) (e : Ending) → expanded_by (d + m) known l e m ≡ expanding known l e m
 by_any zero m known l e = subst (λ k. expanded_by k known l e m ≡ expanded_by m known l e m) (sym (zero_plus m)) refl
   where

@@ -1,4 +1,4 @@
--- What the steps of a replacement keep.
+-- The invariants that the steps of a replacement keep.
 use Rattle.std.specs.Prelude.{Vec, slice_set, IfOk}
 use Rattle.std.proofs.Math.ListN.{length-set}
 use Rattle.std.proofs.Common.{◌≡◌, ℕ, zero, suc, ◌+◌, ◌<◌, ◌≤◌, List, [], ◌∷◌, ◌++◌, length, drop, get_or, slice_get, Bool, true, false, Some, Result, Ok, Err, refl, sym, ap, ◌∙◌, subst, arith, drop-cons, length-append, ⊎_elim}
@@ -56,7 +56,7 @@ module _ (known : Known) (later : Sets) (w : Waiting) (over : length w.arguments
   finish_fails (At c pos) old new h = λ onward left. done_going onward left ∙ ap (goes_to onward left) h.1 ∙ ap (λ (p : Pos). let r : Answer = Err (record { code = c; at = p }) in r) (sym h.0)
   finish_fails (Told c pos text) old new h = h
 
--- ---- the argument in hand
+-- ---- the current argument
 
 use_is : (uses : List Use) (i : ℕ) (used u : Use) → slice_get uses i ≡ Some u → i < length uses → used ≡ get_or uses i used → used ≡ u
 use_is [] i used u e h g = absurd (omega (arith, h))
@@ -131,7 +131,7 @@ module _ (known : Known) (later : Sets) (w0 w w2 : Waiting) (used : Use) (list :
       let meaning : level_onward texts (to_end known) later level left ≡ answer = ap (λ o. to_end known (hidden_all texts later o) (hidden_all texts later level.rest.items) (ending_of level.end) left) out ∙ with_list_none (expanding known (hidden_all texts later level.rest.items) (ending_of level.end) left) ∙ ap (λ e. expanding known (hidden_all texts later level.rest.items) (ending_of e) left) end ∙ ap (λ l. expanding known (hidden_all texts later l) of_argument left) (rest ∙ takes.2) in
       ap (λ ws. level_behind known onward later ws level left) new_is ∙ ap (λ (p : Onward). resume known onward later (old ++ w2 ∷ []) (level_onward texts p later level left)) (onward_pushed known onward old w2) ∙ ap (resume known onward later (old ++ w2 ∷ [])) meaning ∙ resume_push known onward later old w2 answer ∙ ap (resume known onward later old) (ap (λ (v : Waiting). resume_one known o later v answer) like ∙ sym (let_go known o j full (hidden_lists texts later w2.arguments.items) answer behind k.1) ∙ sym (take_argument known o j full left argument first wanted) ∙ sym (same o left))
 
--- a replacement whose next argument is not wanted
+-- a replacement whose next argument's expansion is not needed
 pub skips_is : (known : Known) (later : Sets) (w0 w w2 : Waiting) (used : Use) (empty : Vec HiddenToken Global) → ((onward : Onward) (left : ℕ) → waiting_going known onward later w0 left ≡ waiting_going known onward later w left) → used ≡ use_of (length w.full.items) (pieces_as known.texts later w.pieces.items) → length w.full.items < length w.arguments.items → used.expanded ≡ false → empty.items ≡ [] → w2 ≡ record w { full = w2.full } → w2.full.items ≡ w.full.items ++ empty ∷ [] → (onward : Onward) (left : ℕ) → waiting_going known onward later w0 left ≡ waiting_going known onward later w2 left
 skips_is known later w0 w w2 used empty same used_is inside unwanted none like full_is onward left =
     let texts = known.texts in
@@ -201,7 +201,7 @@ module _ (known : Known) (later : Sets) (old new : List Waiting) (level : Level)
 
 -- ---- loops
 
--- how the argument in hand is used
+-- how the current argument is used
 pub used_as : (count : ℕ) (w : Waiting) → WaitingIn count w → (i : ℕ) → i ≡ length w.full.items → length w.full.items < length w.arguments.items → (used : Use) → used ≡ get_or w.uses.items i used → (texts : Texts) (sets : Sets) → used ≡ use_of (length w.full.items) (pieces_as texts sets w.pieces.items)
 used_as count w known i n inside used g texts sets =
     use_is w.uses.items (length w.full.items) used _ (known.uses_are texts sets (length w.full.items) inside) (omega (arith, inside, known.uses_count)) (subst (λ m. used ≡ get_or w.uses.items m used) n g)
@@ -242,7 +242,7 @@ pub taken_length : (count : ℕ) (w : Waiting) → WaitingIn count w → (i : �
 taken_length count w known i keeps list new t =
     (taken_lists count w.arguments.items i keeps list new.items known.arguments_in t).2
 
--- the end of a replacement leaves what waits
+-- the end of a replacement leaves the waiting replacements unchanged
 pub proceed_from : (known : Known) (later : Sets) (old new : List Waiting) (w0 w : Waiting) (r : Result Level Refusal) → new ≡ old → ((onward : Onward) (left : ℕ) → waiting_going known onward later w0 left ≡ waiting_going known onward later w left) → ProceedIs known later [] w r [] → ProceedIs known later old w0 r new
 proceed_from known later old new w0 w (Ok level) e same h =
     λ onward left. ap (λ ws. level_behind known onward later ws level left) e ∙ ap (resume known onward later old) (h (onward_in known onward old) left ∙ sym (same (onward_in known onward old) left))

@@ -74,7 +74,7 @@ module _ (known : Known) (later : Sets) (end : RunEnd) (x : HiddenToken) (xs lis
   refuses (Told c pos text) rest h = h
 
   module _ {A : Type 0} (result : Result A Refusal) (mid new : List HiddenToken) (after : ℕ) where
-    -- what it makes, whose list is pulled again
+    -- the step's result, whose list is pulled again
     step_made : (s : Step) → TurnIs known.texts later x xs now (Ok (Takes s)) mid → OnceFor known.texts (Takes s) → StepsAs known later s mid left result new after → (a : Answer) × ((whole ≡ (a >>= λ b. again b.0 b.1)) × MakesAs known.texts later result new after a)
     step_made (Predefined y) h once p =
         (one_less y.token.pos left (predefined_made known later y mid), (by_turn predefined h.2 ∙ one_then x.token.pos left (predefined_made known later x xs) (λ b. again b.0 b.1) ∙ ap (λ (z : HiddenToken). one_less z.token.pos left (predefined_made known later z xs) >>= λ b. again b.0 b.1) (sym h.0) ∙ ap (λ (l : List HiddenToken). one_less y.token.pos left (predefined_made known later y l) >>= λ b. again b.0 b.1) (sym h.1), p))

@@ -1,4 +1,4 @@
--- What is pulled, with no bound on the recursion in sight, and the expansion of a list by it.
+-- The pulled token, with no bound on the recursion in sight, and the expansion of a list by pulling.
 use Rattle.std.proofs.Common.{◌≡◌, ℕ, zero, suc, ◌+◌, ◌-◌, ◌<◌, ◌≤◌, List, [], ◌∷◌, false, None, Result, Ok, Err, refl, sym, ◌∙◌, subst, arith}
 use Rattle.srcset.specs.declared.refusal.Pos.{Pos}
 use Rattle.macros_substitution.specs.Substitution.{◌>>=◌, Hidden, strings_made, sides, substituted}
@@ -26,7 +26,7 @@ unfolding made_by
 made_within known r left =
     then_within left (at_place r.call.at (strings_made r.call r.call.macro.body)) _ (λ made. bind_within left left (arguments_expanded (expanding known) (sides false made) 0 r.call.arguments left) _ (arguments_within (suc left) (expanding known) (expanding known) (agree_self (suc left) (expanding known)) (λ l e m p. expanding_within known l e m) (sides false made) 0 r.call.arguments left (omega arith)) (λ full q. then_within left (at_place r.call.at (substituted r.call full.0 (sides false made))) _ (λ new. q)))
 
--- two ways to go on agree below n
+-- two continuations agree below n
 abbrev Again : Type 0
 Again = List Hidden → ℕ → Pull
 
@@ -50,7 +50,7 @@ unfolding pulled_first
 pulled_first_same known n f g ag [] ending left h = refl
 pulled_first_same known n f g ag (x ∷ rest) ending left h = pulled_at_same known n f g ag (turn known x rest ending) x rest left h
 
--- one more turn of the recursion changes nothing
+-- one more level of the recursion changes nothing
 by_more : (k : ℕ) (known : Known) (ending : Ending) (xs : List Hidden) (m : ℕ) → m ≤ k → pulled_by (suc k) known xs ending m ≡ pulled_by k known xs ending m
 unfolding pulled_by
 by_more zero known ending xs m h = pulled_first_same known 0 _ _ (λ l n p. absurd (omega (arith, p))) xs ending m h
@@ -89,7 +89,7 @@ pub pulled_turn : (known : Known) (x : Hidden) (rest : List Hidden) (ending : En
 unfolding pulled_first
 pulled_turn known x rest ending left = pulled_walk known (x ∷ rest) ending left
 
--- ---- the expansion of a list: what is pulled first, before the expansion of the list left
+-- ---- the expansion of a list: the pulled token precedes the expansion of the list left
 
 abbrev Follows : Known → Ending → Again → ℕ → Type 0
 Follows known ending f n = (xs : List Hidden) (m : ℕ) → m < n → expanding known xs ending m ≡ (f xs m >>= λ a. then_expanded known ending a.0 a.1 a.2)

@@ -89,7 +89,7 @@ module _ (n : ℕ) where
   waitings_in_front [] y p = (tt, p.0)
   waitings_in_front (x ∷ xs) y p = let q = waitings_in_front xs y p.1 in ((p.0, q.0), q.1)
 
--- the names in a set are below what all names of the table are
+-- the names in a set are below the number of names in the table
 pub members_below : (count : ℕ) (sets : Sets) → NamesBelow count sets → (n : ℕ) → AreBelow count (members sets n)
 members_below count sets h zero = tt
 members_below count sets h (suc n) = at_place sets h n

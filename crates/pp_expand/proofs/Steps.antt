@@ -1,4 +1,4 @@
--- What one step of the engine does to the meaning of its lists.
+-- The effect of one engine step on the meaning of its lists.
 use Rattle.std.proofs.Common.{◌≡◌, ℕ, suc, ◌+◌, ◌≤◌, List, [], ◌∷◌, ◌++◌, length, drop, Bool, true, false, ◌||◌, Result, Ok, Err, refl, sym, ap, ◌∙◌, arith, append_assoc, append-nil, length-append}
 use Rattle.std.proofs.lemmas.List.{drop_all}
 use Rattle.std.proofs.lemmas.Bool.{eq-eqb}
@@ -21,7 +21,7 @@ pub with_list_front : (out : List Hidden) (x : Hidden) (answer : Answer) → wit
 with_list_front out x (Ok a) = ap (λ l. Ok (l, a.1)) (sym (append_assoc out (x ∷ []) a.0))
 with_list_front out x (Err e) = refl
 
--- ---- a substitution looks at the arguments beside `##` alone
+-- ---- a substitution reads only the arguments next to `##`
 
 module _ (a b : Call) (full : List (List Hidden)) where
   put_same : (p : Piece) → ((i : ℕ) → stands_beside i p ≡ true → list_at i a.arguments ≡ list_at i b.arguments) → argument_put a full p ≡ argument_put b full p
@@ -67,7 +67,7 @@ module _ (known : Known) (onward : Onward) (j : Job) (full : List (List Hidden))
   finish_argument a left =
       moved onward j full a (arguments_expanded (expanding known) j.pieces (suc (length full)) (drop (suc (length full)) j.arguments) left) ∙ ap (λ n. after_arguments onward j (full ++ a ∷ []) (arguments_expanded (expanding known) j.pieces n (drop n j.arguments) left)) (sym (more_full full a))
 
-  -- an argument that is not wanted
+  -- an argument whose expansion is not needed
   pub skip_argument : (left : ℕ) (a : List Hidden) → drop (length full) j.arguments ≡ a ∷ drop (suc (length full)) j.arguments → is_expanded (length full) j.pieces ≡ false → going known onward j full left ≡ going known onward j (full ++ [] ∷ []) left
   unfolding going
   skip_argument left a d w =
@@ -75,7 +75,7 @@ module _ (known : Known) (onward : Onward) (j : Job) (full : List (List Hidden))
       let rest = drop (suc i) j.arguments in
       ap (λ l. after_arguments onward j full (arguments_expanded (expanding known) j.pieces i l left)) d ∙ ap (after_arguments onward j full) (arguments_first known j.pieces i a rest left ∙ ap (λ b. argument_by (expanding known) b a left >>= λ r. arguments_expanded (expanding known) j.pieces (suc i) rest r.1 >>= λ s. Ok (r.0 ∷ s.0, s.1)) w) ∙ moved onward j full [] (arguments_expanded (expanding known) j.pieces (suc i) rest left) ∙ ap (λ n. after_arguments onward j (full ++ [] ∷ []) (arguments_expanded (expanding known) j.pieces n (drop n j.arguments) left)) (sym (more_full full []))
 
-  -- an argument that is wanted
+  -- an argument whose expansion is needed
   pub take_argument : (left : ℕ) (a : List Hidden) → drop (length full) j.arguments ≡ a ∷ drop (suc (length full)) j.arguments → is_expanded (length full) j.pieces ≡ true → going known onward j full left ≡ taken_up known onward j full (expanding known a of_argument left)
   unfolding going taken_up
   take_argument left a d w =
@@ -83,7 +83,7 @@ module _ (known : Known) (onward : Onward) (j : Job) (full : List (List Hidden))
       let rest = drop (suc i) j.arguments in
       ap (λ l. after_arguments onward j full (arguments_expanded (expanding known) j.pieces i l left)) d ∙ ap (after_arguments onward j full) (arguments_first known j.pieces i a rest left ∙ ap (λ b. argument_by (expanding known) b a left >>= λ r. arguments_expanded (expanding known) j.pieces (suc i) rest r.1 >>= λ s. Ok (r.0 ∷ s.0, s.1)) w)
 
-  -- the argument in hand may go, unless it stands beside `##`
+  -- the current argument may be dropped, unless it is next to `##`
   pub let_go : (arguments : List (List Hidden)) (answer : Answer) → drop (suc (length full)) arguments ≡ drop (suc (length full)) j.arguments → ((i : ℕ) → is_beside i j.pieces ≡ true → list_at i j.arguments ≡ list_at i arguments) → taken_up known onward j full answer ≡ taken_up known onward (record j { arguments = arguments }) full answer
   unfolding taken_up after_arguments
   let_go arguments answer d h =
@@ -101,9 +101,9 @@ module _ (known : Known) (onward : Onward) (j : Job) (full : List (List Hidden))
       let none : drop (length full) j.arguments ≡ [] = drop_all _ _ h in
       ap (λ l. after_arguments onward j full (arguments_expanded (expanding known) j.pieces (length full) l left)) none ∙ ap (λ l. at_place j.at (substituted (call_of j.at j.arguments) l j.pieces) >>= λ new. onward j.out (front_by j new) j.ending left) (append-nil full)
 
--- ---- what waits
+-- ---- waiting replacements
 
--- an argument goes to its end wherever it stands
+-- an argument is expanded to its end in every context
 onward_inside : (known : Known) (ws : List Waiting) → onward_in known (to_end known) ws ≡ to_end known
 onward_inside known [] = refl
 onward_inside known (w ∷ ws) = refl
@@ -136,7 +136,7 @@ module _ (known : Known) (out : List Hidden) (r : Replacement) (ending : Ending)
   abbrev pub begun : List Piece → Job
   begun ps = record { out = out; space = r.name.token.space_before; at = r.call.at; hides = r.hides; arguments = r.call.arguments; pieces = ps; rest = r.rest; ending = ending }
 
-  -- the answer once the list is in pieces
+  -- the result once the list is in pieces
   abbrev pub from_pieces : Result (List Piece) Code → Answer
   from_pieces (Ok ps) = arguments_expanded (expanding known) ps 0 r.call.arguments left >>= λ full. at_place r.call.at (substituted r.call full.0 ps) >>= λ new. Ok (front_of r new, full.1)
   from_pieces (Err c) = Err (record { code = c; at = r.call.at })
@@ -149,7 +149,7 @@ module _ (known : Known) (out : List Hidden) (r : Replacement) (ending : Ending)
   unfolding made_by
   by_pieces = by_strings (strings_made r.call r.call.macro.body)
 
-  -- what is made stands in front of the rest, and the list goes on
+  -- the new tokens precede the rest, and the expansion of the list continues
   abbrev in_front : ℕ → Result (List Hidden) Code → Answer
   in_front n made = at_place r.call.at made >>= λ new. Ok (front_of r new, n)
 

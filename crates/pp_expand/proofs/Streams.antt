@@ -1,4 +1,4 @@
--- A list that is expanded one token after the other: the names of its hide sets, and what a call gives.
+-- A list that is expanded one token at a time: the names of its hide sets, and the result of a call.
 use Rattle.std.proofs.Common.{◌≡◌, ℕ, zero, suc, ◌+◌, ◌*◌, ◌^◌, ◌<◌, ◌≤◌, List, [], ◌∷◌, ◌++◌, map, length, Option, Some, None, Result, Ok, Err, refl, sym, ap, ◌∙◌, subst, arith, append-nil, ⊎_elim}
 use Rattle.std.specs.Prelude.{slice_get, get_or, option_map, IfSome}
 use Rattle.std.proofs.lemmas.Option.{slice_get-get_or, slice_get_within}
@@ -23,7 +23,7 @@ use Rattle.pp_expand.proofs.Whole.{begins_in, unhidden_all}
 use Rattle.pp_expand.proofs.Handing.{tokens_all}
 use Rattle.pp_expand.proofs.Files.{pulled_grows, pulled_files}
 
--- ---- texts that come later
+-- ---- later texts
 
 pub longer : (t u : Texts) → KeepsNumbers t u → length t ≤ length u
 longer [] u keeps = omega arith
@@ -63,7 +63,7 @@ module _ (t u : Texts) (keeps : KeepsNumbers t u) where
   files_more : (xs : List Token) → HaveFiles t xs → HaveFiles u xs
   files_more xs h = λ i x at. omega (arith, h i x at, longer t u keeps)
 
-  -- what is known of a list stays known
+  -- the facts known of a list stay true
   pub knows_more : (s : Stream) → Knows t s → Knows u s
   knows_more s k = record {
     names_below = below_more (length t) (length u) (longer t u keeps) s.sets k.names_below;
@@ -117,7 +117,7 @@ of_known names s xs e none empty have = record {
   fresh_files = subst (HaveFiles names) (sym none) (no_files names);
 }
 
--- tokens that were not looked at yet, behind the others
+-- tokens that have not been scanned yet, appended to the others
 pub fresh_in : (count : ℕ) (list new : List HiddenToken) (fresh : List Token) → AreIn count list → new ≡ list ++ map (λ x. record { token = x; hides = 0 }) fresh → AreIn count new
 fresh_in count list new fresh held e =
     subst (AreIn count) (sym e) (are_in_append count list (map (λ x. record { token = x; hides = 0 }) fresh) held (begins_in count fresh (map (λ x. record { token = x; hides = 0 }) fresh) refl))
@@ -133,7 +133,7 @@ module _ (macros : Macros) (names : Texts) (s new : Stream) (knows : Knows names
   as_held =
       ap (λ l. pulled (record { macros = macros; texts = names }) (l ++ unhidden s.fresh) ending left) (hidden_later names s.sets new.sets grown s.list held)
 
-  -- what is known behind it
+  -- the facts known of the list after it
   module _ (x : HiddenToken) (p : PullsAs names new.sets (Ok (Some x)) new.list after (pulled (record { macros = macros; texts = names }) (hidden_all names new.sets s.list ++ unhidden s.fresh) ending left)) where
     files : (x.token.pos.file < length names) × HaveFiles names (map (λ y. y.token) (hidden_all names new.sets new.list))
     files =
@@ -221,7 +221,7 @@ module _ (macros : Macros) (names : Texts) (s seen : Stream) (sets : Sets) (is :
       (subst (λ n. IsPulled (Err f) behind n n (pulled (record { macros = macros; texts = texts }) (list_left texts s) (ending_of s.end) n)) count_is
       (err_pulled macros names s new knows held grown (below knows.names_below) refl (ending_of s.end) left after texts keeps f list behind p))
 
--- less is left to be done
+-- less work is left
 pub size_falls : (left long after short : ℕ) → FallsTo left long after short → short < 2 ^ 63 → after * 2 ^ 66 + (short + 0) < left * 2 ^ 66 + long
 size_falls left long after short f bound =
     ⊎_elim (λ (h : after < left). omega (arith, h, bound)) (λ (h : (after ≡ left) × (short < long)). omega (arith, h.0, h.1)) f

@@ -1,4 +1,4 @@
--- The replacements that tasks stand for.
+-- The replacements that tasks represent.
 use Rattle.std.specs.Prelude.{Vec, nat_lt, option_map, codes}
 use Rattle.std.proofs.Common.{◌≡◌, ℕ, suc, ◌-◌, ◌<◌, ◌≤◌, List, [], ◌∷◌, length, drop, get_or, slice_get, nat_eq, Bool, true, false, cond, Option, Some, None, Ok, Err, refl, sym, ap, ◌∙◌, arith}
 use Rattle.std.specs.List.{list_any, filter}
@@ -27,12 +27,12 @@ use Rattle.pp_expand.proofs.Sets.{members_below, common_names, name_is}
 -- ---- the names that a replacement hides
 
 module _ (texts : Texts) (sets new later : Sets) (set : ℕ) (within : set ≤ length sets) (grown : Extends sets later) where
-  -- a name more
+  -- one more name
   pub one_more : (n made : ℕ) (text : List ℕ) → slice_get texts n ≡ Some text → Extends new later → made ≤ length new → members new made ≡ n ∷ members sets set → text ∷ spelled texts (members later set) ≡ spelled texts (members later made)
   one_more n made text e grown_new below made_is =
       ap (λ t. t ∷ spelled texts (members later set)) (sym (name_is texts n text e)) ∙ ap (λ l. name_of texts n ∷ spelled texts l) (grown.same set within) ∙ ap (spelled texts) (sym made_is) ∙ ap (spelled texts) (sym (grown_new.same made below))
 
-  -- what both hide
+  -- the names that both hide
   pub both_hide : (closing : ℕ) → closing ≤ length sets → NumbersOnce texts → NamesBelow (length texts) sets → (made : ℕ) → Extends new later → made ≤ length new → members new made ≡ filter (λ n. list_any (nat_eq n) (members sets closing)) (members sets set) → common (spelled texts (members later set)) (spelled texts (members later closing)) ≡ spelled texts (members later made)
   both_hide closing within_other once below made grown_new made_below made_is =
       ap (λ l. common (spelled texts l) (spelled texts (members later closing))) (grown.same set within) ∙ ap (λ l. common (spelled texts (members sets set)) (spelled texts l)) (grown.same closing within_other) ∙ common_names texts once (members sets set) (members sets closing) (members_below (length texts) sets below set) (members_below (length texts) sets below closing) ∙ ap (spelled texts) (sym made_is) ∙ ap (spelled texts) (sym (grown_new.same made made_below))

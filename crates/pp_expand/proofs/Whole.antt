@@ -45,7 +45,7 @@ pub expanded_is : (known : Known) (list : List Token) (ending : Ending) (left : 
 unfolding expanded
 expanded_is known list ending left = refl
 
--- what was given of a list, and what is left of it
+-- the part of a list delivered so far, and the part left
 module _ (known : Known) (most : ℕ) (before : List Token) (start : List Hidden) (ending : Ending) (budget : ℕ) (given : List Token) (now : List Hidden) (left : ℕ) (same : shown_behind most given (expanding known now ending left) ≡ shown_behind most before (expanding known start ending budget)) where
   by_pull : (p : Pull) → pulled known now ending left ≡ p → shown_behind most given (p >>= λ a. then_expanded known ending a.0 a.1 a.2) ≡ shown_behind most before (expanding known start ending budget)
   by_pull p e =
@@ -66,7 +66,7 @@ module _ (known : Known) (most : ℕ) (before : List Token) (start : List Hidden
       behind_err most before (At c pos) (shown_answer (expanding known start ending budget)) (sym (by_pull (Err (record { code = c; at = pos })) p.0))
   fails (Told c pos text) rest after p = p
 
--- what is pulled, by other names of what was given and of where the list ends
+-- the pulled token, by other names of the delivered tokens and of where the list ends
 pub pulled_as : (known : Known) (list behind : List Hidden) (left after : ℕ) (r s : Result (Option Token) Refusal) (e f : RunEnd) → r ≡ s → e ≡ f → IsPulled r behind left after (pulled known list (ending_of e) left) → IsPulled s behind left after (pulled known list (ending_of f) left)
 pulled_as known list behind left after r s e f same same_end p =
     subst (λ (s : Result (Option Token) Refusal). IsPulled s behind left after (pulled known list (ending_of f) left)) same (subst (λ (f : RunEnd). IsPulled r behind left after (pulled known list (ending_of f) left)) same_end p)
@@ -77,13 +77,13 @@ fails_as known list ending left now Memory e h = e
 fails_as known list ending left now (At c pos) e h = (expanded_is known list ending left ∙ h, e)
 fails_as known list ending left now (Told c pos text) e h = h
 
--- the files of what is given
+-- the files of the delivered tokens
 pub gives_files : (macros : Macros) (names : Texts) (list : List Token) (ending : Ending) (left most : ℕ) (given all : List Token) (after : ℕ) → HaveFiles names list → Behind most given all after (shown_answer (expanding (record { macros = macros; texts = names }) (unhidden list) ending left)) → HaveFiles names (drop (length given) all)
 gives_files macros names list ending left most given all after have b =
     subst (HaveFiles names) (sym (ap (λ l. drop (length given) l) b.all_is ∙ drop-append_seam given (take (most - length given) b.list)))
     (λ i x at. files_stay macros names list ending left b.list after have (expanded_is (record { macros = macros; texts = names }) list ending left ∙ b.list_is) i x (taken_at (most - length given) b.list i x at))
 
--- an expansion that nothing stands before, where not as many are there as may be kept
+-- an expansion with nothing before it, which has fewer tokens than the maximum
 pub alone : (most : ℕ) (before all list : List Token) (new : ℕ) (r : Result (List Token × ℕ) Fault) → before ≡ [] → r ≡ Ok (list, new) → all ≡ put_behind most before list → length all < most
     → r ≡ Ok (all, new)
 alone most before all list new r none e all_is few =

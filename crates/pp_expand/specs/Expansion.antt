@@ -1,5 +1,5 @@
 -- Macro replacement with rescanning, by hide sets (ISO/IEC 9899:2011 6.10.3, 6.10.3.4; the sets are Prosser's, which the
--- committee's paper X3J11/86-196 gives as what the text means).
+-- committee's paper X3J11/86-196 gives as the meaning of the text).
 use Rattle.std.specs.Prelude.{ℕ, zero, suc, List, [], ◌∷◌, ◌++◌, map, length, Bool, true, false, not, ◌&&◌, nat_eq, nat_lt, Option, Some, None, Result, Ok, Err, codes, decimal, slice_get, if◌then◌else◌}
 use Rattle.std.specs.Str.{bytes_eq}
 use Rattle.srcset.specs.declared.refusal.Pos.{Pos}
@@ -19,7 +19,7 @@ pub data Ending : Type 0 where
   of_directive : Ending
   of_argument : Ending
 
--- what is defined, and the texts by whose numbers places name their files
+-- the macros defined, and the texts by whose numbers places name their files
 pub record Known : Type 0 where
   pub macros : Macros
   pub texts : Texts
@@ -66,7 +66,7 @@ pub record Further : Type 0 where
   pub comma : Hidden
   pub argument : List Hidden
 
--- those behind a `(`, each with the commas that it holds between parentheses; the `)`, and what follows it
+-- the arguments after a `(`, each with the commas that it holds between parentheses; the `)`, and the tokens that follow it
 pub record Taken : Type 0 where
   pub first : List Hidden
   pub more : List Further
@@ -77,7 +77,7 @@ abbrev pub with_token : Hidden → Option Taken → Option Taken
 with_token x None = None
 with_token x (Some taken) = Some (record taken { first = x ∷ taken.first })
 
--- what was first stands behind this comma
+-- the first argument so far follows this comma
 abbrev pub behind_comma : Hidden → Option Taken → Option Taken
 behind_comma x None = None
 behind_comma x (Some taken) =
@@ -96,7 +96,7 @@ mark_of x =
     else if is_spelled (codes ",") x then separates
     else other
 
--- a token with so many parentheses open inside, and what follows it with so many
+-- a token with `depth` parentheses open inside, and the tokens after it with the depth that it leaves
 abbrev pub taken_with : Mark → ℕ → Hidden → List Hidden → (ℕ → Option Taken) → Option Taken
 taken_with opens depth x rest next = with_token x (next (suc depth))
 taken_with closes zero x rest next = Some (record { first = []; more = []; close = x; rest = rest })
@@ -109,12 +109,12 @@ unfoldable pub arguments_in : ℕ → List Hidden → Option Taken
 arguments_in depth [] = None
 arguments_in depth (x ∷ rest) = taken_with (mark_of x.token) depth x rest (λ d. arguments_in d rest)
 
--- what an ellipsis stands for: an argument and those behind it, with the commas between them (6.10.3p12)
+-- the argument of an ellipsis: an argument and those after it, with the commas between them (6.10.3p12)
 abbrev pub merged : List Hidden → List Further → List Hidden
 merged first [] = first
 merged first (m ∷ more) = first ++ m.comma ∷ merged m.argument more
 
--- so many arguments for the named parameters, and behind them the ellipsis's, as far as there are so many
+-- one argument for each named parameter, and after them the ellipsis's, as far as there are enough arguments
 abbrev pub with_merged : ℕ → List Hidden → List Further → List (List Hidden)
 with_merged zero first more = merged first more ∷ []
 with_merged (suc named) first [] = first ∷ []
@@ -129,9 +129,9 @@ abbrev pub arguments_for : List (List ℕ) → List (List Hidden) → List (List
 arguments_for [] ([] ∷ []) = []
 arguments_for names arguments = arguments
 
--- ---- what a list that begins with this token does
+-- ---- the effect of a list that begins with this token
 
--- The name is replaced: the call, the names that its replacement hides beside its own, and what follows.
+-- The name is replaced: the call, the names that its replacement hides in addition to its own, and the tokens that follow.
 pub record Replacement : Type 0 where
   pub name : Hidden
   pub call : Call
@@ -145,7 +145,7 @@ pub data Turn : Type 0 where
   predefined : Turn
   replaced : (r : Replacement) → Turn
 
--- an object-like macro's replacement hides what the name hides, and the name
+-- an object-like macro's replacement hides the names that the name hides, and the name itself
 abbrev pub object_turn : Hidden → Macro → List Hidden → Turn
 object_turn x macro rest =
     replaced (record { name = x; call = record { macro = macro; at = x.token.pos; arguments = [] }; hides = x.token.spelling ∷ x.hides; rest = rest })
@@ -155,7 +155,7 @@ abbrev pub count_fault : Bool → ℕ → ℕ → Code
 count_fault variadic named count =
     if variadic && nat_eq count named then code.NoVariableArgument else code.MacroArgumentCount
 
--- a function-like one's hides what the name and the `)` both hide, and the name
+-- a function-like one's hides the names that both the name and the `)` hide, and the name itself
 abbrev pub counted_turn : Hidden → Macro → Parameters → Taken → List (List Hidden) → Turn
 counted_turn x macro parameters taken arguments =
     if nat_lt max_parameters (length arguments) then refused code.MacroParameterLimit
@@ -169,7 +169,7 @@ taken_turn x macro parameters (Some taken) =
     counted_turn x macro parameters taken
     (arguments_for (names_of (Some parameters)) (separated parameters.variadic (length parameters.names) taken.first taken.more))
 
--- a function-like name that is last in a run is refused, since what would follow it is another list
+-- a function-like name that is last in a run is refused, since the tokens that would follow it are in another list
 abbrev pub last_turn : Ending → Turn
 last_turn of_run = refused code.MacroNameEndsRun
 last_turn of_directive = stands
@@ -191,18 +191,18 @@ turn_of x (Some macro) rest ending = turn_by x macro macro.parameters rest endin
 unfoldable pub turn : Known → Hidden → List Hidden → Ending → Turn
 turn known x rest ending = if is_live_predefined x then predefined else turn_of x (macro_at known x) rest ending
 
--- ---- the list that comes of it
+-- ---- the resulting list
 
 -- why a list is refused, and where
 pub record Fault : Type 0 where
   pub code : Code
   pub at : Pos
 
--- the tokens, and how many replacements are left of so many
+-- the tokens, and the number of replacements left
 abbrev pub Answer : Type 0
 Answer = Result (List Hidden × ℕ) Fault
 
--- what a list comes to, with so many replacements left
+-- the result of expanding a list, with a number of replacements left
 abbrev pub Next : Type 0
 Next = List Hidden → Ending → ℕ → Answer
 
@@ -210,7 +210,7 @@ abbrev pub at_place : {A : Type 0} → Pos → Result A Code → Result A Fault
 at_place at (Ok x) = Ok x
 at_place at (Err c) = Err (record { code = c; at = at })
 
--- an argument is expanded alone, as if it were the rest of the file (6.10.3.1p1), where that is wanted
+-- an argument is expanded alone, as if it were the rest of the file (6.10.3.1p1), where its expansion is needed
 abbrev pub argument_by : Next → Bool → List Hidden → ℕ → Answer
 argument_by next true argument left = next argument of_argument left
 argument_by next false argument left = Ok ([], left)
@@ -222,7 +222,7 @@ arguments_expanded next pieces i (argument ∷ more) left =
     >>= λ a. arguments_expanded next pieces (suc i) more a.1
     >>= λ b. Ok (a.0 ∷ b.0, b.1)
 
--- what a replacement puts in front of the rest: its first token has the mark of the name
+-- the new tokens in front of the rest: the first one has the mark of the name
 abbrev pub front_of : Replacement → List Hidden → List Hidden
 front_of r new = marked r.name.token.space_before (hiding r.hides new) ++ r.rest
 
@@ -261,7 +261,7 @@ taken known next (refused c) x rest ending left kept = Err (record { code = c; a
 taken known next predefined x rest ending left kept = predefined_one known next x rest ending left
 taken known next (replaced r) x rest ending left kept = replace_one next r ending left
 
--- by cases on the first token; `next` is what follows a replacement
+-- by cases on the first token; `next` expands the list that a replacement makes
 unfoldable pub walk : Known → Next → List Hidden → Ending → ℕ → Answer
 walk known next [] ending left = Ok ([], left)
 walk known next (x ∷ rest) ending left =
@@ -278,6 +278,6 @@ unhidden xs = map (λ x. record { token = x; hides = [] }) xs
 abbrev pub shown_answer : Answer → Result (List Token × ℕ) Fault
 shown_answer answer = answer >>= λ a. Ok (map (λ x. x.token) a.0, a.1)
 
--- the expansion of a list with so many replacements left: hide sets begin empty and stay inside
+-- the expansion of a list with `left` replacements left: hide sets begin empty and stay inside
 unfoldable pub expanded : Known → List Token → Ending → ℕ → Result (List Token × ℕ) Fault
 expanded known xs ending left = shown_answer (expanded_by left known (unhidden xs) ending left)

@@ -6,13 +6,13 @@ use Rattle.pp_expand.specs.Expansion.{Ending, Known, expanded_by}
 use Rattle.pp_expand.specs.Pulled.{expanding, pulled_by, pulled, then_expanded}
 use Rattle.pp_expand.specs.Streams.{Stream, list_left, Knows}
 
--- what is pulled, followed by the expansion of the list left, is the expansion of the list, with the replacements that are left
+-- the pulled token, followed by the expansion of the list left, is the expansion of the list, with the replacements that are left
 abbrev pub PullsFirst : Type 0
 PullsFirst =
     (known : Known) (xs : List Hidden) (ending : Ending) (left : ℕ)
     → expanding known xs ending left ≡ (pulled known xs ending left >>= λ a. then_expanded known ending a.0 a.1 a.2)
 
--- what is known of a list left stays, where names get further numbers
+-- the facts known of a list left stay true when the table gains names
 abbrev pub KnowsGrows : Type 0
 KnowsGrows = (names after : Texts) (s : Stream) → KeepsNumbers names after → Knows names s → Knows after s
 
@@ -20,13 +20,13 @@ KnowsGrows = (names after : Texts) (s : Stream) → KeepsNumbers names after →
 abbrev pub LeftGrows : Type 0
 LeftGrows = (names after : Texts) (s : Stream) → KeepsNumbers names after → Knows names s → list_left after s ≡ list_left names s
 
--- a bound of the recursion that is at least the number of replacements left gives what that number gives
+-- a bound of the recursion that is at least the number of replacements left gives the result of that number
 abbrev pub BoundSuffices : Type 0
 BoundSuffices =
     (bound : ℕ) (known : Known) (xs : List Hidden) (ending : Ending) (left : ℕ) → left ≤ bound
     → expanded_by bound known xs ending left ≡ expanded_by left known xs ending left
 
--- the same of what is pulled
+-- the same for pulling
 abbrev pub PullBoundSuffices : Type 0
 PullBoundSuffices =
     (bound : ℕ) (known : Known) (xs : List Hidden) (ending : Ending) (left : ℕ) → left ≤ bound

@@ -1,4 +1,4 @@
--- What the engine's lists mean: the answer of the definition, with no bound on the recursion in sight.
+-- The meaning of the engine's lists: the result of the definition, with no bound on the recursion in sight.
 use Rattle.std.specs.Prelude.{◌≡◌, ℕ, List, ◌++◌, Result, Ok, Err}
 use Rattle.srcset.specs.declared.refusal.Refusal.{Refusal}
 use Rattle.srcset.specs.declared.refusal.Refusal.TheVariants.{Memory, At, Told}
@@ -11,7 +11,7 @@ use Rattle.pp_expand.specs.Expansion.{Known, Answer, Fault, shown_answer}
 use Rattle.pp_expand.specs.Pulled.{expanding}
 use Rattle.pp_expand.specs.Expands.{ending_of, put_behind}
 
--- behind what is expanded already
+-- after the tokens that are expanded already
 abbrev pub with_list : List Hidden → Answer → Answer
 with_list out answer = answer >>= λ a. Ok (out ++ a.0, a.1)
 
@@ -20,11 +20,11 @@ abbrev pub level_meaning : Known → Sets → Level → ℕ → Answer
 level_meaning known sets l left =
     with_list (hidden_all known.texts sets l.out.items) (expanding known (hidden_all known.texts sets l.rest.items) (ending_of l.end) left)
 
--- the hide sets of its tokens are among the first so many
+-- the hide sets of its tokens are among the first `count`
 abbrev pub LevelIn : ℕ → Level → Type 0
 LevelIn count l = AreIn count l.rest.items × AreIn count l.out.items
 
--- behind tokens that stand already, so many at the most
+-- after existing tokens, up to `most` in all
 abbrev pub behind : ℕ → List Token → Result (List Token × ℕ) Fault → Result (List Token × ℕ) Fault
 behind most before r = r >>= λ a. Ok (put_behind most before a.0, a.1)
 

@@ -1,4 +1,4 @@
--- The first token of the expansion of a list, and the list behind it: the replacements are made until a token stands first.
+-- The first token of the expansion of a list, and the list after it: replacements are made until the first token is final.
 use Rattle.std.specs.Prelude.{ℕ, zero, suc, List, [], ◌∷◌, false, Option, Some, None, Result, Ok, Err}
 use Rattle.srcset.specs.declared.refusal.Pos.{Pos}
 use Rattle.srcset.specs.declared.code.Code.TheVariants as code
@@ -9,7 +9,7 @@ use Rattle.pp_expand.specs.Expansion.{Ending, Known, Replacement, Turn, stands, 
 abbrev pub expanding : Known → Next
 expanding known xs ending left = expanded_by left known xs ending left
 
--- the list that a replacement leaves, its tokens in front of the rest, and how many replacements are left behind those of its arguments
+-- the list that a replacement leaves, its tokens in front of the rest, and the replacements left after those of its arguments
 unfoldable pub made_by : Next → Replacement → ℕ → Answer
 made_by next r left =
     at_place r.call.at (strings_made r.call r.call.macro.body)
@@ -17,7 +17,7 @@ made_by next r left =
     >>= λ full. at_place r.call.at (substituted r.call full.0 pieces)
     >>= λ new. Ok (front_of r new, full.1)
 
--- the token, none where the list ends; the list behind it; how many replacements are left
+-- the token, none where the list ends; the list after it; the number of replacements left
 abbrev pub Pull : Type 0
 Pull = Result (Option Hidden × List Hidden × ℕ) Fault
 
@@ -26,7 +26,7 @@ abbrev pub one_less : {A : Type 0} → Pos → ℕ → (ℕ → Result A Fault) 
 one_less at zero next = Err (record { code = code.ReplacementLimit; at = at })
 one_less at (suc left) next = next left
 
--- by cases on what the first token does; `again` is what follows a replacement
+-- by cases on the effect of the first token; `again` pulls from the list that a replacement makes
 abbrev pub pulled_at : Known → (List Hidden → ℕ → Pull) → Turn → Hidden → List Hidden → ℕ → Pull
 pulled_at known again stands x rest left = Ok (Some x, rest, left)
 pulled_at known again (refused c) x rest left = Err (record { code = c; at = x.token.pos })
@@ -46,7 +46,7 @@ pulled_by (suc n) known xs ending left = pulled_first known (λ ys m. pulled_by 
 abbrev pub pulled : Known → List Hidden → Ending → ℕ → Pull
 pulled known xs ending left = pulled_by left known xs ending left
 
--- what is pulled stands before the expansion of the list behind it
+-- the pulled token precedes the expansion of the list after it
 abbrev pub then_expanded : Known → Ending → Option Hidden → List Hidden → ℕ → Answer
 then_expanded known ending None rest left = Ok ([], left)
 then_expanded known ending (Some x) rest left = behind x (expanding known rest ending left)

@@ -1,4 +1,4 @@
--- A list that is expanded one token after the other, and what a call gives of it.
+-- A list that is expanded one token at a time, and the result of a call.
 use Rattle.std.specs.Prelude.{◌≡◌, ℕ, ◌+◌, ◌*◌, ◌^◌, List, [], ◌++◌, map, length, Option, Some, None, Result, Ok, Err}
 use Rattle.srcset.specs.declared.fault.Fault.{Fault as ToldFault}
 use Rattle.srcset.specs.declared.refusal.Refusal.{Refusal}
@@ -15,7 +15,7 @@ use Rattle.pp_expand.specs.Expansion.{unhidden}
 use Rattle.pp_expand.specs.Expands.{HaveFiles}
 use Rattle.pp_expand.specs.Pulled.{Pull}
 
--- What is left of a list: tokens with the numbers of their hide sets in a table, and behind them tokens that hide nothing;
+-- The rest of a list: tokens with the numbers of their hide sets in a table, followed by tokens that hide nothing;
 -- where it ends; how it was refused, once it was.
 pub record Stream : Type 0 where
   pub list : List HiddenToken
@@ -34,7 +34,7 @@ pub record Knows (names : Texts) (s : Stream) : Type 0 where
   pub list_files : HaveFiles names (map (λ x. x.token) s.list)
   pub fresh_files : HaveFiles names s.fresh
 
--- how much is still to be done at the most, with so many replacements left
+-- an upper bound of the work left, with `left` replacements left
 abbrev pub size_left : Stream → ℕ → ℕ
 size_left s left = left * 2 ^ 66 + (length s.list + length s.fresh)
 
@@ -42,7 +42,7 @@ abbrev pub refusal_of : {A : Type 0} → Result A Refusal → Option Refusal
 refusal_of (Ok x) = None
 refusal_of (Err f) = Some f
 
--- what a call gives, the list that it leaves, and the replacements left before and after, as the definition has them
+-- the result of a call, the list that it leaves, and the replacements left before and after, as the definition has them
 abbrev pub IsPulled : Result (Option Token) Refusal → List Hidden → ℕ → ℕ → Pull → Type 0
 IsPulled (Ok (Some x)) behind old new pull =
     (hides : List (List ℕ)) × (pull ≡ Ok (Some (record { token = x; hides = hides }), behind, new))
@@ -51,7 +51,7 @@ IsPulled (Err Memory) behind old new pull = new ≡ old
 IsPulled (Err (At code pos)) behind old new pull = (pull ≡ Err (record { code = code; at = pos })) × (new ≡ old)
 IsPulled (Err (Told code pos text)) behind old new pull = ⊥
 
--- a call that is told by a fault, as it would be by a refusal
+-- a call that fails with a fault is related as one that fails with a refusal
 abbrev pub IsTold : {A : Type 0} → Texts → Result A ToldFault → Result A Refusal → Type 0
 IsTold texts (Ok x) answer = answer ≡ Ok x
 IsTold texts (Err fault) answer = (refusal : Refusal) × IsFaultOfRefusal fault texts refusal × (answer ≡ Err refusal)

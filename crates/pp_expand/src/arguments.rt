@@ -13,8 +13,8 @@ use srcset::Refusal;
 use std::alloc::Global;
 use std::collections::VecDeque;
 
-// Whether a comma separates arguments where so many parentheses are open and so many arguments end before it: with an
-// ellipsis it does not behind those of the named parameters (ISO/IEC 9899:2011 6.10.3p11, p12).
+// Whether a comma separates arguments at parenthesis depth `depth` after `before` complete arguments: with an
+// ellipsis it does not after those of the named parameters (ISO/IEC 9899:2011 6.10.3p11, p12).
 #[inline(always)]
 fn is_separator(depth: u64, variadic: bool, named: usize, before: usize) -> bool
     ensures { result ≡ nat_eq depth 0 && (not variadic || nat_lt before named) }
@@ -22,7 +22,7 @@ fn is_separator(depth: u64, variadic: bool, named: usize, before: usize) -> bool
     depth == 0 && (!variadic || before < named)
 }
 
-// A comma that separates no arguments is part of the one that it stands in.
+// A comma that separates no arguments is part of the one that contains it.
 #[inline(always)]
 fn keep_comma<'a>(
     argument: &mut Vec<HiddenToken<'a>>,
@@ -35,7 +35,7 @@ fn keep_comma<'a>(
     Ok(())
 }
 
-// The arguments of a call, behind its opening parenthesis, and its closing one; none where it is not closed.
+// The arguments of a call, after its opening parenthesis, and its closing one; none where it is not closed.
 fn gather_arguments<'a>(
     alloc: Global,
     variadic: bool,
@@ -77,7 +77,7 @@ fn gather_arguments<'a>(
     Ok(None)
 }
 
-// Gives room back where most of it stands empty. What stays in it is paid for by what was taken from it.
+// Shrinks the list where most of its room is empty. Copying the tokens that stay is paid for by those that were taken.
 fn give_room_back(list: &mut VecDeque<HiddenToken<'_>>)
     ensures { list.new.items ≡ list.old.items }
 {
@@ -86,7 +86,7 @@ fn give_room_back(list: &mut VecDeque<HiddenToken<'_>>)
     }
 }
 
-/// The arguments of a call of a macro with so many named parameters, behind its opening parenthesis, and its closing one;
+/// The arguments of a call of a macro with `named` named parameters, after its opening parenthesis, and its closing one;
 /// none where it is not closed. The rest keeps room for few more tokens than it has, since it may wait for as long as the
 /// arguments are expanded.
 pub(crate) fn take_arguments<'a>(
@@ -104,7 +104,7 @@ pub(crate) fn take_arguments<'a>(
     found
 }
 
-/// The arguments for so many parameters, an ellipsis being one: where there are none, one empty argument is none (ISO/IEC 9899:2011 6.10.3p4).
+/// The arguments for the parameters, an ellipsis being one: where there are no parameters, one empty argument is none (ISO/IEC 9899:2011 6.10.3p4).
 pub(crate) fn without_empty<'a>(
     alloc: Global,
     parameters: usize,

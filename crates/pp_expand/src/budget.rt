@@ -16,7 +16,7 @@ impl Model for Budget {
 }
 
 impl Budget {
-    /// So many replacements.
+    /// A budget of `left` replacements.
     pub fn new(left: u32) -> Budget
         ensures { result ≡ left }
     {

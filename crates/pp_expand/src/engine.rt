@@ -51,7 +51,7 @@ pub(crate) fn count_one(step: &Step<'_, '_>, left: &mut u32) -> Result<(), Refus
     Ok(())
 }
 
-// Goes on with the innermost list, to its next replacement or to the replacement that it is an argument of.
+// Continues with the innermost list, to its next replacement or to the replacement that it is an argument of.
 fn go_on<'a>(
     alloc: Global,
     table: &MacroTable<'a>,

@@ -16,7 +16,7 @@ use phases::PpToken;
 use srcset::{Fault, Names, Refusal};
 use std::alloc::Global;
 
-// Puts a token behind those given, if they are fewer than so many.
+// Appends a token to those given, if they are fewer than `most`.
 #[tactic(auto, using(crate::proofs::Handing::one_kept, crate::proofs::Handing::one_dropped))]
 fn show_one<'a>(
     token: PpToken<'a>,
@@ -32,8 +32,8 @@ fn show_one<'a>(
     Ok(())
 }
 
-/// Puts the expansion of a list, as `expand` gives it, behind the tokens given, as long as they are fewer than `most`: what comes
-/// behind is expanded and not kept. A refusal names no file, and after one nothing is said of what stands behind them.
+/// Appends the expansion of a list, as `expand` gives it, to the tokens given, as long as they are fewer than `most`: later
+/// tokens are expanded and not kept. A refusal names no file, and after one the appended tokens are unspecified.
 pub fn expand_behind<'a>(
     alloc: Global,
     table: &MacroTable<'a>,
@@ -95,8 +95,8 @@ pub fn try_expand<'a>(
     }
 }
 
-/// The expansion of a list of tokens: each macro that it names is replaced, and what comes of it is scanned again with
-/// the rest of the list (ISO/IEC 9899:2011 6.10.3.4). No name is replaced in what came of its own replacement, by the
+/// The expansion of a list of tokens: each macro that it names is replaced, and the result is scanned again with
+/// the rest of the list (ISO/IEC 9899:2011 6.10.3.4). No name is replaced in the result of its own replacement, by the
 /// hide sets of X3J11/86-196. `names` has the names of the macros and of the files.
 ///
 /// Each replacement takes one of `budget`, which stays as it was where the list is refused.
@@ -104,7 +104,7 @@ pub fn try_expand<'a>(
 /// Fails at the first of these, in the order in which the list is scanned, at the name that is replaced: 211 where the
 /// arguments are not closed; 705 where they are more than 127; 212 where they are not as many as the parameters, or 214
 /// where they are for the named ones alone; 213 where a function-like name ends a run; 706 where no replacement is left;
-/// 207 where `#` makes no string literal; what is wrong with an argument; 206 where `##` makes no token. Fails with 801
+/// 207 where `#` makes no string literal; the fault of an argument; 206 where `##` makes no token. Fails with 801
 /// where memory runs out.
 pub fn expand<'a>(
     alloc: Global,

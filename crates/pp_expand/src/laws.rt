@@ -2,13 +2,13 @@
 
 ghost use Rattle.pp_expand.specs.Laws.{PullsFirst, KnowsGrows, LeftGrows, BoundSuffices, PullBoundSuffices};
 
-/// A token that is pulled, followed by the expansion of the list left behind it, is the expansion of the list, replacements
+/// A pulled token, followed by the expansion of the list left after it, is the expansion of the list, replacements
 /// counted on; and where none is pulled, that expansion is empty.
 pub fn pulls_first()
     ensures { PullsFirst }
 {}
 
-/// What is known of a list left stays known, where names get further numbers.
+/// The facts known of a list left stay true when the table gains names.
 pub fn knows_grows()
     ensures { KnowsGrows }
 {}
@@ -23,7 +23,7 @@ pub fn bound_suffices()
     ensures { BoundSuffices }
 {}
 
-/// Nor what is pulled.
+/// Nor does it change the pulled token.
 pub fn pull_bound_suffices()
     ensures { PullBoundSuffices }
 {}

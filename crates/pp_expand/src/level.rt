@@ -3,7 +3,7 @@ use crate::run_end::RunEnd;
 use macros_substitution::HiddenToken;
 use std::collections::VecDeque;
 
-/// A list that is being expanded: what is left of it, and its expansion so far.
+/// A list that is being expanded: the rest of it, and its expansion so far.
 #[derive(Drop)]
 pub(crate) struct Level<'a> {
     pub(crate) rest: VecDeque<HiddenToken<'a>>,

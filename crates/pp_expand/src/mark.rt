@@ -1,11 +1,11 @@
-//! What a token is to the arguments of a call.
+//! The role of a token in the arguments of a call.
 ghost use Rattle.std.specs.Prelude.{◌≡◌};
 ghost use Rattle.pp_expand.specs.Expansion.{mark_of};
 ghost use Rattle.pp_expand.specs.inside.Turns.{mark_as};
 
 use phases::PpToken;
 
-/// What a token is to a list of arguments (ISO/IEC 9899:2011 6.10.3p11).
+/// The role of a token in a list of arguments (ISO/IEC 9899:2011 6.10.3p11).
 #[derive(Clone, Copy)]
 pub(crate) enum Mark {
     Opens,

@@ -20,7 +20,7 @@ use srcset::{Names, Refusal};
 use std::alloc::Global;
 use std::collections::VecDeque;
 
-// Makes the replacement of the name that stood in front of a list.
+// Makes the replacement of the name at the front of a list.
 fn take_step<'a>(
     alloc: Global,
     table: &MacroTable<'a>,
@@ -49,8 +49,8 @@ fn take_step<'a>(
     }
 }
 
-/// The first token of the expansion of a list, which is then the list left behind it; none where it ends. The replacements
-/// that are made until it stands are taken from those that are left.
+/// The first token of the expansion of a list, which is then the list left after it; none where it ends. The replacements
+/// made until that token is final are taken from those that are left.
 #[inline(always)]
 pub(crate) fn pull<'a>(
     alloc: Global,

@@ -28,11 +28,11 @@ use std::marker::Model;
 use std::mem;
 
 /// The expansion of a list of tokens (ISO/IEC 9899:2011 6.10.3.4), of which each call of `next` gives one token. Nothing is
-/// expanded before it is asked for. It holds the list left with its hide sets; nothing is lent from the table of macros,
+/// expanded before it is requested. It holds the list left with its hide sets; nothing is borrowed from the table of macros,
 /// which may gain and lose macros between two calls.
 #[derive(Drop)]
 pub struct Expander<'a> {
-    // Tokens that were not looked at yet. They stand behind the others, and hide nothing.
+    // Tokens that have not been scanned yet. They follow the others, and hide nothing.
     fresh: Vec<PpToken<'a>>,
     list: VecDeque<HiddenToken<'a>>,
     sets: HideSets,
@@ -53,7 +53,7 @@ impl<'a> Model for Expander<'a> {
     ghost invariant = { λ e. AreIn (length e.sets) e.list.items };
 }
 
-// Puts the tokens that were not looked at yet behind the others.
+// Appends the tokens that have not been scanned yet to the others.
 fn take_fresh<'a>(
     alloc: Global,
     fresh: &mut Vec<PpToken<'a>>,
@@ -74,7 +74,7 @@ fn take_fresh<'a>(
     Ok(())
 }
 
-// The first token, as `pull` gives it, of a list and the tokens behind it that were not looked at yet.
+// The first token, as `pull` gives it, of a list and the tokens after it that have not been scanned yet.
 #[inline(always)]
 fn pull_all<'a>(
     alloc: Global,
@@ -100,7 +100,7 @@ fn pull_all<'a>(
     pull(alloc, table, names, sets, list, end, left)
 }
 
-// The token without what it hides.
+// The token without its hide set.
 #[inline(always)]
 fn shown<'a>(found: Option<HiddenToken<'a>>) -> Option<PpToken<'a>>
     ensures { result ≡ option_map (λ x. x.token) found.entry }
@@ -190,10 +190,10 @@ impl<'a> Expander<'a> {
     }
 
     /// The next token of the expansion, none where it ends and from then on. `names` has the names of the macros and of the
-    /// files, and may gain texts between two calls. The replacements that are made until the token stands first, and no others,
+    /// files, and may gain texts between two calls. The replacements made until the first token is final, and no others,
     /// are taken from `budget`.
     ///
-    /// Fails as `expand` does, once each token that stands before the fault is given, and with 801 where memory runs out. Then the
+    /// Fails as `expand` does, once each token that precedes the fault is given, and with 801 where memory runs out. Then the
     /// budget is as it was, and each further call fails in the same way.
     pub fn next(
         &mut self,

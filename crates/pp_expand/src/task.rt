@@ -1,9 +1,9 @@
-//! What the first token of a list does.
+//! The effect of a list's first token.
 use macros::Macro;
 use macros_substitution::{HiddenToken, HideSet};
 use srcset::Pos;
 
-/// What a token names where its list is scanned.
+/// The macro that a token names where its list is scanned.
 pub(crate) enum Named<'a, 't> {
     /// No macro, or one that its hide set has.
     Nothing,
@@ -17,11 +17,11 @@ pub(crate) enum Named<'a, 't> {
 #[derive(Drop)]
 pub(crate) struct Task<'a, 't> {
     pub(crate) definition: &'t Macro<'a>,
-    /// Whether white space stands before the name.
+    /// Whether white space precedes the name.
     pub(crate) space_before: bool,
     /// The place of the name.
     pub(crate) at: Pos,
-    /// What the tokens of the replacement hide beside their own.
+    /// The names that the tokens of the replacement hide in addition to their own.
     pub(crate) hides: HideSet,
     pub(crate) arguments: Vec<Vec<HiddenToken<'a>>>,
 }
@@ -35,10 +35,10 @@ pub(crate) enum Step<'a, 't> {
     Replaced(Task<'a, 't>),
 }
 
-/// What the first token of a list does.
+/// The effect of a list's first token.
 #[derive(Drop)]
 pub(crate) enum Turned<'a, 't> {
-    /// It stands.
+    /// It is final.
     Stays(HiddenToken<'a>),
     /// It is replaced.
     Takes(Step<'a, 't>),

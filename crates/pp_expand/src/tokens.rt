@@ -34,7 +34,7 @@ fn quoted(alloc: Global, text: &[u8]) -> Result<Vec<u8>, AllocError>
     Ok(spelling)
 }
 
-// The kind and the spelling of a predefined macro's token (ISO/IEC 9899:2011 6.10.8), where the name stands here.
+// The kind and the spelling of a predefined macro's token (ISO/IEC 9899:2011 6.10.8), where the name is at this place.
 fn parts<'a>(
     alloc: Global,
     names: &Names,

@@ -1,4 +1,4 @@
-//! What the first token of a list does, and the way to the next replacement.
+//! The effect of a list's first token, and the way to the next replacement.
 ghost use Rattle.std.specs.Prelude.{◌≡◌, ℕ, ◌≤◌, ◌<◌, List, [], ◌∷◌, length, Some, option_map, slice_get, IfOk, IfErr};
 ghost use Rattle.srcset.specs.NameTable.{Texts, NumbersOnce};
 ghost use Rattle.macros.specs.Macro.{Macro as MacroSeen, Macros, Parameters, is_spelled};
@@ -51,7 +51,7 @@ fn object_task<'a, 't>(
     })
 }
 
-// What is wrong with so many arguments: they are for the named parameters alone, or too few or too many.
+// The fault of this argument count: there are arguments for the named parameters alone, or too few or too many.
 fn count_fault(variadic: bool, named: usize, count: usize) -> Code
     ensures { result ≡ count_fault variadic named count }
 {
@@ -61,7 +61,7 @@ fn count_fault(variadic: bool, named: usize, count: usize) -> Code
     Code::MacroArgumentCount
 }
 
-// The replacement of a function-like macro of so many parameters, an ellipsis being one, behind its opening parenthesis.
+// The replacement of a function-like macro after its opening parenthesis; an ellipsis counts as a parameter.
 fn call_task<'a, 't>(
     alloc: Global,
     number: usize,
@@ -111,7 +111,7 @@ fn call_task<'a, 't>(
     })
 }
 
-// What a function-like name does that is last in its list.
+// The effect of a function-like name that is last in its list.
 fn last_turn<'a, 't>(x: HiddenToken<'a>, end: RunEnd) -> Result<Turned<'a, 't>, Refusal>
     ensures { LastIs x.entry (last_turn (ending_of end)) result }
 {
@@ -125,7 +125,7 @@ fn last_turn<'a, 't>(x: HiddenToken<'a>, end: RunEnd) -> Result<Turned<'a, 't>, 
     }
 }
 
-// What the name of a macro of the table does.
+// The effect of a name of a macro of the table.
 fn macro_turn<'a, 't>(
     alloc: Global,
     number: usize,
@@ -162,7 +162,7 @@ fn macro_turn<'a, 't>(
     }
 }
 
-/// What the first token of a list does.
+/// The effect of a list's first token.
 #[inline(always)]
 pub(crate) fn take_turn<'a, 't>(
     alloc: Global,
@@ -191,7 +191,7 @@ pub(crate) fn take_turn<'a, 't>(
     }
 }
 
-/// Goes on to the next replacement, or to the end of the list.
+/// Continues to the next replacement, or to the end of the list.
 pub(crate) fn advance<'a, 't>(
     alloc: Global,
     table: &'t MacroTable<'a>,

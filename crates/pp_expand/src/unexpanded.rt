@@ -52,7 +52,7 @@ impl<'a> Unexpanded<'a> {
         Ok(copy)
     }
 
-    /// Puts a token last.
+    /// Appends a token.
     #[inline(always)]
     pub fn push(&mut self, token: PpToken<'a>) -> Result<(), Refusal>
         ensures ok { OnOk result (self.new ≡ self.old ++ token.entry ∷ []) }
@@ -65,7 +65,7 @@ impl<'a> Unexpanded<'a> {
         Ok(())
     }
 
-    /// Makes room for so many tokens more.
+    /// Reserves room for `additional` more tokens.
     pub fn reserve(&mut self, additional: usize) -> Result<(), Refusal>
         ensures same { self.new ≡ self.old }
         ensures err { IfErr result (λ refusal. refusal ≡ Memory) }

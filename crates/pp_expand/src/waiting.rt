@@ -20,22 +20,22 @@ use std::alloc::Global;
 use std::collections::VecDeque;
 use std::mem;
 
-/// A replacement whose arguments are being expanded, and the list that it stands in.
+/// A replacement whose arguments are being expanded, and the list that contains it.
 #[derive(Drop)]
 pub(crate) struct Waiting<'a> {
     pub(crate) level: Level<'a>,
-    /// Whether white space stands before the name.
+    /// Whether white space precedes the name.
     pub(crate) space_before: bool,
     /// The place of the name.
     pub(crate) at: Pos,
-    /// What the tokens of the replacement hide beside their own.
+    /// The names that the tokens of the replacement hide in addition to their own.
     pub(crate) hides: HideSet,
-    /// The arguments. One that stands nowhere beside `##` goes into its expansion.
+    /// The arguments. One that is nowhere next to `##` is consumed by its expansion.
     pub(crate) arguments: Vec<Vec<HiddenToken<'a>>>,
     /// How the replacement list uses each of its parameters.
     pub(crate) uses: Vec<Use>,
     pub(crate) pieces: Vec<Piece<'a>>,
-    /// The expansions of the first arguments; those that are not wanted are empty.
+    /// The expansions of the first arguments; those that are not needed are empty.
     pub(crate) full: Vec<Vec<HiddenToken<'a>>>,
 }
 
@@ -74,7 +74,7 @@ fn take_argument<'a>(
     Ok(VecDeque::from(argument))
 }
 
-// What a replacement becomes whose arguments are expanded, in front of the list that it stands in.
+// The result of a replacement whose arguments are expanded, in front of the list that contains it.
 fn finish<'a>(alloc: Global, at: Waiting<'a>, sets: &mut HideSets) -> Result<Level<'a>, Refusal>
     requires known { WaitingIn (length sets.old) at }
     requires all { length at.arguments.items ≤ length at.full.items }
@@ -98,7 +98,7 @@ fn finish<'a>(alloc: Global, at: Waiting<'a>, sets: &mut HideSets) -> Result<Lev
     Ok(level)
 }
 
-// Goes on with a replacement, to its next argument that is wanted or past it.
+// Continues a replacement, to its next argument whose expansion is needed or past it.
 fn proceed<'a>(
     alloc: Global,
     mut at: Waiting<'a>,
@@ -170,7 +170,7 @@ pub(crate) fn begin<'a>(
     proceed(alloc, replacement, waiting, sets)
 }
 
-/// Goes on with a replacement whose next argument has this expansion.
+/// Continues a replacement whose next argument has this expansion.
 pub(crate) fn join<'a>(
     alloc: Global,
     mut at: Waiting<'a>,

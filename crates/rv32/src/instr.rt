@@ -181,7 +181,7 @@ impl JumpOffset {
     }
 }
 
-/// What a conditional branch asks of two registers (unprivileged ISA manual, 2.5.2): BEQ, BNE, BLT,
+/// The comparison of two registers by a conditional branch (unprivileged ISA manual, 2.5.2): BEQ, BNE, BLT,
 /// BGE, BLTU, BGEU. The comparisons are signed unless they say `Unsigned`.
 #[derive(Clone, Copy, PartialEq, Eq, Debug)]
 pub enum Test {
@@ -193,7 +193,7 @@ pub enum Test {
     GreaterEqualUnsigned,
 }
 
-/// What a load takes from memory (unprivileged ISA manual, 2.6): LB, LH, LW, LBU, LHU. A value of
+/// The kind of a load from memory (unprivileged ISA manual, 2.6): LB, LH, LW, LBU, LHU. A value of
 /// under 32 bits is sign-extended, or zero-extended where the name says `Unsigned`.
 #[derive(Clone, Copy, PartialEq, Eq, Debug)]
 pub enum LoadKind {
@@ -309,7 +309,7 @@ pub enum Instr {
         left: Five,
         right: Short,
     },
-    /// SLLI, SRLI, SRAI; `left` is rs1, and `amount` stands in the field of rs2.
+    /// SLLI, SRLI, SRAI; `left` is rs1, and `amount` is in the field of rs2.
     Shift {
         op: ShiftOp,
         rd: Five,

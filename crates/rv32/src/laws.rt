@@ -1,4 +1,4 @@
-//! Laws of the definitions, for proofs about what runs on this machine. The functions do nothing:
+//! Laws of the definitions, for proofs about code that runs on this machine. The functions do nothing:
 //! each has a contract so that its laws are proved. `proofs/Uses.antt` has the laws as lemmas.
 
 ghost use Rattle.rv32.specs.Laws.{WordIsRead, StepIsInstruction, StepIsRow, StepStays, ReadsWritten, ReadsOther, LoadsStoredByte, LoadsStoredHalf, LoadsStoredWord, ByteKeeps, HalfKeeps, WordKeeps, LoadsKeptByte, LoadsKeptHalf, LoadsKeptWord, FetchesKept, BytesAreApart, HalvesAreApart, WordsAreApart};
@@ -8,20 +8,20 @@ pub fn word_is_read()
     ensures { WordIsRead }
 {}
 
-/// A step is the instruction whose word stands at pc, and one that does not go on leaves the machine.
+/// A step is the instruction whose word is at pc, and one that does not go on leaves the machine.
 pub fn step_is_its_instruction()
     ensures instruction { StepIsInstruction }
     ensures row { StepIsRow }
     ensures stays { StepStays }
 {}
 
-/// A register that was written reads as what was written, x0 as 0, and every other as before.
+/// A register that was written reads as the written value, x0 as 0, and every other as before.
 pub fn read_after_write()
     ensures written { ReadsWritten }
     ensures other { ReadsOther }
 {}
 
-/// What was stored is loaded at the same address.
+/// A stored value is loaded at the same address.
 pub fn load_after_store()
     ensures byte { LoadsStoredByte }
     ensures half { LoadsStoredHalf }

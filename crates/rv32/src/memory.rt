@@ -1,10 +1,9 @@
-//! Memory: segments of bytes, each with what may be done with it. Little endian (unprivileged ISA
-//! manual, 2.6).
+//! Memory: segments of bytes, each with its permissions. Little endian (unprivileged ISA manual, 2.6).
 
 ghost use Rattle.std.specs.Prelude.{◌≡◌, ◌<◌, ◌≤◌, ◌+◌, ◌*◌, ◌-◌, ◌/◌, ◌%◌, ◌^◌, ℕ, length, true, false, vec_len, IfSome, IfNone, option_map};
 ghost use Rattle.std.specs.List.{HoldsAt};
 
-/// The bytes from the address `start` on, which end at 2^32 at most, and what may be done with them.
+/// The bytes from the address `start` on, which end at 2^32 at most, and their permissions.
 #[derive(Drop)]
 pub struct Segment {
     pub start: u32,

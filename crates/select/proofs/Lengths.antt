@@ -1,6 +1,8 @@
 -- How long the selected items are.
-use Rattle.std.proofs.Common.{◌≡◌, ◌≤◌, ℕ, zero, suc, ◌+◌, ◌-◌, ◌*◌, ◌%◌, ◌^◌, Bool, true, false, List, [], ◌∷◌, ◌++◌, Option, Some, None, refl, arith}
+use Rattle.std.proofs.Common.{◌≡◌, ◌≤◌, ℕ, zero, suc, ◌+◌, ◌-◌, ◌*◌, ◌%◌, ◌^◌, Bool, true, false, List, [], ◌∷◌, ◌++◌, Option, Some, None, refl, sym, subst, arith}
 use Rattle.std.specs.Prelude.{if◌then◌else◌, nat_lt, ◌==◌, sum_by}
+use Rattle.std.specs.Int.Count.{count_trailing_zeros}
+use Rattle.std.proofs.lemmas.Bool.{eqb-true}
 use Rattle.std.proofs.lemmas.List.Sums.{sum_by-append, sum_by-cons}
 use Rattle.rv32.specs.declared.instr.Instr.{Instr}
 use Rattle.rv32.specs.declared.instr.Instr.TheVariants as instr
@@ -22,7 +24,7 @@ use Rattle.select.specs.declared.places.Source.TheVariants as source
 use Rattle.select.specs.declared.places.Home.{Home}
 use Rattle.select.specs.declared.places.Home.TheVariants as home
 use Rattle.select.specs.Selected as selected
-use Rattle.select.specs.Selected.{source_of, home_of, fetch, into, keep, made_in, register_of, far, load_word, store_word, address_of, move, ending, operate, form_or, combine, narrow, reach, reference, scale, put_byte, get_byte, change_sp, saves, restores, calls, keep_return, take_return, entry, leave, return_home, byte_home, items_of, set_to, shortened}
+use Rattle.select.specs.Selected.{source_of, home_of, fetch, into, keep, made_in, register_of, load_constant, far, load_word, store_word, address_of, move, ending, operate, form_or, combine, narrow, reach, reference, log2_of, shift_or_multiply, scale, operate_on, put_byte, get_byte, change_sp, saves, restores, calls, keep_return, take_return, entry, leave, return_home, byte_home, items_of, set_to, shortened}
 use Rattle.select.specs.Program.{code_items, function_items}
 use Rattle.select.proofs.Shortened.{shortened_bytes}
 use Rattle.select.specs.Bytes.{word_bytes, fetch_bytes, keep_bytes, into_bytes, move_bytes, reach_bytes, reference_bytes, scale_bytes, saved_bytes, entry_bytes, instruction_bytes, CodeIsShort}
@@ -57,11 +59,14 @@ load_word_short rd o = word_short (nat_lt o 0x800) _ _ refl refl
 store_word_short : (s o : ℕ) → longest (store_word s o) ≤ word_bytes o
 store_word_short s o = word_short (nat_lt o 0x800) _ _ refl refl
 
+constant_short : (rd v : ℕ) → longest (load_constant rd v ∷ []) ≤ 8
+constant_short rd v = one_of (v % 0x1000 == 0) _ _ 8 (omega arith) (omega arith)
+
 address_short : (rd o : ℕ) → longest (address_of rd o) ≤ 12
-address_short rd o = either (nat_lt o 0x800) _ _ 12 (omega arith) (omega arith)
+address_short rd o = either (nat_lt o 0x800) _ _ 12 (omega arith) (both (load_constant rd o ∷ []) (operate_on register_op.Add rd rd 2 ∷ []) 8 4 (constant_short rd o) (omega arith))
 
 set_short : (rd v : ℕ) → longest (set_to rd v ∷ []) ≤ 8
-set_short rd v = one_of (nat_lt ((v + 0x800) % 2 ^ 32) 0x1000) _ _ 8 (omega arith) (omega arith)
+set_short rd v = one_of (nat_lt ((v + 0x800) % 2 ^ 32) 0x1000) _ _ 8 (omega arith) (constant_short rd v)
 
 fetch_short : (x : ℕ) (s : Source) → longest (fetch x s) ≤ fetch_bytes s
 fetch_short x (source.Register r) = omega arith
@@ -117,21 +122,41 @@ reference_short f d (location.Statics o) = both (item.DataAddress (made_in d) o 
 reference_short f d (location.Frame o) = both (address_of (made_in d) (area_home f + o)) (keep d) 12 _ (address_short (made_in d) (area_home f + o)) (keep_short d)
 reference_short f d (location.At x) = move_short d (source_of f x)
 
-scale_by : (a b c : Bool) (xs ys zs us : List Item) → longest xs ≤ 0 → longest ys ≤ 4 → longest zs ≤ 4 → longest us ≤ 12
-    → longest (if a then xs else (if b then ys else (if c then zs else us))) + 4 ≤ (if a then 4 else (if b then 8 else (if c then 8 else 16)))
-scale_by true b c xs ys zs us x y z u = omega (arith, x)
-scale_by false true c xs ys zs us x y z u = omega (arith, y)
-scale_by false false true xs ys zs us x y z u = omega (arith, z)
-scale_by false false false xs ys zs us x y z u = omega (arith, u)
+product_short : (o : Option ℕ) (a n : ℕ) → longest (shift_or_multiply o a n) ≤ 12
+product_short (Some k) a n = omega arith
+product_short None a n = both (set_to 7 n ∷ []) (operate_on register_op.Mul 6 a 7 ∷ []) 8 4 (set_short 7 n) (omega arith)
+
+scale_by : (t u v : Bool) (xs : List Item) → (u ≡ true → longest xs ≤ 4) → (v ≡ true → longest xs ≤ 4) → longest xs ≤ 12
+    → longest (if t then [] else xs) + 4 ≤ (if t then 4 else (if u then 8 else (if v then 8 else 16)))
+scale_by true u v xs two four other = omega arith
+scale_by false true v xs two four other = omega (arith, two refl)
+scale_by false false true xs two four other = omega (arith, four refl)
+scale_by false false false xs two four other = omega (arith, other)
+
+-- a power of two takes a shift
+abbrev TakesOne : ℕ → ℕ → Type 0
+TakesOne a n = longest (shift_or_multiply (log2_of n) a n) ≤ 4
+
+two_takes_one : (a : ℕ) → TakesOne a 2
+unfolding count_trailing_zeros
+two_takes_one a = omega arith
+
+four_takes_one : (a : ℕ) → TakesOne a 4
+unfolding count_trailing_zeros
+four_takes_one a = omega arith
 
 scale_short : (a n : ℕ) → longest (scale a n) + 4 ≤ scale_bytes n
-scale_short a n = scale_by (n == 1) (n == 2) (n == 4) _ _ _ _ (omega arith) (omega arith) (omega arith) (omega arith)
+scale_short a n =
+    scale_by (n == 1) (n == 2) (n == 4) (shift_or_multiply (log2_of n) a n)
+    (λ e. subst (TakesOne a) (sym (eqb-true n 2 e)) (two_takes_one a)) (λ e. subst (TakesOne a) (sym (eqb-true n 4 e)) (four_takes_one a)) (product_short (log2_of n) a n)
 
 with_sum : (xs ys : List Item) (a b : ℕ) → longest xs + 4 ≤ a → longest ys ≤ 4 + b → longest (xs ++ ys) ≤ a + b
 with_sum xs ys a b p q = let sum : longest (xs ++ ys) ≡ longest xs + longest ys = sum_by-append (size true) xs ys in omega (arith, p, q, sum)
 
 change_short : (by : ℕ) → longest (change_sp by) ≤ 12
-change_short by = either (nat_lt ((by + 0x800) % 2 ^ 32) 0x1000) _ _ 12 (omega arith) (omega arith)
+change_short by =
+    either (nat_lt ((by + 0x800) % 2 ^ 32) 0x1000) _ _ 12 (omega arith)
+    (both (load_constant 7 by ∷ []) (operate_on register_op.Add 2 2 7 ∷ []) 8 4 (constant_short 7 by) (omega arith))
 
 saves_short : (f : Function) (n : ℕ) → longest (saves f n) ≤ saved_bytes f n
 saves_short f zero = omega arith

@@ -1,7 +1,8 @@
--- Flat programs, and what their items come to on the symbolic machine. Status and output are what the C text above each gives by
--- ISO/IEC 9899:2011. Branches are short here, and where a label or the data lies is put into one instruction whole.
+-- Flat programs, and the execution of their items on the symbolic machine. Status and output are those of the C text above each by ISO/IEC 9899:2011. Branches
+-- are short here, and the address of a label or of the data is put into one instruction whole.
 use Rattle.std.proofs.Common.{◌≡◌, refl}
 use Rattle.std.specs.Prelude.{ℕ, suc, zero, ◌+◌, ◌-◌, ◌*◌, ◌/◌, ◌%◌, ◌^◌, ◌==◌, nat_lt, true, if◌then◌else◌, List, [], ◌∷◌, ◌++◌, length, slice_get, slice_index_or, Option, Some, None}
+use Rattle.std.specs.Int.Count.{count_trailing_zeros}
 use Rattle.rv32.specs.declared.instr.Instr.{Instr}
 use Rattle.rv32.specs.declared.instr.Instr.TheVariants as instr
 use Rattle.rv32.specs.declared.instr.ImmediateOp.TheVariants as immediate_op
@@ -162,6 +163,7 @@ reference_into_a_frame_that_waits :
     after 80 [] (whole (
     function 0 0 8 0 (address t0 (in_frame 0) ∷ move (to_temporary 1) (constant 1) ∷ call 1 ∷ load word t0 (in_frame 4) ∷ return ∷ []) ∷
     function 1 1 0 0 (element (to_cell 0) (temporary 0) (temporary 1) 4 ∷ store word (constant 9) (at (cell 0)) ∷ move t0 (constant 0) ∷ return ∷ []) ∷ [])) ≡ Done 9 []
+unfolding count_trailing_zeros
 reference_into_a_frame_that_waits = refl
 
 -- int a[2][3]; a[1][2] = 9; return a[1][2]; by rows of 12 bytes
@@ -169,7 +171,26 @@ rows_of_twelve :
     after 80 [] (whole (function 2 0 24 0 (
     address (to_cell 0) (in_frame 0) ∷ move (to_cell 1) (constant 1) ∷ element (to_cell 0) (cell 0) (cell 1) 12 ∷ element t0 (cell 0) (constant 2) 4 ∷
     store word (constant 9) (at (temporary 0)) ∷ load word t0 (in_frame 20) ∷ return ∷ []) ∷ [])) ≡ Done 9 []
+unfolding count_trailing_zeros
 rows_of_twelve = refl
+
+-- the same by rows of 32 bytes, int a[2][8]
+rows_of_thirty_two :
+    after 80 [] (whole (function 2 0 64 0 (
+    address (to_cell 0) (in_frame 0) ∷ move (to_cell 1) (constant 1) ∷ element (to_cell 0) (cell 0) (cell 1) 32 ∷ element t0 (cell 0) (constant 2) 4 ∷
+    store word (constant 9) (at (temporary 0)) ∷ load word t0 (in_frame 40) ∷ return ∷ []) ∷ [])) ≡ Done 9 []
+unfolding count_trailing_zeros
+rows_of_thirty_two = refl
+
+-- by rows of 4 KiB: a shift by 12 bits; by rows of 12 KiB: LUI alone, and a product
+rows_of_pages : items_of (function 0 0 0 0 []) 0 (element t0 (temporary 0) (temporary 1) 0x1000) ≡ item.Plain (instr.Shift shift_op.Left 6 11 12) ∷ item.Plain (instr.Op op.Add 10 10 6) ∷ []
+unfolding count_trailing_zeros
+rows_of_pages = refl
+
+rows_of_three_pages :
+    items_of (function 0 0 0 0 []) 0 (element t0 (temporary 0) (temporary 1) 0x3000) ≡ item.Plain (instr.Lui 7 0x3000) ∷ item.Plain (instr.Op op.Mul 6 11 7) ∷ item.Plain (instr.Op op.Add 10 10 6) ∷ []
+unfolding count_trailing_zeros
+rows_of_three_pages = refl
 
 -- static unsigned char s[] = { 1, 2 }; s[0] = 5; return s[0] + s[1];
 statics :
@@ -216,6 +237,19 @@ one_less = refl
 
 one_shift : items_of (function 0 0 0 0 []) 0 (compute (machine op.ShiftRight) t0 (temporary 0) (constant 31)) ≡ item.Plain (instr.Shift shift_op.Right 10 10 31) ∷ []
 one_shift = refl
+
+-- a constant: ADDI alone from -2048 to 2047, LUI alone where the low 12 bits are zero
+lowest_of_twelve : items_of (function 0 0 0 0 []) 0 (move t0 (constant (2 ^ 32 - 2048))) ≡ item.Plain (instr.Immediate immediate_op.Add 10 0 (2 ^ 32 - 2048)) ∷ []
+lowest_of_twelve = refl
+
+least_above_twelve : items_of (function 0 0 0 0 []) 0 (move t0 (constant 2048)) ≡ item.Constant 10 2048 ∷ []
+least_above_twelve = refl
+
+minus_a_page : items_of (function 0 0 0 0 []) 0 (move t0 (constant (2 ^ 32 - 4096))) ≡ item.Plain (instr.Lui 10 (2 ^ 32 - 4096)) ∷ []
+minus_a_page = refl
+
+least_int : items_of (function 0 0 0 0 []) 0 (move t0 (constant 0x80000000)) ≡ item.Plain (instr.Lui 10 0x80000000) ∷ []
+least_int = refl
 
 -- a jump to the next instruction, and a0 into itself, have no items; a jump to itself has
 nothing_left : code_items (function 0 0 0 0 []) 7 2 (jump 3 ∷ move t0 (temporary 0) ∷ []) ≡ item.Mark 9 ∷ item.Mark 10 ∷ item.Mark 11 ∷ []

@@ -25,7 +25,7 @@ use Rattle.select.specs.declared.places.Source.TheVariants as source
 use Rattle.select.specs.declared.places.Home.{Home}
 use Rattle.select.specs.declared.places.Home.TheVariants as home
 use Rattle.select.specs.Selected as selected
-use Rattle.select.specs.Selected.{source_of, home_of, fetch, into, keep, made_in, register_of, far, load_word, store_word, address_of, move, ending, operate, form_or, combine, compute, narrow, convert, reach, load, store, reference, scale, element, branch, put_byte, get_byte, exit, change_sp, saves, restores, calls, keep_return, take_return, entry, leave, return_home, byte_home, items_of, set_to, shortened}
+use Rattle.select.specs.Selected.{source_of, home_of, fetch, into, keep, made_in, register_of, load_constant, far, load_word, store_word, address_of, move, ending, operate, form_or, combine, compute, narrow, convert, reach, load, store, reference, log2_of, shift_or_multiply, scale, element, branch, put_byte, get_byte, exit, change_sp, saves, restores, calls, keep_return, take_return, entry, leave, return_home, byte_home, items_of, set_to, shortened}
 use Rattle.select.specs.Program.{code_items, function_items, functions_items, start_items, program_items, labels_of}
 use Rattle.select.proofs.Shortened.{shortened_fits}
 
@@ -75,11 +75,14 @@ module _ (n : ℕ) where
   store_word_un : (s o : ℕ) → Unmarked n (store_word s o)
   store_word_un s o = both (far 7 o) _ (far_un 7 o) tt
 
+  constant_un : (rd v : ℕ) → v < 2 ^ 32 → Unmarked n (load_constant rd v ∷ [])
+  constant_un rd v lt = one_of (v % 0x1000 == 0) _ _ tt (lt, tt)
+
   address_un : (rd o : ℕ) → o < 2 ^ 32 → Unmarked n (address_of rd o)
-  address_un rd o lt = either (nat_lt o 0x800) _ _ tt (lt, tt)
+  address_un rd o lt = either (nat_lt o 0x800) _ _ tt (both (load_constant rd o ∷ []) _ (constant_un rd o lt) tt)
 
   set_un : (rd v : ℕ) → v < 2 ^ 32 → Unmarked n (set_to rd v ∷ [])
-  set_un rd v lt = one_of (nat_lt ((v + 0x800) % 2 ^ 32) 0x1000) _ _ tt (lt, tt)
+  set_un rd v lt = one_of (nat_lt ((v + 0x800) % 2 ^ 32) 0x1000) _ _ tt (constant_un rd v lt)
 
   abbrev SmallSource : Source → Type 0
   SmallSource (source.Register r) = Unit {0}
@@ -147,14 +150,18 @@ module _ (n : ℕ) where
   reference_un f d (location.Frame o) small fit = both (address_of (made_in d) (area_home f + o)) _ (address_un (made_in d) (area_home f + o) (omega (arith, small, fit))) (keep_un d)
   reference_un f d (location.At x) small fit = move_un d (source_of f x) (small_source f x fit)
 
-  scale_un : (a size : ℕ) → Unmarked n (scale a size)
-  scale_un a size = either (size == 1) _ _ tt (either (size == 2) _ _ tt (either (size == 4) _ _ tt (omega arith, tt)))
+  product_un : (o : Option ℕ) (a size : ℕ) → size < 2 ^ 32 → Unmarked n (shift_or_multiply o a size)
+  product_un (Some k) a size lt = tt
+  product_un None a size lt = both (set_to 7 size ∷ []) _ (set_un 7 size lt) tt
 
-  element_un : (d : Home) (x y : Source) (size : ℕ) → SmallSource x → SmallSource y → Unmarked n (element d x y size)
-  element_un d x y size p q = both (fetch 5 x) _ (fetch_un 5 x p) (both (fetch 6 y) _ (fetch_un 6 y q) (both (scale (register_of 6 y) size) _ (scale_un (register_of 6 y) size) (keep_un d)))
+  scale_un : (a size : ℕ) → size < 2 ^ 32 → Unmarked n (scale a size)
+  scale_un a size lt = either (size == 1) _ _ tt (product_un (log2_of size) a size lt)
+
+  element_un : (d : Home) (x y : Source) (size : ℕ) → SmallSource x → SmallSource y → size < 2 ^ 32 → Unmarked n (element d x y size)
+  element_un d x y size p q lt = both (fetch 5 x) _ (fetch_un 5 x p) (both (fetch 6 y) _ (fetch_un 6 y q) (both (scale (register_of 6 y) size) _ (scale_un (register_of 6 y) size lt) (keep_un d)))
 
   change_un : (by : ℕ) → by < 2 ^ 32 → Unmarked n (change_sp by)
-  change_un by lt = either (nat_lt ((by + 0x800) % 2 ^ 32) 0x1000) _ _ tt (lt, tt)
+  change_un by lt = either (nat_lt ((by + 0x800) % 2 ^ 32) 0x1000) _ _ tt (both (load_constant 7 by ∷ []) _ (constant_un 7 by lt) tt)
 
   saves_un : (f : Function) (k : ℕ) → Unmarked n (saves f k)
   saves_un f zero = tt
@@ -196,7 +203,7 @@ module _ (n : ℕ) where
         both (fetch 5 (source_of f x)) _ (fetch_un 5 (source_of f x) (small_source f x fit.0)) (both (reach f l) _ (reach_un f l fit.1) tt)
     items_un first m le lt (instruction.Address d l) fit = reference_un f (home_of f d) l small fit.1
     items_un first m le lt (instruction.Element d x y size) fit =
-        element_un (home_of f d) (source_of f x) (source_of f y) size (small_source f x fit.1) (small_source f y fit.2)
+        element_un (home_of f d) (source_of f x) (source_of f y) size (small_source f x fit.1) (small_source f y fit.2) fit.3
     items_un first m le lt (instruction.Jump to) fit = (omega (arith, lt, fit), tt)
     items_un first m le lt (instruction.Branch t x y to) fit =
         both (fetch 5 (source_of f x)) _ (fetch_un 5 (source_of f x) (small_source f x fit.0))

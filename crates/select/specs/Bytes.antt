@@ -1,4 +1,4 @@
--- The most bytes of code, with all branches long, that each flat instruction comes to.
+-- The most bytes of code, with all branches long, that each flat instruction is selected to.
 use Rattle.std.specs.Prelude.{ℕ, zero, suc, ◌≤◌, ◌+◌, ◌==◌, nat_lt, if◌then◌else◌, sum_by}
 use Rattle.asm.specs.Layout.{longest}
 use Rattle.frames_code.specs.declared.code.Location.{Location}
@@ -45,7 +45,7 @@ reference_bytes f d (location.Statics o) = 8 + keep_bytes d
 reference_bytes f d (location.Frame o) = 12 + keep_bytes d
 reference_bytes f d (location.At x) = move_bytes d (source_of f x)
 
--- to go on by elements of this size: a sum, behind a shift or a product with a constant, but for one byte
+-- to advance by elements of this size: a sum, after a shift or a product with a constant, except for one byte
 abbrev pub scale_bytes : ℕ → ℕ
 scale_bytes size = if size == 1 then 4 else (if size == 2 then 8 else (if size == 4 then 8 else 16))
 

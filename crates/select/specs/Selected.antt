@@ -1,5 +1,6 @@
 -- The items of each flat instruction.
-use Rattle.std.specs.Prelude.{ℕ, zero, suc, ◌+◌, ◌*◌, ◌-◌, ◌/◌, ◌%◌, ◌^◌, ◌==◌, nat_lt, nat_le, if◌then◌else◌, List, [], ◌∷◌, ◌++◌, Option, Some, None, Bool, true, false}
+use Rattle.std.specs.Prelude.{ℕ, zero, suc, ◌+◌, ◌*◌, ◌-◌, ◌/◌, ◌%◌, ◌^◌, ◌==◌, ◌&&◌, nat_lt, nat_le, if◌then◌else◌, List, [], ◌∷◌, ◌++◌, Option, Some, None, Bool, true, false}
+use Rattle.std.specs.Int.{w32, trailing_zeros}
 use Rattle.std.specs.List.{list_any}
 use Rattle.rv32.specs.declared.instr.Instr.{Instr}
 use Rattle.rv32.specs.declared.instr.Instr.TheVariants as instr
@@ -49,6 +50,10 @@ operate_on o rd left right = item.Plain (instr.Op o rd left right)
 abbrev pub shifted : ShiftOp → ℕ → ℕ → ℕ → Item
 shifted o rd left amount = item.Plain (instr.Shift o rd left amount)
 
+-- rd = a constant of more than 12 bits: by LUI alone where the low 12 are zero, else by LUI and ADDI
+abbrev pub load_constant : ℕ → ℕ → Item
+load_constant rd v = if v % 0x1000 == 0 then item.Plain (instr.Lui rd v) else item.Constant rd v
+
 -- ---- registers (RISC-V ELF psABI, "Integer Register Convention")
 
 -- s0 to s11 are x8, x9, and x18 to x27
@@ -59,7 +64,7 @@ kept j = if nat_lt j 2 then 8 + j else 16 + j
 abbrev pub argument : ℕ → ℕ
 argument k = 10 + k
 
--- ---- places of the frame, so many bytes above sp
+-- ---- places of the frame, by their offset in bytes above sp
 
 -- an offset in two parts: a multiple of 4096, and one of 12 bits with a sign
 abbrev pub upper_of : ℕ → ℕ
@@ -68,8 +73,7 @@ upper_of o = (o + 0x800) / 0x1000 * 0x1000
 abbrev pub lower_of : ℕ → ℕ
 lower_of o = (o + (2 ^ 32 - upper_of o)) % 2 ^ 32
 
--- what comes before an access to a place past the reach of 12 bits, where register x is free; and the register that the access
--- counts from
+-- the items before an access to a place past the reach of 12 bits, where register x is free; and the base register of the access
 abbrev pub far : ℕ → ℕ → List Item
 far x o = if nat_lt o 0x800 then [] else item.Plain (instr.Lui x (upper_of o)) ∷ operate_on register_op.Add x x 2 ∷ []
 
@@ -84,7 +88,7 @@ abbrev pub store_word : ℕ → ℕ → List Item
 store_word s o = far 7 o ++ (item.Plain (instr.Store store_kind.Word s (base_of 7 o) (lower_of o)) ∷ [])
 
 abbrev pub address_of : ℕ → ℕ → List Item
-address_of rd o = if nat_lt o 0x800 then add_to rd 2 o ∷ [] else item.Constant rd o ∷ operate_on register_op.Add rd rd 2 ∷ []
+address_of rd o = if nat_lt o 0x800 then add_to rd 2 o ∷ [] else load_constant rd o ∷ operate_on register_op.Add rd rd 2 ∷ []
 
 -- ---- operands and targets
 
@@ -101,9 +105,9 @@ home_of f (target.Temporary k) = if nat_lt k 8 then home.Register (argument k) e
 home_of f (target.Cell c) = if nat_lt c f.resident then home.Register (kept c) else home.Frame (cell_home f c)
 
 abbrev pub set_to : ℕ → ℕ → Item
-set_to rd v = if nat_lt ((v + 0x800) % 2 ^ 32) 0x1000 then add_to rd 0 v else item.Constant rd v
+set_to rd v = if nat_lt ((v + 0x800) % 2 ^ 32) 0x1000 then add_to rd 0 v else load_constant rd v
 
--- what makes a value be in the register that it is then read from; x is free
+-- the items that load a value into the register that it is then read from; x is free
 abbrev pub fetch : ℕ → Source → List Item
 fetch x (source.Register r) = []
 fetch x (source.Frame o) = load_word x o
@@ -120,7 +124,7 @@ into rd (source.Register r) = add_to rd r 0 ∷ []
 into rd (source.Frame o) = load_word rd o
 into rd (source.Constant v) = set_to rd v ∷ []
 
--- the register that a result is made in, and what puts it where it belongs
+-- the register that a result is computed in, and the items that move it to its home
 abbrev pub made_in : Home → ℕ
 made_in (home.Register r) = r
 made_in (home.Frame o) = 5
@@ -135,7 +139,7 @@ abbrev pub move : Home → Source → List Item
 move (home.Register r) x = into r x
 move (home.Frame o) x = fetch 5 x ++ store_word (register_of 5 x) o
 
--- the machine's operation, and what makes of its result whether words are equal
+-- the machine's operation, and the items that turn its result into whether words are equal
 abbrev pub machine_of : Operation → RegisterOp
 machine_of (operation.Machine o) = o
 machine_of operation.Equal = register_op.Xor
@@ -202,7 +206,7 @@ narrow conversion.ToTruth rd a = operate_on register_op.LessUnsigned rd 0 a ∷ 
 abbrev pub convert : Conversion → Home → Source → List Item
 convert c d x = fetch 5 x ++ (narrow c (made_in d) (register_of 5 x) ++ keep d)
 
--- what comes before an access to an element, the register that it counts from, and by how many bytes; x6 is free
+-- the items before an access to an element, its base register, and its offset in bytes; x6 is free
 abbrev pub reach : Function → Location → List Item
 reach f (location.Statics o) = item.DataAddress 6 o ∷ []
 reach f (location.Frame o) = far 6 (area_home f + o)
@@ -243,13 +247,22 @@ reference f d (location.Statics o) = item.DataAddress (made_in d) o ∷ keep d
 reference f d (location.Frame o) = address_of (made_in d) (area_home f + o) ++ keep d
 reference f d (location.At x) = move d (source_of f x)
 
+-- k, where it is below 32 and the size is 2 to the power of it
+abbrev pub power_or_none : ℕ → ℕ → Option ℕ
+power_or_none k size = if nat_lt k 32 && (2 ^ k == size) then Some k else None
+
+-- the power that a size is of two, where it is one: as many as the zeros that its digits end with
+abbrev pub log2_of : ℕ → Option ℕ
+log2_of size = power_or_none (trailing_zeros w32 size) size
+
+-- register a times a size, in x6: by a shift where the size is a power of two, else by a product; x7 is free
+abbrev pub shift_or_multiply : Option ℕ → ℕ → ℕ → List Item
+shift_or_multiply (Some k) a size = shifted shift_op.Left 6 a k ∷ []
+shift_or_multiply None a size = set_to 7 size ∷ operate_on register_op.Mul 6 a 7 ∷ []
+
 -- register a times a size, in x6 or in a itself; x6 and x7 are free, but that a may be x6
 abbrev pub scale : ℕ → ℕ → List Item
-scale a size =
-    if size == 1 then [] else
-    if size == 2 then shifted shift_op.Left 6 a 1 ∷ [] else
-    if size == 4 then shifted shift_op.Left 6 a 2 ∷ [] else
-    item.Constant 7 (size % 2 ^ 32) ∷ operate_on register_op.Mul 6 a 7 ∷ []
+scale a size = if size == 1 then [] else shift_or_multiply (log2_of size) a size
 
 abbrev pub scaled_in : ℕ → ℕ → ℕ
 scaled_in a size = if size == 1 then a else 6
@@ -267,15 +280,15 @@ branch t x y to = fetch 5 x ++ (fetch 6 y ++ (item.Branch t (register_of 5 x) (r
 abbrev pub byte_home : Function → ℕ
 byte_home f = 4 * f.outgoing
 
--- a0 is then 1; with any other answer, which the machine never gives, the program ends with the status 126
+-- a0 is then 1; with any other result, which the machine never gives, the program ends with the status 126
 abbrev pub put_byte : Function → List Item
 put_byte f =
     address_of 11 (byte_home f) ++ (
     item.Plain (instr.Store store_kind.Byte 10 11 0) ∷ add_to 10 0 1 ∷ add_to 12 0 1 ∷ add_to 17 0 64 ∷ item.Plain instr.Ecall ∷
     add_to 10 10 (2 ^ 32 - 1) ∷ item.Plain (instr.Branch test.Equal 10 0 16) ∷ add_to 10 0 126 ∷ add_to 17 0 93 ∷ item.Plain instr.Ecall ∷ [])
 
--- a0 is then 1 and a byte was got, or 0 at the input's end, or another answer, which the machine never gives. With 1 taken from it, a0 is 0 or not;
--- whether it is 0, with 1 taken from that, is 0, or has all bits set
+-- a0 is then 1 and a byte was read, or 0 at the input's end, or another result, which the machine never gives. With 1 subtracted, a0 is 0 or not; whether it is
+-- 0, minus 1, is 0, or has all bits set
 abbrev pub get_byte : Function → List Item
 get_byte f =
     address_of 11 (byte_home f) ++ (
@@ -292,7 +305,7 @@ exit = add_to 17 0 93 ∷ item.Plain instr.Ecall ∷ []
 -- sp changes by a multiple of 16, modulo 2^32; x7 is free
 abbrev pub change_sp : ℕ → List Item
 change_sp by =
-    if nat_lt ((by + 0x800) % 2 ^ 32) 0x1000 then add_to 2 2 by ∷ [] else item.Constant 7 by ∷ operate_on register_op.Add 2 2 7 ∷ []
+    if nat_lt ((by + 0x800) % 2 ^ 32) 0x1000 then add_to 2 2 by ∷ [] else load_constant 7 by ∷ operate_on register_op.Add 2 2 7 ∷ []
 
 -- the last word of a frame, for the address to return to
 abbrev pub return_home : Function → ℕ
@@ -361,7 +374,7 @@ items_of f first instruction.GetByte = get_byte f
 items_of f first instruction.Exit = exit
 items_of f first instruction.Return = leave f
 
--- ---- what need not be done
+-- ---- instructions that need no code
 
 -- a register into itself
 abbrev pub is_same : Target → Operand → Bool

@@ -12,7 +12,7 @@ ghost use Rattle.select.specs.Selected as selected;
 
 use crate::places::kept;
 use crate::words::{
-    add_to, address_of, load_word, operate_on, put, stack_pointer, store_word, zero,
+    add_to, address_of, load_constant, load_word, operate_on, put, stack_pointer, store_word, zero,
 };
 use asm::Item;
 use frames_code::{Function, Instruction};
@@ -57,10 +57,7 @@ fn change_sp(items: &mut Vec<Item>, by: u32) -> Result<(), AllocError>
         put(
             items,
             &[
-                Item::Constant {
-                    rd: free,
-                    value: by,
-                },
+                load_constant(free, by),
                 operate_on(RegisterOp::Add, stack_pointer(), stack_pointer(), free),
             ],
         )
@@ -145,7 +142,7 @@ fn take_return(items: &mut Vec<Item>, function: &Function, calls: bool) -> Resul
     }
 }
 
-/// What a function begins with: its frame, the address to return to, and the caller's registers.
+/// The prologue of a function: its frame, the address to return to, and the caller's registers.
 pub fn put_entry(items: &mut Vec<Item>, function: &Function, calls: bool) -> Result<(), AllocError>
     requires small { flat.frame_bytes (function_of function.now) ≤ most_bytes }
     requires few { function.now.resident ≤ 12 }
@@ -188,8 +185,7 @@ fn byte_home(function: &Function) -> u32
     (4 * function.outgoing) as u32
 }
 
-/// Environment call 64, which writes the low byte of a0. Where it answers that it did not write just one byte, the program ends with the
-/// status 126.
+/// Environment call 64, which writes the low byte of a0. Where it returns that it did not write exactly one byte, the program ends with the status 126.
 pub fn put_put_byte(items: &mut Vec<Item>, function: &Function) -> Result<(), AllocError>
     requires { flat.frame_bytes (function_of function.now) ≤ most_bytes }
     ensures { OnOk result (items.new.items ≡ items.old.items ++ selected.put_byte (function_of function.now)) }
@@ -217,7 +213,7 @@ pub fn put_put_byte(items: &mut Vec<Item>, function: &Function) -> Result<(), Al
     )
 }
 
-/// Goes on behind the next three instructions where a0 is 0.
+/// Skips the next three instructions where a0 is 0.
 fn over_three() -> Item
     ensures { result ≡ item.Plain (instr.Branch test.Equal 10 0 16) }
 {
@@ -242,7 +238,7 @@ fn is_zero(number: u8) -> Item
     })
 }
 
-/// Environment call 63, which reads a byte; -1 at the end of the input, and where it answers that it did not read just one byte.
+/// Environment call 63, which reads a byte; -1 at the end of the input, and where it returns that it did not read exactly one byte.
 pub fn put_get_byte(items: &mut Vec<Item>, function: &Function) -> Result<(), AllocError>
     requires { flat.frame_bytes (function_of function.now) ≤ most_bytes }
     ensures { OnOk result (items.new.items ≡ items.old.items ++ selected.get_byte (function_of function.now)) }

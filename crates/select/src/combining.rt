@@ -22,7 +22,7 @@ fn machine_of(operation: Operation) -> RegisterOp
     }
 }
 
-/// What makes of its result whether words are equal.
+/// The items that turn its result into whether words are equal.
 fn put_ending(items: &mut Vec<Item>, operation: Operation, rd: Five) -> Result<(), AllocError>
     ensures { OnOk result (items.new.items ≡ items.old.items ++ selected.ending operation rd) }
 {

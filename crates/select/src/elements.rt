@@ -11,7 +11,7 @@ use crate::operations::put_move;
 use crate::places::{Home, Source, source_of};
 use crate::words::{
     address_of, base_of, fetch, keep, lower_of, made_in, operate_on, put, put_far, put_one,
-    register_of, shifted,
+    register_of, set_to,
 };
 use asm::Item;
 use frames_code::{Function, Location, Width};
@@ -42,7 +42,7 @@ fn store_kind(width: Width) -> StoreKind
     }
 }
 
-/// What comes before an access to an element.
+/// The items before an access to an element.
 fn put_reach(
     items: &mut Vec<Item>,
     function: &Function,
@@ -95,7 +95,7 @@ fn reach_offset(function: &Function, location: &Location) -> Short
     }
 }
 
-/// Loads what lies at a location, with the width that it has there, and puts it at home.
+/// Loads the value at a location, with the width that it has there, and moves it to its home.
 pub fn put_load(
     items: &mut Vec<Item>,
     function: &Function,
@@ -180,30 +180,55 @@ pub fn put_reference(
     }
 }
 
+/// By how many bits a shift multiplies by a size, where it is a power of two.
+fn log2_of(size: u32) -> Option<Five>
+    ensures { result ≡ selected.log2_of size }
+{
+    let power = size.trailing_zeros();
+    if power < 32 && 1u32 << power == size {
+        Some(Five::new(power as u8))
+    } else {
+        None
+    }
+}
+
+/// A register times a size that is not 1.
+fn put_product(items: &mut Vec<Item>, register: Five, size: u32) -> Result<(), AllocError>
+    ensures { OnOk result (items.new.items ≡ items.old.items ++ selected.shift_or_multiply (selected.log2_of size) register size) }
+{
+    let rd = Five::new(6);
+    match log2_of(size) {
+        Some(amount) => put_one(
+            items,
+            Item::Plain(Instr::Shift {
+                op: ShiftOp::Left,
+                rd,
+                left: register,
+                amount,
+            }),
+        ),
+        None => {
+            let free = Five::new(7);
+            put(
+                items,
+                &[
+                    set_to(free, size),
+                    operate_on(RegisterOp::Mul, rd, register, free),
+                ],
+            )
+        }
+    }
+}
+
 /// A register times the size of an element.
 fn put_scale(items: &mut Vec<Item>, register: Five, size: usize) -> Result<(), AllocError>
     requires { size < 2 ^ 32 }
     ensures { OnOk result (items.new.items ≡ items.old.items ++ selected.scale register size) }
 {
-    let rd = Five::new(6);
     if size == 1 {
         Ok(())
-    } else if size == 2 {
-        put_one(items, shifted(ShiftOp::Left, rd, register, 1))
-    } else if size == 4 {
-        put_one(items, shifted(ShiftOp::Left, rd, register, 2))
     } else {
-        let free = Five::new(7);
-        put(
-            items,
-            &[
-                Item::Constant {
-                    rd: free,
-                    value: size as u32,
-                },
-                operate_on(RegisterOp::Mul, rd, register, free),
-            ],
-        )
+        put_product(items, register, size as u32)
     }
 }
 
@@ -213,7 +238,7 @@ fn scaled_in(register: Five, size: usize) -> Five
     if size == 1 { register } else { Five::new(6) }
 }
 
-/// The reference so many elements on.
+/// The reference advanced by a number of elements.
 pub fn put_element(
     items: &mut Vec<Item>,
     home: &Home,

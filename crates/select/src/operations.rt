@@ -15,7 +15,7 @@ use frames_code::{Conversion, Operation};
 use rv32::{Five, ImmediateOp, Instr, RegisterOp, ShiftOp, Short};
 use std::alloc::AllocError;
 
-/// Puts a source at home.
+/// Moves a source to its home.
 pub fn put_move(items: &mut Vec<Item>, home: &Home, source: &Source) -> Result<(), AllocError>
     requires near { SourceIsNear source.now }
     requires home_near { HomeIsNear home.now }
@@ -32,7 +32,7 @@ pub fn put_move(items: &mut Vec<Item>, home: &Home, source: &Source) -> Result<(
     }
 }
 
-/// Puts what an operation of two sources gives at home.
+/// Moves the result of an operation of two sources to its home.
 pub fn put_compute(
     items: &mut Vec<Item>,
     operation: Operation,
@@ -101,7 +101,7 @@ fn put_narrow(
     }
 }
 
-/// Puts a source at home, converted (6.3.1).
+/// Moves a source to its home, converted (6.3.1).
 pub fn put_convert(
     items: &mut Vec<Item>,
     conversion: Conversion,

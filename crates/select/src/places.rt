@@ -14,7 +14,7 @@ use rv32::Five;
 #[derive(Clone, Copy, Debug, PartialEq, Eq)]
 pub enum Source {
     Register(Five),
-    /// So many bytes above the stack pointer.
+    /// Its offset in bytes above the stack pointer.
     Frame(u32),
     Constant(u32),
 }
@@ -23,7 +23,7 @@ pub enum Source {
 #[derive(Clone, Copy, Debug, PartialEq, Eq)]
 pub enum Home {
     Register(Five),
-    /// So many bytes above the stack pointer.
+    /// Its offset in bytes above the stack pointer.
     Frame(u32),
 }
 

@@ -142,7 +142,7 @@ fn put_instruction(
     }
 }
 
-/// The items of a function's instructions, each behind its mark, and the mark of its end.
+/// The items of a function's instructions, each after its mark, and the mark of its end.
 fn put_code(
     items: &mut Vec<Item>,
     function: &Function,

@@ -9,15 +9,14 @@ use asm::Item;
 use rv32::{Five, ImmediateOp, Instr, LoadKind, RegisterOp, ShiftOp, Short, StoreKind, Upper};
 use std::alloc::AllocError;
 
-/// Puts items behind those that are there.
+/// Appends items.
 pub fn put(items: &mut Vec<Item>, more: &[Item]) -> Result<(), AllocError>
     ensures { OnOk result (items.new.items ≡ items.old.items ++ more.now) }
 {
     items.extend_from_slice(more)
 }
 
-/// Puts an item behind those that are there, which costs less than a list of one. The match is there because it names
-/// `Instr`, of which the borrow checker is else not told.
+/// Appends an item, which costs less than a list of one. The match is there because it names `Instr`, which the borrow checker does not see otherwise.
 pub fn put_one(items: &mut Vec<Item>, item: Item) -> Result<(), AllocError>
     ensures { OnOk result (items.new.items ≡ items.old.items ++ item ∷ []) }
 {
@@ -82,6 +81,20 @@ pub fn shifted(op: ShiftOp, rd: Five, left: Five, amount: u8) -> Item
     })
 }
 
+/// `rd` becomes a constant of more than 12 bits.
+pub fn load_constant(rd: Five, value: u32) -> Item
+    ensures { result ≡ selected.load_constant rd value }
+{
+    if value % 0x1000 == 0 {
+        Item::Plain(Instr::Lui {
+            rd,
+            upper: Upper::new(value),
+        })
+    } else {
+        Item::Constant { rd, value }
+    }
+}
+
 /// The part of an offset that is a multiple of 4096.
 fn upper_of(offset: u32) -> Upper
     requires { offset < most_offset }
@@ -90,7 +103,7 @@ fn upper_of(offset: u32) -> Upper
     Upper::new((offset + 0x800) / 0x1000 * 0x1000)
 }
 
-/// What is left of it, -2048 to 2047.
+/// The remainder of it, -2048 to 2047.
 pub fn lower_of(offset: u32) -> Short
     requires { offset < most_offset }
     ensures { result ≡ selected.lower_of offset }
@@ -98,7 +111,7 @@ pub fn lower_of(offset: u32) -> Short
     Short::new(offset.wrapping_sub((offset + 0x800) / 0x1000 * 0x1000))
 }
 
-/// What comes before an access to a place past the reach of 12 bits.
+/// The items before an access to a place past the reach of 12 bits.
 pub fn put_far(items: &mut Vec<Item>, free: Five, offset: u32) -> Result<(), AllocError>
     requires { offset < most_offset }
     ensures { OnOk result (items.new.items ≡ items.old.items ++ selected.far free offset) }
@@ -171,7 +184,7 @@ pub fn address_of(items: &mut Vec<Item>, rd: Five, offset: u32) -> Result<(), Al
         put(
             items,
             &[
-                Item::Constant { rd, value: offset },
+                load_constant(rd, offset),
                 operate_on(RegisterOp::Add, rd, rd, stack_pointer()),
             ],
         )
@@ -185,7 +198,7 @@ pub fn set_to(rd: Five, value: u32) -> Item
     if value.wrapping_add(0x800) < 0x1000 {
         add_to(rd, zero(), Short::new(value))
     } else {
-        Item::Constant { rd, value }
+        load_constant(rd, value)
     }
 }
 
@@ -212,7 +225,7 @@ pub fn register_of(free: Five, source: &Source) -> Five
     }
 }
 
-/// Puts a value into a register.
+/// Loads a value into a register.
 pub fn put_into(items: &mut Vec<Item>, rd: Five, source: &Source) -> Result<(), AllocError>
     requires { SourceIsNear source.now }
     ensures { OnOk result (items.new.items ≡ items.old.items ++ selected.into rd source.now) }
@@ -234,7 +247,7 @@ pub fn made_in(home: &Home) -> Five
     }
 }
 
-/// Puts a result that was made where it belongs.
+/// Moves a result to its destination.
 pub fn keep(items: &mut Vec<Item>, home: &Home) -> Result<(), AllocError>
     requires { HomeIsNear home.now }
     ensures { OnOk result (items.new.items ≡ items.old.items ++ selected.keep home.now) }

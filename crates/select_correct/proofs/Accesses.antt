@@ -41,7 +41,7 @@ tested : (t : Bool) (go : Progress) (R : Progress → Type 0) → R stuck → (t
 tested true go R none some = some refl
 tested false go R none some = none
 
--- an element lies within its list
+-- an element is within its list
 record Lying (w : Width) (o : ℕ) (x : Memory) : Type 0 where
   pub even : o % size_of w ≡ 0
   pub low : x.first ≤ o
@@ -62,7 +62,7 @@ sized width.Half = omega arith
 sized width.SignedHalf = omega arith
 sized width.Word = omega arith
 
--- ---- what is done and the input left stay
+-- ---- the trace and the remaining input stay the same
 
 frames_input : (s : State) (fs : List Frame) → s.input ≡ (with_frames s fs).input
 frames_input s [] = refl

@@ -1,4 +1,4 @@
--- The lists of bytes that references name: where they lie, and what stays when one of them changes.
+-- The lists of bytes that references name: their addresses, and what is unchanged when one of them changes.
 use Rattle.std.proofs.Common.{◌≡◌, ◌⊎◌, inl, inr, ℕ, zero, suc, ◌+◌, ◌*◌, ◌-◌, ◌%◌, ◌^◌, ◌<◌, ◌≤◌, List, [], ◌∷◌, length, Some, true, refl, sym, ap, ◌∙◌, subst, arith, eqb}
 use Rattle.std.specs.Prelude.{nat_lt}
 use Rattle.std.proofs.lemmas.Bool.{ltb-true}
@@ -20,7 +20,7 @@ abbrev pub start_of : Ground → ℕ → ℕ
 start_of G zero = G.data_at
 start_of G (suc l) = G.sp - suc l
 
--- a list lies there, open, with its bytes
+-- a list is there, open, with its bytes
 pub record Lives (G : Ground) (l : ℕ) (m : Memory) (b : ℕ → ℕ) : Type 0 where
   pub top : start_of G l + m.past ≤ 2 ^ 31
   pub aligned : start_of G l % 4 ≡ 0
@@ -167,7 +167,7 @@ module _ (G : Ground) (ready : Ready G) (s : State) (r : ℕ → ℕ) (at : ℕ)
       let more : memory_among G.program s.waiting (suc l) ≡ Some x = rw t at e in
       waits_live G ready s.waiting b below (m.sp + frame_bytes fn) _ l x m.waits (omega (arith, m.low)) more)
 
-  -- everything but what is named stays, where no word before the frame's arrays changes
+  -- everything except the named list is unchanged, where no word before the frame's arrays changes
   stored : (a at2 : ℕ) (area : Bytes) (ws : List Frame) (statics : Bytes) (r2 b2 : ℕ → ℕ) → at2 ≡ address G s.frame.function a → Off 5 r r2 → ((k : ℕ) → b2 k < 2 ^ 8) → Holds area m.sp (area_home fn) (area_home fn + fn.area) b2 → Holds statics G.data_at 0 (length G.program.statics) b2
       → ((o : ℕ) → o + 4 ≤ area_home fn → word_at b2 (m.sp + o) ≡ word_at b (m.sp + o)) → word_at b2 (m.sp + return_home fn) ≡ word_at b (m.sp + return_home fn) → Waits G ws b2 below (m.sp + frame_bytes fn) (return_at fn b m.sp (r 1))
       → Matched G (record s { frame = record s.frame { at = a; area = area }; arguments = unset; waiting = ws; statics = statics }) r2 at2 b2

@@ -1,4 +1,4 @@
--- Elements of a list of bytes, and those of the machine's memory where the list lies.
+-- Elements of a list of bytes, and those of the machine's memory that holds the list.
 use Rattle.std.proofs.Common.{◌≡◌, ◌≢◌, ◌⊎◌, ⊎_elim, ℕ, suc, ◌+◌, ◌*◌, ◌/◌, ◌%◌, ◌^◌, ◌<◌, ◌≤◌, List, Bool, true, false, Option, Some, None, refl, ap, ◌∙◌, arith, eqb}
 use Rattle.std.specs.Prelude.{if◌then◌else◌}
 use Rattle.std.proofs.lemmas.Bool.Decides.{nat_tests}
@@ -17,7 +17,7 @@ use Rattle.select.specs.Selected.{load_of, store_of}
 use Rattle.select_correct.specs.Matches.{Holds}
 use Rattle.select_correct.specs.Laws.{Anything}
 
--- ---- what the machine reads
+-- ---- the bytes that the machine reads
 
 abbrev pub element_here : Width → (ℕ → ℕ) → ℕ → ℕ
 element_here width.Byte b a = b a
@@ -112,7 +112,7 @@ element_of_bytes width.Word b a s = word_small b a s
 pub element_small : (w : Width) (b : ℕ → ℕ) (a v : ℕ) → ((k : ℕ) → b k < 2 ^ 8) → element_here w b a ≡ v → v < 2 ^ 32
 element_small w b a v s e = omega (arith, element_of_bytes w b a s, e)
 
--- ---- what the machine writes
+-- ---- the bytes that the machine writes
 
 if_swapped : (s t : Bool) (x y z : ℕ) → (s ≡ true → t ≡ false) → (if s then x else (if t then y else z)) ≡ (if t then y else (if s then x else z))
 if_swapped true t x y z h = let f : t ≡ false = h refl in rw f refl

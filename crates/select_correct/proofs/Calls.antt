@@ -33,7 +33,7 @@ or_true : (a c : Bool) → c ≡ true → (a || c) ≡ true
 or_true true c e = refl
 or_true false c e = e
 
--- a function in which a call stands calls
+-- a function whose code contains a call calls
 calls_there : (code : List Instruction) (k g : ℕ) → slice_get code k ≡ Some (instruction.Call g) → calls code ≡ true
 calls_there [] k g e = cc
 calls_there (x ∷ code) zero g e = let same : x ≡ instruction.Call g = cc in ap (λ y. is_call y || calls code) same

@@ -33,7 +33,7 @@ if_some true x form e = cc
 if_some false x form e = cc
 
 module _ (F : Fixed) (env : ℕ → ℕ) (seg : ℕ) (i : List ℕ) (h : List Event) (Q : Light → Type 0) (r b : ℕ → ℕ) (rd : ℕ) (pos : 0 < rd) where
-  -- rd has what the machine's operation gives
+  -- rd has the result of the machine's operation
   ends : (n : ℕ) (o : Operation) (x y here mid : ℕ) (r1 : ℕ → ℕ) → x < 2 ^ 32 → y < 2 ^ 32 → Only rd r r1 → r1 rd ≡ operate_of (machine_of o) x y → Stands F.text env seg (ending o rd) here mid
       → ((r2 : ℕ → ℕ) → Only rd r r2 → r2 rd ≡ flat.operate o x y → Comes F Anything 0 n (Go r2 mid b i h) Q) → Comes F Anything 0 (ending_cost o + n) (Go r1 here b i h) Q
   ends n (operation.Machine o) x y here mid r1 hx hy only held st next =

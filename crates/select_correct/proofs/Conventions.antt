@@ -55,7 +55,7 @@ run_split p (suc n) k s =
 called : (p : Program) (s : State) (f : ℕ) → next_of p s ≡ Some (instruction.Call f) → step p s ≡ running (entered s f)
 called p s f e = step_is p s ∙ ap (λ o. o >>= act p s) e
 
--- what comes behind a call is what the function that it enters does
+-- the run after a call is the run of the function that it enters
 behind_entry : (p : Program) (input : List ℕ) (n f : ℕ) (s : State) → ComesToCall p input n f s → (k : ℕ) → run p (suc n + k) (start p input) ≡ run p k (entered s f)
 behind_entry p input n f s c k =
     let e : suc n + k ≡ n + suc k = omega arith in
@@ -163,7 +163,7 @@ module _ (P : Permits) (low : (a : ℕ) → P.can_execute a ≡ true → a < 2 ^
     pub opened : Comes F Anything 1 most (Go r1 (env f) b1 c.input c.trace) (Matches G (running c))
     pub returns : (m : ℕ) (t : State) → HasRoomFor G c m → IsInCallee p c m t → next_of p t ≡ Some instruction.Return → (j : ℕ) × IsBack G r1 t back (light_run F j (Go r1 (env f) b1 c.input c.trace))
 
-  -- the world where the light machine is, behind the return
+  -- the world where the light machine is, after the return
   came_back : (r1 : ℕ → ℕ) (back : ℕ) (t : State) (v : machine.World) (m : Light) (y : machine.Progress) → register v.machine 1 ≡ back → register v.machine 2 ≡ r1 2 → ((j : ℕ) → j < 12 → register v.machine (kept j) ≡ r1 (kept j))
       → IsBack G r1 t back m → Follows P m y → (w : machine.World) × (y ≡ machine.Running w) × AtReturn data_at t v w
   came_back r1 back t v (Go r2 at2 b2 i2 h2) y e1 e2 ek d g =

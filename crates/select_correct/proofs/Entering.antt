@@ -6,7 +6,6 @@ use Rattle.rv32.specs.declared.instr.ImmediateOp.TheVariants as immediate_op
 use Rattle.rv32.specs.declared.instr.RegisterOp.TheVariants as register_op
 use Rattle.rv32.specs.Arithmetic.{operate_of}
 use Rattle.rv32.specs.Space.{word_at}
-use Rattle.asm.specs.declared.item.Item.TheVariants as item
 use Rattle.asm.specs.Placed.{Stands}
 use Rattle.csem_events.specs.Events.{Event}
 use Rattle.frames_code.specs.Code.{Function, cell_home, frame_bytes}
@@ -14,15 +13,14 @@ use Rattle.select_exec.specs.Light.{Fixed, Light, Go, reg, with_reg, with_word, 
 use Rattle.select_exec.proofs.Bridge.{bool_cases}
 use Rattle.select_exec.proofs.Words.{reg_is, with_other, word_off, word_same, word_apart, word_back, word_bytes}
 use Rattle.select_exec.proofs.Steps.{comes_by, comes_some, on_immediate, on_op}
-use Rattle.select_exec.proofs.ItemSteps.{on_loads}
 use Rattle.select_exec.proofs.Placing.{stands_parts}
-use Rattle.select.specs.Selected.{add_to, operate_on, kept, calls, change_sp, return_home, keep_return, take_return, saves, restores, store_word, load_word, entry}
+use Rattle.select.specs.Selected.{add_to, operate_on, load_constant, kept, calls, change_sp, return_home, keep_return, take_return, saves, restores, store_word, load_word, entry}
 use Rattle.select_correct.specs.Matches.{Small, file_of, return_at}
-use Rattle.select_correct.specs.Costs.{frame_cost, word_cost, saved_cost, opening_cost, return_cost}
+use Rattle.select_correct.specs.Costs.{constant_cost, frame_cost, word_cost, saved_cost, opening_cost, return_cost}
 use Rattle.select_correct.specs.Laws.{Anything}
 use Rattle.select_correct.proofs.Registers.{Only, only_none, only_then, kept_above, kept_once}
 use Rattle.select_correct.proofs.Waiting.{if_same}
-use Rattle.select_correct.proofs.Places.{Open, onward, loads_word, stores_word}
+use Rattle.select_correct.proofs.Places.{Open, onward, loads_constant, loads_word, stores_word}
 use Rattle.select_correct.proofs.Fits.{Within, frame_room, cell_lies, return_lies}
 
 -- the homes of the first n words have taken the registers
@@ -68,19 +66,21 @@ module _ (F : Fixed) (env : ℕ → ℕ) (seg : ℕ) (i : List ℕ) (h : List Ev
       let r2 = with_reg r 2 sp2 in
       let there : here + 4 ≡ mid = sym one.1.1 ∙ one.2 in
       let is : (r 2 + by) % 2 ^ 32 ≡ sp2 = ap (λ x. (x + by) % 2 ^ 32) e2 ∙ sum in
-      comes_by F Anything (suc n) (frame_cost by + n) (Go r here b i h) Q (omega arith)
+      let count : frame_cost by ≡ 1 = rw t refl in
+      comes_by F Anything (suc n) (frame_cost by + n) (Go r here b i h) Q (omega (arith, count))
       (on_immediate F Anything Q n r here b i h tt immediate_op.Add 2 2 by sp2 one.1.0 is
       (onward F env seg i h Q {a0 = a0} n (here + 4) mid r2 b there (next r2 (record { sp_is = refl; each = λ k n2 n7. with_other r 2 sp2 k n2 })))))
       (λ t.
-      let two : Stands F.text env seg (item.Constant 7 by ∷ operate_on register_op.Add 2 2 7 ∷ []) here mid = rw t at st in
+      let long : Stands F.text env seg (load_constant 7 by ∷ operate_on register_op.Add 2 2 7 ∷ []) here mid = rw t at st in
+      let two = stands_parts F.text env seg (load_constant 7 by ∷ []) (operate_on register_op.Add 2 2 7 ∷ []) here mid long in
       let r1 = with_reg r 7 by in
       let r2 = with_reg r1 2 sp2 in
       let is : operate_of register_op.Add (reg r1 2) (reg r1 7) ≡ sp2 = ap (λ x. (x + by) % 2 ^ 32) e2 ∙ sum in
       let there : two.0 + 4 ≡ mid = sym two.2.1.1 ∙ two.2.2 in
       let c : Comes F Anything a0 n (Go r2 (two.0 + 4) b i h) Q = onward F env seg i h Q {a0 = a0} n (two.0 + 4) mid r2 b there (next r2 (record { sp_is = refl; each = λ k n2 n7. with_other r1 2 sp2 k n2 ∙ with_other r 7 by k n7 })) in
-      let count : frame_cost by ≡ 3 = rw t refl in
-      comes_by F Anything (suc (suc (suc n))) (frame_cost by + n) (Go r here b i h) Q (omega (arith, count))
-      (on_loads F Anything Q (suc n) r here b i h tt 7 by two.0 refl two.1 tt
+      let count : frame_cost by ≡ constant_cost by + 1 = rw t refl in
+      comes_by F Anything (constant_cost by + suc n) (frame_cost by + n) (Go r here b i h) Q (omega (arith, count))
+      (loads_constant F env seg i h Q {a0 = 1} (suc n) 7 by here two.0 r b (omega arith) two.1
       (on_op F Anything Q n r1 two.0 b i h tt register_op.Add 2 2 7 two.2.1.0
       (subst (λ z. Comes F Anything a0 n (Go (with_reg r1 2 z) (two.0 + 4) b i h) Q) (sym is) c))))
 

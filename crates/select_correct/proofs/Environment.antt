@@ -26,7 +26,7 @@ use Rattle.select_exec.proofs.Bridge.{bool_cases}
 use Rattle.select_exec.proofs.Words.{with_other, byte_off, byte_back, byte_bytes, word_same}
 use Rattle.select_exec.proofs.Steps.{comes_now, on_immediate, on_op, on_load_byte, on_store_byte, on_branch, on_put, on_get}
 use Rattle.select_exec.proofs.Placing.{stands_parts, after_items}
-use Rattle.select.specs.Selected.{add_to, operate_on, kept, address_of, byte_home}
+use Rattle.select.specs.Selected.{add_to, operate_on, load_constant, kept, address_of, byte_home}
 use Rattle.select_correct.specs.Matches.{Ground, Ready, Shows, Matched, Matches, address, shown, temporary_at}
 use Rattle.select_correct.specs.Costs.{row}
 use Rattle.select_correct.specs.Laws.{Anything, Follows, AreBytes, GetFollows}
@@ -37,14 +37,14 @@ use Rattle.select_correct.proofs.Fits.{frame_room}
 use Rattle.select_correct.proofs.Frames.{within, on_with, small_same}
 use Rattle.select_correct.proofs.Forms.{used, word_some, fn, no_more}
 
--- ---- a byte or the input's end, from what the call answers
+-- ---- a byte or the input's end, from the result of the call
 
 byte_or : (c : ℕ) → c < 2 ^ 8 → bit_or (2 ^ 32 - 1) c ≡ 2 ^ 32 - 1
 byte_or c small =
     let masked : bit_and (2 ^ 32 - 1) c ≡ c % 2 ^ 32 = and_comm (2 ^ 32 - 1) c ∙ and_mask c 32 in
     omega (arith, or_add_and (2 ^ 32 - 1) c, masked, small)
 
--- what is done and the input left are no part of what is matched
+-- the trace and the remaining input are no part of the match
 pub retraced : (G : Ground) (s : State) (r : ℕ → ℕ) (at : ℕ) (b : ℕ → ℕ) (input : List ℕ) (trace : List Event) → Matched G s r at b → Matched G (record s { input = input; trace = trace }) r at b
 retraced G s r at b input trace m = record {
   sp = m.sp;
@@ -63,21 +63,30 @@ retraced G s r at b input trace m = record {
 pub record Calling (r r2 : ℕ → ℕ) : Type 0 where
   pub each : (k : ℕ) → k ≢ 10 → k ≢ 11 → k ≢ 12 → k ≢ 17 → r2 k ≡ r k
 
--- what reads the byte and makes the result
+-- the items that read the byte and compute the result
 abbrev get_tail : List Item
 get_tail =
     item.Plain (instr.Load load_kind.ByteUnsigned 11 11 0) ∷ add_to 10 10 (2 ^ 32 - 1) ∷ item.Plain (instr.Immediate immediate_op.LessUnsigned 10 10 1) ∷
     add_to 10 10 (2 ^ 32 - 1) ∷ operate_on register_op.Or 10 10 11 ∷ []
+
+constant_near : (T : ℕ → Option Instr) (env : ℕ → ℕ) (seg rd v here mid : ℕ) → Stands T env seg (load_constant rd v ∷ []) here mid → mid ≤ here + 8
+constant_near T env seg rd v here mid st =
+    bool_cases (eqb (v % 0x1000) 0)
+    (λ t. let one : Stands T env seg (item.Plain (instr.Lui rd v) ∷ []) here mid = rw t at st in omega (arith, one.1.1, one.2))
+    (λ t. let two : Stands T env seg (item.Constant rd v ∷ []) here mid = rw t at st in omega (arith, two.1.next_is, two.2))
 
 -- the address of a byte of the frame takes at most three instructions
 address_near : (T : ℕ → Option Instr) (env : ℕ → ℕ) (seg rd o here mid : ℕ) → Stands T env seg (address_of rd o) here mid → mid ≤ here + 12
 address_near T env seg rd o here mid st =
     bool_cases (nat_lt o 0x800)
     (λ t. let one : Stands T env seg (add_to rd 2 o ∷ []) here mid = rw t at st in omega (arith, one.1.1, one.2))
-    (λ t. let two : Stands T env seg (item.Constant rd o ∷ operate_on register_op.Add rd rd 2 ∷ []) here mid = rw t at st in omega (arith, two.1.next_is, two.2.1.1, two.2.2))
+    (λ t.
+    let long : Stands T env seg (load_constant rd o ∷ operate_on register_op.Add rd rd 2 ∷ []) here mid = rw t at st in
+    let two = stands_parts T env seg (load_constant rd o ∷ []) (operate_on register_op.Add rd rd 2 ∷ []) here mid long in
+    omega (arith, constant_near T env seg rd o here two.0 two.1, two.2.1.1, two.2.2))
 
 module _ (F : Fixed) (env : ℕ → ℕ) (seg : ℕ) (i : List ℕ) (h : List Event) (Q : Light → Type 0) where
-  -- an addition that stands up to where the next item does
+  -- an addition that reaches up to the place of the next item
   adds : {a0 : ℕ} → (n rd l v w here there : ℕ) (r b : ℕ → ℕ) → (F.text here ≡ Some (instr.Immediate immediate_op.Add rd l v)) × (there ≡ here + 4) → (reg r l + v) % 2 ^ 32 ≡ w → Comes F Anything a0 n (Go (with_reg r rd w) there b i h) Q → Comes F Anything 1 (suc n) (Go r here b i h) Q
   adds {a0} n rd l v w here there r b q is c =
       on_immediate F Anything Q n r here b i h tt immediate_op.Add rd l v w q.0 is (onward F env seg i h Q {a0 = a0} n (here + 4) there (with_reg r rd w) b (sym q.1) c)
@@ -89,7 +98,7 @@ module _ (G : Ground) (s : State) (r b : ℕ → ℕ) (ready : Ready G) (m : Mat
   abbrev end : ℕ
   end = address G s.frame.function (s.frame.at + 1)
 
-  -- the byte's word lies between the temporaries and the cells
+  -- the byte's word is between the temporaries and the cells
   abbrev byte_at : ℕ
   byte_at = m.sp + byte_home (fn G s r b ready m)
 
@@ -187,7 +196,7 @@ module _ (G : Ground) (s : State) (r b : ℕ → ℕ) (ready : Ready G) (m : Mat
       (omega (arith, is), subst (λ y. shown G y < 2 ^ 32) same small, subst (λ j. temporary_at r2 b2 m.sp j ≡ shown G v) (sym is) (e ∙ ap (shown G) same)))
       (λ t. let no : None ≡ Some v = rw t at ek in cc)
 
-  -- behind the call: t is what it answered, c the byte in memory
+  -- after the call: t is its result, c the byte in memory
   takes : (Q : Light → Type 0) (i : List ℕ) (h : List Event) (t c y z w x here : ℕ) (r5 b1 : ℕ → ℕ) → Stands G.machine.text G.env G.data_at get_tail here end → r5 11 ≡ byte_at → b1 byte_at ≡ c → r5 10 ≡ t → (t + (2 ^ 32 - 1)) % 2 ^ 32 ≡ y → one_if (nat_lt y 1) ≡ z → (z + (2 ^ 32 - 1)) % 2 ^ 32 ≡ w → bit_or w c ≡ x
       → ((r2 : ℕ → ℕ) → r2 10 ≡ x → ((k : ℕ) → k ≢ 10 → k ≢ 11 → r2 k ≡ r5 k) → Comes G.machine Anything 0 0 (Go r2 end b1 i h) Q) → Comes G.machine Anything 1 5 (Go r5 here b1 i h) Q
   takes Q i h t c y z w x here r5 b1 st e11 ec e10 ey ez ew ex next_to =
@@ -221,7 +230,7 @@ module _ (G : Ground) (s : State) (r b : ℕ → ℕ) (ready : Ready G) (m : Mat
         same k n0 n1 ∙ (with_other (with_reg (with_reg (with_reg r1 10 0) 12 t) 17 u) 10 v k n0 ∙ (with_other (with_reg (with_reg r1 10 0) 12 t) 17 u k n7 ∙ (with_other (with_reg r1 10 0) 12 t k n2 ∙ (with_other r1 10 0 k n0 ∙ only.each k n1))));
   }
 
-  -- what the call answers
+  -- the result of the call
   answered : (input : List ℕ) → s.input ≡ input → AreBytes input → (r1 : ℕ → ℕ) → Only 11 r r1 → r1 11 ≡ byte_at → (pc mid : ℕ) → mid ≡ pc + 4 → Stands G.machine.text G.env G.data_at get_tail mid end
       → Comes G.machine Anything 1 5 (gets (with_reg (with_reg (with_reg r1 10 0) 12 1) 17 63) pc b input byte_at s.trace) (Matches G (got s input))
   answered [] ei bytes r1 only e11 pc mid em st =

@@ -1,4 +1,4 @@
--- What soundness says of each function, and where the parts of its frame lie.
+-- The facts that soundness gives of each function, and the addresses of the parts of its frame.
 use Rattle.std.proofs.Common.{◌≡◌, ◌≢◌, ◌⊎◌, inl, inr, ⊎_elim, ℕ, ◌+◌, ◌*◌, ◌-◌, ◌%◌, ◌^◌, ◌<◌, ◌≤◌, length, Option, Some, None, refl, arith}
 use Rattle.std.specs.Prelude.{slice_get}
 use Rattle.std.proofs.lemmas.Bool.{cases_lt}
@@ -23,7 +23,7 @@ pub record Within (floor : ℕ) (f : Function) (sp : ℕ) : Type 0 where
   pub top : sp + frame_bytes f ≤ 2 ^ 31
   pub aligned : sp % 16 ≡ 0
 
--- its words and arrays lie before the address to return to
+-- its words and arrays precede the address to return to
 pub frame_room : (f : Function) → area_home f + f.area + 4 ≤ frame_bytes f
 frame_room f = omega arith
 

@@ -53,11 +53,17 @@ narrow_some conversion.ToHalf = omega arith
 narrow_some conversion.ToSignedHalf = omega arith
 narrow_some conversion.ToTruth = omega arith
 
+-- a constant takes an instruction
+one_at_least : (t u : Bool) → 1 ≤ (if t then 1 else (if u then 1 else 2))
+one_at_least true u = omega arith
+one_at_least false true = omega arith
+one_at_least false false = omega arith
+
 -- a move has an item
 pub move_some : (hm : Home) (o : Source) → 1 ≤ move_cost hm o
 move_some (home.Register q) (source.Register r) = omega arith
 move_some (home.Register q) (source.Frame p) = omega arith
-move_some (home.Register q) (source.Constant v) = omega arith
+move_some (home.Register q) (source.Constant v) = one_at_least (nat_lt ((v + 0x800) % 2 ^ 32) 0x1000) (v % 0x1000 == 0)
 move_some (home.Frame p) o = omega arith
 
 pub some_at : (xs : List Instruction) (k : ℕ) → k < length xs → (x : Instruction) × (slice_get xs k ≡ Some x)

@@ -1,4 +1,4 @@
--- What stays matched when registers and bytes of the frame change.
+-- The parts of a match that are kept when registers and bytes of the frame change.
 use Rattle.std.proofs.Common.{◌≡◌, ◌≢◌, ◌⊎◌, inl, inr, ⊎_elim, ℕ, ◌+◌, ◌*◌, ◌-◌, ◌^◌, ◌<◌, ◌≤◌, Some, true, false, refl, sym, ap, ◌∙◌, subst, arith, eqb}
 use Rattle.std.specs.Prelude.{nat_lt}
 use Rattle.std.proofs.lemmas.Bool.{lt-ltb, ltb-true, le-ltb, ltb-false}
@@ -40,7 +40,7 @@ module _ (G : Ground) (ready : Ready G) (s : State) (r : ℕ → ℕ) (at : ℕ)
     arguments = arguments;
   }
 
-  -- everything but what is named stays, where only bytes before the frame's arrays change
+  -- everything except what is named is unchanged, where only bytes before the frame's arrays change
   pub on_with : (a at2 : ℕ) (cells temporaries arguments : Values) (r2 b2 : ℕ → ℕ) → at2 ≡ address G s.frame.function a → r2 2 ≡ r 2 → r2 1 ≡ r 1 → Small (file_of r2) → ((k : ℕ) → b2 k < 2 ^ 8)
       → Shows G the.cells cells (cell_at the b2 m.sp (file_of r2)) → Shows G (8 + the.outgoing) temporaries (temporary_at r2 b2 m.sp) → ((k : ℕ) (v : Value) → arguments k ≡ Some v → s.arguments k ≡ Some v)
       → ((j : ℕ) → file_below the b2 m.sp (file_of r2) j ≡ file_below the b m.sp (file_of r) j) → ((k : ℕ) → (k < m.sp) ⊎ (m.sp + area_home the ≤ k) → b2 k ≡ b k) → Matched G (now_at a cells temporaries arguments) r2 at2 b2
@@ -67,7 +67,7 @@ module _ (G : Ground) (ready : Ready G) (s : State) (r : ℕ → ℕ) (at : ℕ)
             (waits_same G s.waiting b b2 (file_below the b m.sp (file_of r)) (file_below the b2 m.sp (file_of r2)) (m.sp + frame_bytes the) (return_at the b m.sp (r 1)) (λ k le. behind k (omega (arith, le, room))) below m.waits);
       }
 
-  -- ---- what stays
+  -- ---- what is unchanged
 
   pub cells_same : (r2 : ℕ → ℕ) → ((j : ℕ) → r2 (kept j) ≡ r (kept j)) → Shows G the.cells s.frame.cells (cell_at the b m.sp (file_of r2))
   cells_same r2 e c v ec =
@@ -91,7 +91,7 @@ module _ (G : Ground) (ready : Ready G) (s : State) (r : ℕ → ℕ) (at : ℕ)
       (temporaries_same r2 b (λ k lt. off_temporary 5 r r2 o k (λ x. omega (arith, x))) (λ k lo hi. refl)) sub
       (λ j. if_same (nat_lt j the.resident) _ _ (r (kept j)) (r2 (kept j)) refl (f j)) (λ k side. refl)
 
-  -- ---- what an operand is read from has its value
+  -- ---- the source of an operand has its value
 
   pub operand_holds : (x : Operand) (v : Value) → OperandFits the x → value s x ≡ Some v → SourceHolds r b m.sp (source_of the x) (shown G v) × (shown G v < 2 ^ 32)
   operand_holds (operand.Temporary k) v fit e =
@@ -284,7 +284,7 @@ module _ (G : Ground) (ready : Ready G) (s : State) (r : ℕ → ℕ) (at : ℕ)
         let same : cell_home the c ≡ o = cc in
         subst (λ x. Matched G (set (target.Cell c) w (now_at a s.frame.cells s.temporaries arguments)) r2 at2 (with_word b (m.sp + x) (shown G w))) same (to_memory c fit t off))
 
-  -- where a target's word lies
+  -- the address of a target's word
   pub home_lies : (d : Target) (o : ℕ) → home_of the d ≡ home.Frame o → TargetFits the d → Lies m.sp o
   home_lies (target.Temporary k) o eh fit =
       bool_cases (nat_lt k 8)

@@ -1,4 +1,4 @@
--- What is read and what is left are the input: of flat code and of the table's machine.
+-- The bytes read and those left are the input: of flat code and of the table's machine.
 use Rattle.std.proofs.Common.{◌≡◌, ℕ, zero, suc, ◌+◌, ◌*◌, ◌%◌, ◌^◌, List, [], ◌∷◌, Option, Some, None, Bool, true, false, refl, sym, ◌∙◌, subst}
 use Rattle.std.specs.Prelude.{◌==◌, ◌&&◌, if◌then◌else◌}
 use Rattle.rv32.specs.declared.state.Cause.TheVariants as cause
@@ -23,7 +23,7 @@ pub step_is : (p : Program) (s : State) → step p s ≡ (next_of p s >>= act p 
 unfolding step
 step_is p s = refl
 
--- ---- what holds of the input left and of the trace, whatever flat code does
+-- ---- an invariant of the remaining input and of the trace, whatever flat code does
 
 pub record Lasts (R : List ℕ → List Event → Type 0) (input : List ℕ) (trace : List Event) : Type 0 where
   pub now : R input trace
@@ -111,7 +111,7 @@ module _ (R : List ℕ → List Event → Type 0) where
 
 -- ---- the whole input
 
--- what was read, and what is left
+-- the bytes read, and those left
 abbrev pub whole : List Event → List ℕ → List ℕ
 whole [] left = left
 whole (Got c ∷ h) left = whole h (c ∷ left)

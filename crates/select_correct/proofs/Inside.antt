@@ -20,7 +20,7 @@ use Rattle.select.specs.declared.places.Source.TheVariants as source
 use Rattle.select.specs.declared.places.Home.{Home}
 use Rattle.select.specs.declared.places.Home.TheVariants as home
 use Rattle.select.specs.Selected as selected
-use Rattle.select.specs.Selected.{source_of, home_of, fetch, into, keep, made_in, register_of, far, load_word, store_word, address_of, move, ending, operate, form_or, combine, narrow, reach, reference, scale, element, put_byte, get_byte, change_sp, saves, restores, calls, keep_return, take_return, entry, leave, return_home, byte_home, items_of, set_to, shortened}
+use Rattle.select.specs.Selected.{source_of, home_of, fetch, into, keep, made_in, register_of, load_constant, far, load_word, store_word, address_of, move, ending, operate, form_or, combine, narrow, reach, reference, log2_of, shift_or_multiply, scale, element, put_byte, get_byte, change_sp, saves, restores, calls, keep_return, take_return, entry, leave, return_home, byte_home, items_of, set_to, shortened}
 use Rattle.select.specs.Program.{code_items}
 use Rattle.select.proofs.Shortened.{shortened_fits}
 
@@ -91,11 +91,14 @@ module _ (a b : ℕ) where
   store_word_in : (s o : ℕ) → Inside a b (store_word s o)
   store_word_in s o = both (far 7 o) _ (far_in 7 o) tt
 
+  constant_in : (rd v : ℕ) → Inside a b (load_constant rd v ∷ [])
+  constant_in rd v = one_of (v % 0x1000 == 0) _ _ tt tt
+
   address_in : (rd o : ℕ) → Inside a b (address_of rd o)
-  address_in rd o = either (nat_lt o 0x800) _ _ tt tt
+  address_in rd o = either (nat_lt o 0x800) _ _ tt (both (load_constant rd o ∷ []) _ (constant_in rd o) tt)
 
   set_in : (rd v : ℕ) → Inside a b (set_to rd v ∷ [])
-  set_in rd v = one_of (nat_lt ((v + 0x800) % 2 ^ 32) 0x1000) _ _ tt tt
+  set_in rd v = one_of (nat_lt ((v + 0x800) % 2 ^ 32) 0x1000) _ _ tt (constant_in rd v)
 
   fetch_in : (x : ℕ) (s : Source) → Inside a b (fetch x s)
   fetch_in x (source.Register r) = tt
@@ -148,14 +151,18 @@ module _ (a b : ℕ) where
   reference_in f d (location.Frame o) = both (address_of (made_in d) (area_home f + o)) _ (address_in (made_in d) (area_home f + o)) (keep_in d)
   reference_in f d (location.At x) = move_in d (source_of f x)
 
+  product_in : (o : Option ℕ) (x size : ℕ) → Inside a b (shift_or_multiply o x size)
+  product_in (Some k) x size = tt
+  product_in None x size = both (set_to 7 size ∷ []) _ (set_in 7 size) tt
+
   scale_in : (x size : ℕ) → Inside a b (scale x size)
-  scale_in x size = either (size == 1) _ _ tt (either (size == 2) _ _ tt (either (size == 4) _ _ tt tt))
+  scale_in x size = either (size == 1) [] _ tt (product_in (log2_of size) x size)
 
   element_in : (d : Home) (x y : Source) (size : ℕ) → Inside a b (element d x y size)
   element_in d x y size = both (fetch 5 x) _ (fetch_in 5 x) (both (fetch 6 y) _ (fetch_in 6 y) (both (scale (register_of 6 y) size) _ (scale_in (register_of 6 y) size) (keep_in d)))
 
   change_in : (by : ℕ) → Inside a b (change_sp by)
-  change_in by = either (nat_lt ((by + 0x800) % 2 ^ 32) 0x1000) _ _ tt tt
+  change_in by = either (nat_lt ((by + 0x800) % 2 ^ 32) 0x1000) _ _ tt (both (load_constant 7 by ∷ []) _ (constant_in 7 by) tt)
 
   saves_in : (f : Function) (k : ℕ) → Inside a b (saves f k)
   saves_in f zero = tt

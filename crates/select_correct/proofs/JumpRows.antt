@@ -1,4 +1,4 @@
--- A program that meets what the law asks for: one that jumps backwards and forwards.
+-- A program that meets the premises of the law: one that jumps backwards and forwards.
 use Rattle.std.proofs.Common.{◌≡◌, ℕ, zero, suc, ◌≤◌, [], ◌∷◌, Some, refl, subst, arith}
 use Rattle.std.specs.Prelude.{slice_get}
 use Rattle.std.proofs.lemmas.Option.{none-some, same_Some}

@@ -34,7 +34,7 @@ use Rattle.select_correct.proofs.Watching.{each_call_keeps}
 pub kept_low : (j : ℕ) → j < 12 → kept j < 32
 kept_low j lt = bool_cases (nat_lt j 2) (λ t. rw t (omega (arith, ltb-true j 2 t))) (λ t. rw t (omega (arith, lt)))
 
--- the world behind the call, where the light machine is, and its registers beside those at the call
+-- the world after the call, where the light machine is, and its registers compared with those at the call
 record Behind (t : State) (before : machine.World) (y : machine.Progress) (back : ℕ) : Type 0 where
   pub world : machine.World
   pub is : y ≡ machine.Running world

@@ -1,4 +1,4 @@
--- Where a program's items stand, each instruction's items and each function's entry stand at their labels.
+-- Where a program's items are placed, each instruction's items and each function's entry are at their labels.
 use Rattle.std.proofs.Common.{◌≡◌, ℕ, zero, suc, ◌+◌, ◌%◌, ◌<◌, ◌≤◌, List, [], ◌∷◌, length, take, Option, Some, None, refl, sym, ap, ◌∙◌, subst, arith}
 use Rattle.std.specs.Prelude.{slice_get}
 use Rattle.std.proofs.lemmas.List.Sums.{sum_by-cons}
@@ -64,7 +64,7 @@ module _ (T : ℕ → Option Instr) (env : ℕ → ℕ) (seg : ℕ) where
     each = λ k x ex. let old = q.each k x ex in record { aligned = old.aligned; low = omega (arith, old.low, le); stands = old.stands };
   }
 
-  -- where the functions behind one begin
+  -- where the functions after one begin
   record Behind (f : Function) (fs : List Function) (k first e : ℕ) : Type 0 where
     pub at : ℕ
     pub aligned : at % 4 ≡ 0

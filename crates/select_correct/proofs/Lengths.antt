@@ -21,8 +21,8 @@ use Rattle.select.specs.declared.places.Source.{Source}
 use Rattle.select.specs.declared.places.Source.TheVariants as source
 use Rattle.select.specs.declared.places.Home.{Home}
 use Rattle.select.specs.declared.places.Home.TheVariants as home
-use Rattle.select.specs.Selected.{source_of, home_of, kept, machine_of, constant_form, fetch, into, keep, made_in, register_of, far, load_word, store_word, address_of, move, ending, operate, form_or, combine, narrow, operate_on, reach, reach_base, reach_offset, load_of, reference, scale, scaled_in, put_byte, change_sp, saves, restores, calls, keep_return, take_return, entry, leave, return_home, byte_home, items_of, set_to}
-use Rattle.select_correct.specs.Costs.{far_cost, word_cost, set_cost, fetch_cost, keep_cost, into_cost, move_cost, form_cost, second_cost, ending_cost, compute_cost, narrow_cost, reach_cost, reference_cost, scale_cost, frame_cost, saved_cost, return_cost, opening_cost, row, RowsAreLengths, item_count}
+use Rattle.select.specs.Selected.{source_of, home_of, kept, machine_of, constant_form, fetch, into, keep, made_in, register_of, load_constant, far, load_word, store_word, address_of, move, ending, operate, form_or, combine, narrow, operate_on, reach, reach_base, reach_offset, load_of, reference, log2_of, shift_or_multiply, scale, scaled_in, put_byte, change_sp, saves, restores, calls, keep_return, take_return, entry, leave, return_home, byte_home, items_of, set_to}
+use Rattle.select_correct.specs.Costs.{far_cost, word_cost, constant_cost, address_cost, set_cost, fetch_cost, keep_cost, into_cost, move_cost, form_cost, second_cost, ending_cost, compute_cost, narrow_cost, reach_cost, reference_cost, product_cost, scale_cost, frame_cost, saved_cost, return_cost, opening_cost, row, RowsAreLengths, item_count}
 
 both : (xs ys : List Item) (a b : ℕ) → longest xs ≡ 4 * a → longest ys ≡ 4 * b → longest (xs ++ ys) ≡ 4 * (a + b)
 both xs ys a b p q = let sum : longest (xs ++ ys) ≡ longest xs + longest ys = sum_by-append (size true) xs ys in omega (arith, p, q, sum)
@@ -31,13 +31,9 @@ either : (t : Bool) (xs ys : List Item) (a b : ℕ) → longest xs ≡ 4 * a →
 either true xs ys a b p q = p
 either false xs ys a b p q = q
 
-one_of : (t : Bool) (x y : Item) → size true x ≡ 4 → size true y ≡ 8 → longest ((if t then x else y) ∷ []) ≡ 4 * (1 + (if t then 0 else 1))
-one_of true x y p q = omega (arith, p)
-one_of false x y p q = omega (arith, q)
-
-one_more : (t : Bool) → (if t then 1 else 3) ≡ 1 + (if t then 0 else 2)
-one_more true = refl
-one_more false = refl
+one_of : (t : Bool) (x y : Item) (a b : ℕ) → longest (x ∷ []) ≡ 4 * a → longest (y ∷ []) ≡ 4 * b → longest ((if t then x else y) ∷ []) ≡ 4 * (if t then a else b)
+one_of true x y a b p q = p
+one_of false x y a b p q = q
 
 far_long : (x o : ℕ) → longest (far x o) ≡ 4 * far_cost o
 far_long x o = either (nat_lt o 0x800) [] _ 0 2 refl refl
@@ -48,18 +44,19 @@ load_long rd o = let all : longest (load_word rd o) ≡ 4 * (far_cost o + 1) = b
 store_long : (s o : ℕ) → longest (store_word s o) ≡ 4 * word_cost o
 store_long s o = let all : longest (store_word s o) ≡ 4 * (far_cost o + 1) = both (far 7 o) _ (far_cost o) 1 (far_long 7 o) refl in omega (arith, all)
 
-address_long : (rd o : ℕ) → longest (address_of rd o) ≡ 4 * word_cost o
-address_long rd o =
-    let all : longest (address_of rd o) ≡ 4 * (if nat_lt o 0x800 then 1 else 3) = either (nat_lt o 0x800) _ _ 1 3 refl refl in
-    omega (arith, all, one_more (nat_lt o 0x800))
+constant_long : (rd v : ℕ) → longest (load_constant rd v ∷ []) ≡ 4 * constant_cost v
+constant_long rd v = one_of (v % 0x1000 == 0) _ _ 1 2 refl refl
+
+address_long : (rd o : ℕ) → longest (address_of rd o) ≡ 4 * address_cost o
+address_long rd o = either (nat_lt o 0x800) _ _ 1 _ refl (both (load_constant rd o ∷ []) (operate_on register_op.Add rd rd 2 ∷ []) (constant_cost o) 1 (constant_long rd o) refl)
 
 change_long : (by : ℕ) → longest (change_sp by) ≡ 4 * frame_cost by
 change_long by =
-    let all : longest (change_sp by) ≡ 4 * (if nat_lt ((by + 0x800) % 2 ^ 32) 0x1000 then 1 else 3) = either (nat_lt ((by + 0x800) % 2 ^ 32) 0x1000) _ _ 1 3 refl refl in
-    omega (arith, all, one_more (nat_lt ((by + 0x800) % 2 ^ 32) 0x1000))
+    either (nat_lt ((by + 0x800) % 2 ^ 32) 0x1000) _ _ 1 _ refl
+    (both (load_constant 7 by ∷ []) (operate_on register_op.Add 2 2 7 ∷ []) (constant_cost by) 1 (constant_long 7 by) refl)
 
 set_long : (rd v : ℕ) → longest (set_to rd v ∷ []) ≡ 4 * set_cost v
-set_long rd v = one_of (nat_lt ((v + 0x800) % 2 ^ 32) 0x1000) _ _ refl refl
+set_long rd v = one_of (nat_lt ((v + 0x800) % 2 ^ 32) 0x1000) _ _ 1 _ refl (constant_long rd v)
 
 fetch_long : (x : ℕ) (s : Source) → longest (fetch x s) ≡ 4 * fetch_cost s
 fetch_long x (source.Register r) = refl
@@ -123,8 +120,12 @@ reference_long f d (location.Statics o) = both (item.DataAddress (made_in d) o �
 reference_long f d (location.Frame o) = both (address_of (made_in d) (area_home f + o)) (keep d) _ _ (address_long (made_in d) (area_home f + o)) (keep_long d)
 reference_long f d (location.At x) = move_long d (source_of f x)
 
+product_long : (o : Option ℕ) (a n : ℕ) → longest (shift_or_multiply o a n) ≡ 4 * product_cost o n
+product_long (Some k) a n = refl
+product_long None a n = both (set_to 7 n ∷ []) (operate_on register_op.Mul 6 a 7 ∷ []) (set_cost n) 1 (set_long 7 n) refl
+
 scale_long : (a n : ℕ) → longest (scale a n) ≡ 4 * scale_cost n
-scale_long a n = either (n == 1) _ _ 0 _ refl (either (n == 2) _ _ 1 _ refl (either (n == 4) _ _ 1 3 refl refl))
+scale_long a n = either (n == 1) [] _ 0 _ refl (product_long (log2_of n) a n)
 
 saves_long : (f : Function) (n : ℕ) → longest (saves f n) ≡ 4 * saved_cost f n
 saves_long f zero = refl
@@ -174,7 +175,7 @@ items_long f first (instruction.Branch t x y to) =
     both (fetch 5 (source_of f x)) _ _ _ (fetch_long 5 (source_of f x)) (both (fetch 6 (source_of f y)) _ _ 2 (fetch_long 6 (source_of f y)) refl)
 items_long f first (instruction.Call g) = refl
 items_long f first instruction.PutByte =
-    let all : longest (put_byte f) ≡ 4 * (word_cost (byte_home f) + 10) = both (address_of 11 (byte_home f)) _ _ 10 (address_long 11 (byte_home f)) refl in omega (arith, all)
+    let all : longest (put_byte f) ≡ 4 * (address_cost (byte_home f) + 10) = both (address_of 11 (byte_home f)) _ _ 10 (address_long 11 (byte_home f)) refl in omega (arith, all)
 items_long f first instruction.GetByte = both (address_of 11 (byte_home f)) _ _ 9 (address_long 11 (byte_home f)) refl
 items_long f first instruction.Exit = refl
 items_long f first instruction.Return = leave_long f

@@ -1,4 +1,4 @@
--- Running what reads operands and writes results: words of the frame, near and far, constants, registers.
+-- Running the items that read operands and write results: words of the frame, near and far, constants, registers.
 use Rattle.std.proofs.Common.{◌≡◌, ◌≢◌, ℕ, suc, ◌+◌, ◌/◌, ◌%◌, ◌^◌, ◌<◌, ◌≤◌, List, [], ◌∷◌, Bool, true, false, refl, sym, ap, ◌∙◌, subst, arith, eqb}
 use Rattle.std.specs.Prelude.{nat_lt}
 use Rattle.std.proofs.lemmas.Bool.{ltb-true}
@@ -21,8 +21,8 @@ use Rattle.select_exec.proofs.ItemSteps.{on_loads}
 use Rattle.select_exec.proofs.Placing.{stands_parts}
 use Rattle.select.specs.declared.places.Source.{Source}
 use Rattle.select.specs.declared.places.Source.TheVariants as source
-use Rattle.select.specs.Selected.{add_to, operate_on, upper_of, lower_of, far, base_of, load_word, store_word, address_of, set_to, fetch, register_of, into}
-use Rattle.select_correct.specs.Costs.{far_cost, word_cost, set_cost, fetch_cost, into_cost}
+use Rattle.select.specs.Selected.{add_to, operate_on, load_constant, upper_of, lower_of, far, base_of, load_word, store_word, address_of, set_to, fetch, register_of, into}
+use Rattle.select_correct.specs.Costs.{far_cost, word_cost, constant_cost, address_cost, set_cost, fetch_cost, into_cost}
 use Rattle.select_correct.specs.Laws.{Anything}
 use Rattle.select_correct.proofs.Registers.{Only, Off, only_none, only_one, only_then, off_then, off_sp, off_only, off_none, only_reg, off_reg}
 
@@ -34,7 +34,7 @@ pub record Open (F : Fixed) (sp : ℕ) : Type 0 where
 pub four_open : (p : ℕ → Bool) (sp a : ℕ) → ((k : ℕ) → sp ≤ k → k < 2 ^ 31 → p k ≡ true) → sp ≤ a → a + 4 ≤ 2 ^ 31 → all_four p a ≡ true
 four_open p sp a all lo hi = rw (all a lo (omega (arith, hi)), all (a + 1) (omega (arith, lo)) (omega (arith, hi)), all (a + 2) (omega (arith, lo)) (omega (arith, hi)), all (a + 3) (omega (arith, lo)) (omega (arith, hi))) refl
 
--- a word of the stack, so many bytes above the stack pointer
+-- a word of the stack, at this offset in bytes above the stack pointer
 pub record Lies (sp o : ℕ) : Type 0 where
   pub top : sp + o + 4 ≤ 2 ^ 31
   pub aligned : sp % 4 ≡ 0
@@ -56,7 +56,7 @@ module _ (F : Fixed) (env : ℕ → ℕ) (seg : ℕ) (i : List ℕ) (h : List Ev
   pub onward : {a0 : ℕ} → (n pc pc2 : ℕ) (r b : ℕ → ℕ) → pc ≡ pc2 → Comes F Anything a0 n (Go r pc2 b i h) Q → Comes F Anything a0 n (Go r pc b i h) Q
   onward {a0} n pc pc2 r b e c = subst (λ x. Comes F Anything a0 n (Go r x b i h) Q) (sym e) c
 
-  -- what comes before an access to a place past the reach of 12 bits
+  -- the items before an access to a place past the reach of 12 bits
   pub far_runs : (n x o sp here mid : ℕ) (r b : ℕ → ℕ) → 0 < x → x ≢ 2 → r 2 ≡ sp → sp + o < 2 ^ 31 → Stands F.text env seg (far x o) here mid
       → ((r2 : ℕ → ℕ) → Only x r r2 → sum32 (reg r2 (base_of x o)) (lower_of o) ≡ sp + o → Comes F Anything 1 n (Go r2 mid b i h) Q) → Comes F Anything 1 (far_cost o + n) (Go r here b i h) Q
   far_runs n x o sp here mid r b pos ne e2 small st next =
@@ -115,6 +115,24 @@ module _ (F : Fixed) (env : ℕ → ℕ) (seg : ℕ) (i : List ℕ) (h : List Ev
       on_store F Anything Q n r1 parts.0 b i h tt q (base_of 7 o) (lower_of o) (sp + o) w parts.2.1.0 sum aligned writable held
       (onward {a0 = a0} n (parts.0 + 4) mid r1 (with_word b (sp + o) w) there (next r1 only))))
 
+  -- a constant of more than 12 bits into a register
+  pub loads_constant : {a0 : ℕ} → (n rd v here mid : ℕ) (r b : ℕ → ℕ) → 0 < rd → Stands F.text env seg (load_constant rd v ∷ []) here mid
+      → Comes F Anything a0 n (Go (with_reg r rd v) mid b i h) Q → Comes F Anything 1 (constant_cost v + n) (Go r here b i h) Q
+  loads_constant {a0} n rd v here mid r b pos st c =
+      bool_cases (eqb (v % 0x1000) 0)
+      (λ t.
+      let one : Stands F.text env seg (item.Plain (instr.Lui rd v) ∷ []) here mid = rw t at st in
+      let there : here + 4 ≡ mid = sym one.1.1 ∙ one.2 in
+      let count : constant_cost v ≡ 1 = rw t refl in
+      comes_by F Anything (suc n) (constant_cost v + n) (Go r here b i h) Q (omega (arith, count))
+      (on_lui F Anything Q n r here b i h tt rd v one.1.0 (onward {a0 = a0} n (here + 4) mid (with_reg r rd v) b there c)))
+      (λ t.
+      let two : Stands F.text env seg (item.Constant rd v ∷ []) here mid = rw t at st in
+      let some : eqb rd 0 ≡ false = grind (arith, nat_tests) in
+      let count : constant_cost v ≡ 2 = rw t refl in
+      comes_by F Anything (suc (suc n)) (constant_cost v + n) (Go r here b i h) Q (omega (arith, count))
+      (on_loads F Anything Q n r here b i h tt rd v two.0 some two.1 tt (onward {a0 = a0} n two.0 mid (with_reg r rd v) b two.2 c)))
+
   -- a constant into a register
   pub sets : {a0 : ℕ} → (n rd v here mid : ℕ) (r b : ℕ → ℕ) → 0 < rd → v < 2 ^ 32 → Stands F.text env seg (set_to rd v ∷ []) here mid
       → ((r2 : ℕ → ℕ) → Only rd r r2 → r2 rd ≡ v → Comes F Anything a0 n (Go r2 mid b i h) Q) → Comes F Anything 1 (set_cost v + n) (Go r here b i h) Q
@@ -126,18 +144,17 @@ module _ (F : Fixed) (env : ℕ → ℕ) (seg : ℕ) (i : List ℕ) (h : List Ev
       let one : Stands F.text env seg (add_to rd 0 v ∷ []) here mid = rw t at st in
       let there : here + 4 ≡ mid = sym one.1.1 ∙ one.2 in
       let is : (0 + v) % 2 ^ 32 ≡ v = omega (arith, small) in
-      comes_by F Anything (suc n) (set_cost v + n) (Go r here b i h) Q (omega arith)
+      let count : set_cost v ≡ 1 = rw t refl in
+      comes_by F Anything (suc n) (set_cost v + n) (Go r here b i h) Q (omega (arith, count))
       (on_immediate F Anything Q n r here b i h tt immediate_op.Add rd 0 v v one.1.0 is (onward {a0 = a0} n (here + 4) mid r2 b there c)))
       (λ t.
-      let two : Stands F.text env seg (item.Constant rd v ∷ []) here mid = rw t at st in
-      let some : eqb rd 0 ≡ false = grind (arith, nat_tests) in
-      let count : set_cost v ≡ 2 = rw t refl in
-      comes_by F Anything (suc (suc n)) (set_cost v + n) (Go r here b i h) Q (omega (arith, count))
-      (on_loads F Anything Q n r here b i h tt rd v two.0 some two.1 tt (onward {a0 = a0} n two.0 mid r2 b two.2 c)))
+      let long : Stands F.text env seg (load_constant rd v ∷ []) here mid = rw t at st in
+      let count : set_cost v ≡ constant_cost v = rw t refl in
+      subst (λ k. Comes F Anything 1 (k + n) (Go r here b i h) Q) (sym count) (loads_constant {a0 = a0} n rd v here mid r b pos long c))
 
   -- the address of a place of the frame
   pub addresses : {a0 : ℕ} → (n rd o sp here mid : ℕ) (r b : ℕ → ℕ) → 0 < rd → rd ≢ 2 → r 2 ≡ sp → sp + o < 2 ^ 31 → Stands F.text env seg (address_of rd o) here mid
-      → ((r2 : ℕ → ℕ) → Only rd r r2 → r2 rd ≡ sp + o → Comes F Anything a0 n (Go r2 mid b i h) Q) → Comes F Anything 1 (word_cost o + n) (Go r here b i h) Q
+      → ((r2 : ℕ → ℕ) → Only rd r r2 → r2 rd ≡ sp + o → Comes F Anything a0 n (Go r2 mid b i h) Q) → Comes F Anything 1 (address_cost o + n) (Go r here b i h) Q
   addresses {a0} n rd o sp here mid r b pos ne e2 small st next =
       bool_cases (nat_lt o 0x800)
       (λ t.
@@ -145,12 +162,13 @@ module _ (F : Fixed) (env : ℕ → ℕ) (seg : ℕ) (i : List ℕ) (h : List Ev
       let r2 = with_reg r rd (sp + o) in
       let there : here + 4 ≡ mid = sym one.1.1 ∙ one.2 in
       let is : (r 2 + o) % 2 ^ 32 ≡ sp + o = omega (arith, e2, small) in
-      comes_by F Anything (suc n) (word_cost o + n) (Go r here b i h) Q (omega arith)
+      let count : address_cost o ≡ 1 = rw t refl in
+      comes_by F Anything (suc n) (address_cost o + n) (Go r here b i h) Q (omega (arith, count))
       (on_immediate F Anything Q n r here b i h tt immediate_op.Add rd 2 o (sp + o) one.1.0 is
       (onward {a0 = a0} n (here + 4) mid r2 b there (next r2 (only_one rd (sp + o) r) (with_same r rd (sp + o) pos)))))
       (λ t.
-      let two : Stands F.text env seg (item.Constant rd o ∷ operate_on register_op.Add rd rd 2 ∷ []) here mid = rw t at st in
-      let some : eqb rd 0 ≡ false = grind (arith, nat_tests) in
+      let long : Stands F.text env seg (load_constant rd o ∷ operate_on register_op.Add rd rd 2 ∷ []) here mid = rw t at st in
+      let two = stands_parts F.text env seg (load_constant rd o ∷ []) (operate_on register_op.Add rd rd 2 ∷ []) here mid long in
       let r1 = with_reg r rd o in
       let r2 = with_reg r1 rd (sp + o) in
       let left : reg r1 rd ≡ o = reg_is r1 rd pos ∙ with_same r rd o pos in
@@ -160,15 +178,15 @@ module _ (F : Fixed) (env : ℕ → ℕ) (seg : ℕ) (i : List ℕ) (h : List Ev
       let there : two.0 + 4 ≡ mid = sym two.2.1.1 ∙ two.2.2 in
       let only : Only rd r r2 = only_then rd r r1 r2 (only_one rd o r) (only_one rd (sp + o) r1) in
       let c : Comes F Anything a0 n (Go r2 (two.0 + 4) b i h) Q = onward {a0 = a0} n (two.0 + 4) mid r2 b there (next r2 only (with_same r1 rd (sp + o) pos)) in
-      let count : word_cost o ≡ 3 = rw t refl in
-      comes_by F Anything (suc (suc (suc n))) (word_cost o + n) (Go r here b i h) Q (omega (arith, count))
-      (on_loads F Anything Q (suc n) r here b i h tt rd o two.0 some two.1 tt
+      let count : address_cost o ≡ constant_cost o + 1 = rw t refl in
+      comes_by F Anything (constant_cost o + suc n) (address_cost o + n) (Go r here b i h) Q (omega (arith, count))
+      (loads_constant {a0 = 1} (suc n) rd o here two.0 r b pos two.1
       (on_op F Anything Q n r1 two.0 b i h tt register_op.Add rd rd 2 two.2.1.0
       (subst (λ z. Comes F Anything a0 n (Go (with_reg r1 rd z) (two.0 + 4) b i h) Q) (sym is) c))))
 
 -- ---- sources
 
--- what an operand is read from has its value, where no register is free that it is in
+-- the source of an operand has its value, where the register that it is in is not a free one
 abbrev pub SourceHolds : (r b : ℕ → ℕ) → ℕ → Source → ℕ → Type 0
 SourceHolds r b sp (source.Register q) w = (reg r q ≡ w) × (q ≢ 5) × (q ≢ 6) × (q ≢ 7)
 SourceHolds r b sp (source.Frame o) w = Lies sp o × (word_at b (sp + o) ≡ w)

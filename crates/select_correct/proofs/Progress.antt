@@ -54,7 +54,7 @@ module _ (p : Program) where
   ahead_within : (s : State) → ahead s ≤ places_of p.functions
   ahead_within s = omega (arith, code_some (slice_get p.functions s.frame.function) s.frame.function refl)
 
-  -- what only goes on to the next instruction leaves one less, and all others come to an instruction at least
+  -- an instruction that only goes on to the next one leaves one less, and all others take at least one instruction
   abbrev LeavesLess : State → State → ℕ → Type 0
   LeavesLess s t n = 1 + ahead t ≤ slack p * n + ahead s
 

@@ -30,7 +30,7 @@ item_behind (x ∷ xs) ys k =
     let e : length (x ∷ xs) + k ≡ suc (length xs + k) = omega arith in
     ap (item_at (x ∷ (xs ++ ys))) e ∙ item_behind xs ys k
 
--- later items stand no lower
+-- later items have no lower addresses
 place_rises : (L : ℕ → Bool) (base : ℕ) (xs : List Item) (j k : ℕ) → j ≤ k → place L base xs j ≤ place L base xs k
 place_rises L base xs j zero le =
     let e : j ≡ 0 = omega arith in
@@ -187,7 +187,7 @@ at_least : (t : Bool) (xs ys : List Item) (a : ℕ) → a ≤ longest xs → a �
 at_least true xs ys a p q = p
 at_least false xs ys a p q = q
 
--- what comes before a function's instructions has 4 bytes at least
+-- the items before a function's instructions have at least 4 bytes
 entry_takes : (f : Function) → 4 ≤ longest (entry f)
 entry_takes f =
     let by = 2 ^ 32 - frame_bytes f in

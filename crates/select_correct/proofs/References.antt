@@ -19,7 +19,7 @@ use Rattle.select_exec.proofs.Placing.{stands_parts}
 use Rattle.select.specs.declared.places.Home.{Home}
 use Rattle.select.specs.Selected.{source_of, home_of, made_in, keep, address_of}
 use Rattle.select_correct.specs.Matches.{Ground, Matched, Matches, Ready, address, shown}
-use Rattle.select_correct.specs.Costs.{word_cost, keep_cost, move_cost, row}
+use Rattle.select_correct.specs.Costs.{address_cost, keep_cost, move_cost, row}
 use Rattle.select_correct.specs.Laws.{Anything, Follows}
 use Rattle.select_correct.proofs.Registers.{off_none, off_last, only_one}
 use Rattle.select_correct.proofs.Places.{addresses}
@@ -50,7 +50,7 @@ module _ (G : Ground) (s : State) (r b : ℕ → ℕ) (ready : Ready G) (m : Mat
   none_left : (k : ℕ) (v : Value) → unset k ≡ Some v → s.arguments k ≡ Some v
   none_left k v e = cc
 
-  -- where the frame lies that is named
+  -- the address of the named frame
   pub frame_shown : (o : ℕ) → o < frame_bytes (fn G s r b ready m) → shown G (reference (name_of G.program s.frame s.waiting) o) ≡ m.sp + o
   frame_shown o lt =
       let sum = sum_is G ready s r start b m in
@@ -63,7 +63,7 @@ module _ (G : Ground) (s : State) (r b : ℕ → ℕ) (ready : Ready G) (m : Mat
   -- the address of a place of the frame's arrays
   frame_at : (d : Target) (o : ℕ) → TargetFits (fn G s r b ready m) d → o < (fn G s r b ready m).area → (hm : Home) → home_of (fn G s r b ready m) d ≡ hm
       → Stands G.machine.text G.env G.data_at (address_of (made_in hm) (area_home (fn G s r b ready m) + o) ++ keep hm) start end
-      → Comes G.machine Anything 1 (word_cost (area_home (fn G s r b ready m) + o) + keep_cost hm) (Go r start b s.input s.trace) (Matches G (gives d s (reference (name_of G.program s.frame s.waiting) (area_home (fn G s r b ready m) + o))))
+      → Comes G.machine Anything 1 (address_cost (area_home (fn G s r b ready m) + o) + keep_cost hm) (Go r start b s.input s.trace) (Matches G (gives d s (reference (name_of G.program s.frame s.waiting) (area_home (fn G s r b ready m) + o))))
   frame_at d o fit lt hm eh st =
       let f = fn G s r b ready m in
       let p = area_home f + o in

@@ -26,7 +26,7 @@ kept_once j c e =
     (λ p. ⊎_elim (λ q. omega (arith, p.0, p.1, q.0, q.1, e)) (λ q. omega (arith, p.1, q.1, e)) (kept_is c))
     (kept_is j)
 
--- ---- what agrees
+-- ---- agreement
 
 -- but for x
 pub record Only (x : ℕ) (r r2 : ℕ → ℕ) : Type 0 where

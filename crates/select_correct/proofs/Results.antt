@@ -1,4 +1,4 @@
--- What operations and conversions come to, on words.
+-- The results of operations and conversions, on words.
 use Rattle.std.proofs.Common.{◌≡◌, ℕ, suc, ◌+◌, ◌*◌, ◌/◌, ◌%◌, ◌^◌, ◌<◌, ◌≤◌, List, [], ◌∷◌, Bool, true, false, sym, ap, ◌∙◌, subst, arith, eqb}
 use Rattle.std.specs.Prelude.{nat_lt, not, bit_and}
 use Rattle.std.proofs.lemmas.Bool.{ltb-true, ltb-false}

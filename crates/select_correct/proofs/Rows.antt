@@ -1,6 +1,7 @@
 -- Rows: the table's entries are attained, and a program whose items are laid ends as the laws say.
 use Rattle.std.proofs.Common.{◌≡◌, ℕ, zero, suc, ◌+◌, ◌*◌, ◌-◌, ◌/◌, ◌≤◌, List, [], ◌∷◌, Some, true, refl, sym, subst, arith}
 use Rattle.std.specs.Prelude.{slice_get, slice_index_or}
+use Rattle.std.specs.Int.Count.{count_trailing_zeros}
 use Rattle.rv32.specs.declared.instr.Instr.{Instr}
 use Rattle.rv32.specs.declared.instr.Instr.TheVariants as instr
 use Rattle.rv32.specs.declared.instr.ImmediateOp.TheVariants as immediate_op
@@ -65,13 +66,14 @@ stores_seven = refl
 addresses_six : bytes_of (instruction.Address far_target (location.Frame 3)) ≡ 4 * cost (instruction.Address far_target (location.Frame 3))
 addresses_six = refl
 
-elements_thirteen : bytes_of (instruction.Element far_target far_operand far_operand 12) ≡ 4 * cost (instruction.Element far_target far_operand far_operand 12)
+elements_thirteen : bytes_of (instruction.Element far_target far_operand far_operand 5000) ≡ 4 * cost (instruction.Element far_target far_operand far_operand 5000)
+unfolding count_trailing_zeros
 elements_thirteen = refl
 
 branches_eight : bytes_of (instruction.Branch test.Less far_operand far_operand 0) ≡ 4 * cost (instruction.Branch test.Less far_operand far_operand 0)
 branches_eight = refl
 
--- behind the call the three that end the program are passed over
+-- after the call the three that end the program are skipped
 puts_ten : bytes_of instruction.PutByte ≡ 4 * (cost instruction.PutByte + 3)
 puts_ten = refl
 

@@ -52,7 +52,7 @@ step_follows G s r b ready m under bytes room =
     subst (λ x. Comes G.machine Anything (least_if s.frame.at (next_of G.program s)) (most_next G.program s) here (Matches G x)) (sym e)
     (any (next_of G.program s) G s r b ready m under bytes refl (subst (HasRoom G) e room))
 
--- ---- what is left of the input is bytes
+-- ---- the remaining input is bytes
 
 abbrev pub BytesLeft : List ℕ → List Event → Type 0
 BytesLeft input trace = AreBytes input
@@ -65,7 +65,7 @@ bytes_last input trace q = record {
   at_byte = λ c rest e. λ k x ek. subst AreBytes e q (suc k) x ek;
 }
 
--- ---- so many steps
+-- ---- several steps
 
 room_one : (G : Ground) (x : Progress) → HasRoom G (goes_on x (run G.program 0)) → HasRoom G x
 room_one G (running s) room = room

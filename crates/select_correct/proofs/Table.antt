@@ -1,4 +1,4 @@
--- What the table of costs comes to: never more than the table of `frames`, and few where nothing is far.
+-- The sums of the table of costs: never more than the table of `frames`, and few where nothing is far.
 use Rattle.std.proofs.Common.{◌≡◌, ℕ, zero, suc, ◌+◌, ◌*◌, ◌-◌, ◌%◌, ◌^◌, ◌≤◌, Option, Some, None, Bool, true, false, arith}
 use Rattle.std.specs.Prelude.{if◌then◌else◌, ◌==◌, nat_lt}
 use Rattle.rv32.specs.declared.instr.Instr.{Instr}
@@ -18,29 +18,48 @@ use Rattle.select.specs.declared.places.Source.{Source}
 use Rattle.select.specs.declared.places.Source.TheVariants as source
 use Rattle.select.specs.declared.places.Home.{Home}
 use Rattle.select.specs.declared.places.Home.TheVariants as home
-use Rattle.select.specs.Selected.{source_of, home_of, register_of, made_in, machine_of, constant_form, byte_home, return_home, calls, is_same}
-use Rattle.select_correct.specs.Costs.{far_cost, word_cost, set_cost, fetch_cost, keep_cost, into_cost, move_cost, form_cost, second_cost, ending_cost, compute_cost, narrow_cost, reach_cost, reference_cost, scale_cost, far_frame, saved_cost, opening_cost, step_cost, most_at, most_if, most_next, most_spent, SpentIsMore, far_source, far_home, far_location, far_saved, RowsAreFew}
+use Rattle.select.specs.Selected.{source_of, home_of, register_of, made_in, machine_of, constant_form, log2_of, byte_home, return_home, calls, is_same}
+use Rattle.select_correct.specs.Costs.{far_cost, word_cost, constant_cost, address_cost, set_cost, fetch_cost, keep_cost, into_cost, move_cost, form_cost, second_cost, ending_cost, compute_cost, narrow_cost, reach_cost, reference_cost, product_cost, scale_cost, frame_cost, far_frame, saved_cost, opening_cost, step_cost, most_at, most_if, most_next, most_spent, SpentIsMore, far_source, far_home, far_location, far_saved, RowsAreFew}
 use Rattle.select_correct.proofs.Fits.{function_fits}
 
 choice_most : (t : Bool) (n : ℕ) → (if t then 0 else n) ≤ n
 choice_most true n = omega arith
 choice_most false n = omega arith
 
+one_or_more : (t : Bool) (n : ℕ) → n ≤ 2 → (if t then 1 else n) ≤ 2
+one_or_more true n le = omega arith
+one_or_more false n le = le
+
+constant_most : (v : ℕ) → constant_cost v ≤ 2
+constant_most v = one_or_more (v % 0x1000 == 0) 2 (omega arith)
+
 set_most : (v : ℕ) → set_cost v ≤ 2
-set_most v = omega (arith, choice_most (nat_lt ((v + 0x800) % 2 ^ 32) 0x1000) 1)
+set_most v = one_or_more (nat_lt ((v + 0x800) % 2 ^ 32) 0x1000) (constant_cost v) (constant_most v)
+
+two_more : (t : Bool) (n : ℕ) → n ≤ 2 → (if t then 1 else n + 1) ≤ 1 + (if t then 0 else 2)
+two_more true n le = omega arith
+two_more false n le = omega (arith, le)
+
+address_near : (o : ℕ) → address_cost o ≤ 1 + far_cost o
+address_near o = two_more (nat_lt o 0x800) (constant_cost o) (constant_most o)
+
+frame_near : (by : ℕ) → frame_cost by ≤ 1 + far_frame by
+frame_near by = two_more (nat_lt ((by + 0x800) % 2 ^ 32) 0x1000) (constant_cost by) (constant_most by)
 
 return_near : (t : Bool) (o : ℕ) → (if t then word_cost o else 0) ≤ 1 + far_cost o
 return_near true o = omega arith
 return_near false o = omega arith
 
-scaled_most : (t u v : Bool) → (if t then 0 else if u then 1 else if v then 1 else 3) ≤ 3
-scaled_most true u v = omega arith
-scaled_most false true v = omega arith
-scaled_most false false true = omega arith
-scaled_most false false false = omega arith
+product_most : (o : Option ℕ) (size : ℕ) → product_cost o size ≤ 3
+product_most (Some k) size = omega arith
+product_most None size = omega (arith, set_most size)
+
+scaled_most : (t : Bool) (n : ℕ) → n ≤ 3 → (if t then 0 else n) ≤ 3
+scaled_most true n le = omega arith
+scaled_most false n le = le
 
 scale_most : (size : ℕ) → scale_cost size ≤ 3
-scale_most size = scaled_most (size == 1) (size == 2) (size == 4)
+scale_most size = scaled_most (size == 1) (product_cost (log2_of size) size) (product_most (log2_of size) size)
 
 form_most : (t : Option Instr) (n : ℕ) → form_cost t n ≤ n
 form_most (Some i) n = omega arith
@@ -93,7 +112,7 @@ reach_near f (location.At x) = fetch_near (source_of f x)
 
 reference_near : (f : Function) (d : Home) (l : Location) → reference_cost f d l ≤ 3 + (far_location f l + far_home d)
 reference_near f d (location.Statics o) = omega (arith, keep_near d)
-reference_near f d (location.Frame o) = omega (arith, keep_near d)
+reference_near f d (location.Frame o) = omega (arith, keep_near d, address_near (area_home f + o))
 reference_near f d (location.At x) = move_near d (source_of f x)
 
 saved_near : (f : Function) (n : ℕ) → saved_cost f n ≡ n + far_saved f n
@@ -111,19 +130,22 @@ rows_are_few p f (instruction.Address d l) = omega (arith, reference_near f (hom
 rows_are_few p f (instruction.Element d x y size) = omega (arith, fetch_near (source_of f x), fetch_near (source_of f y), scale_most size, keep_near (home_of f d))
 rows_are_few p f (instruction.Jump to) = omega arith
 rows_are_few p f (instruction.Branch t x y to) = omega (arith, fetch_near (source_of f x), fetch_near (source_of f y))
-rows_are_few p f (instruction.Call g) = omega (arith, return_near (calls (function_at p g).code) (return_home (function_at p g)), saved_near (function_at p g) (function_at p g).resident)
-rows_are_few p f instruction.PutByte = omega arith
-rows_are_few p f instruction.GetByte = omega arith
+rows_are_few p f (instruction.Call g) = omega (arith, return_near (calls (function_at p g).code) (return_home (function_at p g)), saved_near (function_at p g) (function_at p g).resident, frame_near (2 ^ 32 - frame_bytes (function_at p g)))
+rows_are_few p f instruction.PutByte = omega (arith, address_near (byte_home f))
+rows_are_few p f instruction.GetByte = omega (arith, address_near (byte_home f))
 rows_are_few p f instruction.Exit = omega arith
-rows_are_few p f instruction.Return = omega (arith, return_near (calls f.code) (return_home f), saved_near f f.resident)
+rows_are_few p f instruction.Return = omega (arith, return_near (calls f.code) (return_home f), saved_near f f.resident, frame_near (frame_bytes f))
 
 -- ---- where all is far
 
 far_most : (o : ℕ) → far_cost o ≤ 2
 far_most o = choice_most (nat_lt o 0x800) 2
 
-frame_most : (by : ℕ) → far_frame by ≤ 2
-frame_most by = choice_most (nat_lt ((by + 0x800) % 2 ^ 32) 0x1000) 2
+address_most : (o : ℕ) → address_cost o ≤ 3
+address_most o = omega (arith, address_near o, far_most o)
+
+frame_most : (by : ℕ) → frame_cost by ≤ 3
+frame_most by = omega (arith, frame_near by, choice_most (nat_lt ((by + 0x800) % 2 ^ 32) 0x1000) 2)
 
 fetch_most : (x : Source) → fetch_cost x ≤ 3
 fetch_most (source.Register r) = omega arith
@@ -158,7 +180,7 @@ reach_most f (location.At x) = fetch_most (source_of f x)
 
 reference_most : (f : Function) (d : Home) (l : Location) → reference_cost f d l ≤ 6
 reference_most f d (location.Statics o) = omega (arith, keep_most d)
-reference_most f d (location.Frame o) = omega (arith, keep_most d, far_most (area_home f + o))
+reference_most f d (location.Frame o) = omega (arith, keep_most d, address_most (area_home f + o))
 reference_most f d (location.At x) = move_most d (source_of f x)
 
 saved_most : (f : Function) (n : ℕ) → saved_cost f n ≤ 3 * n
@@ -184,8 +206,8 @@ module _ (p : Program) (sound : IsSoundProgram p) where
   step_is_more f le (instruction.Jump to) = omega arith
   step_is_more f le (instruction.Branch t x y to) = omega (arith, fetch_most (source_of f x), fetch_most (source_of f y))
   step_is_more f le (instruction.Call g) = omega (arith, opening_most (function_at p g) (few g))
-  step_is_more f le instruction.PutByte = omega (arith, far_most (byte_home f))
-  step_is_more f le instruction.GetByte = omega (arith, far_most (byte_home f))
+  step_is_more f le instruction.PutByte = omega (arith, address_most (byte_home f))
+  step_is_more f le instruction.GetByte = omega (arith, address_most (byte_home f))
   step_is_more f le instruction.Exit = omega arith
   step_is_more f le instruction.Return = omega (arith, le, return_near (calls f.code) (return_home f), saved_most f f.resident, far_most (return_home f), frame_most (frame_bytes f))
 

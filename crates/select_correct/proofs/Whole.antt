@@ -95,7 +95,7 @@ begins p F env floor data_at base e r b input q room =
     (on_call F Anything Q opened r1 st.0 b input [] tt (env p.main) ra (ready.entry_aligned p.main ready.sound.has_main) call tt
     (entries G p.main unset unset (slice_get p.statics) input [] r2 (env p.main) b ready ready.sound.has_main entered room)))
 
--- behind main's call, or where the program has exited
+-- after main's call, or where the program has exited
 exits : (G : Ground) (status : ℕ) (left : List ℕ) (trace : List Event) (e : ℕ) → Stands G.machine.text G.env G.data_at exit G.ra e → (m : Light) → Matches G (ended status left trace) m → Comes G.machine Anything 0 2 m (λ x. x ≡ Done status trace)
 exits G status left trace e st (Go r at b i h) q =
     let P : Light → Type 0 = λ x. x ≡ Done status trace in

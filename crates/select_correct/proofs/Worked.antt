@@ -1,5 +1,6 @@
 -- Rows: the table of costs on worked examples. Items but a branch in its long form have no way round, so a run takes a quarter of their bytes.
 use Rattle.std.proofs.Common.{◌≡◌, ℕ, ◌+◌, ◌*◌, [], ◌∷◌, refl}
+use Rattle.std.specs.Int.Count.{count_trailing_zeros}
 use Rattle.rv32.specs.declared.instr.RegisterOp.TheVariants as register_op
 use Rattle.rv32.specs.declared.instr.Test.TheVariants as test
 use Rattle.asm.specs.Layout.{longest}
@@ -33,15 +34,32 @@ program = record { functions = plain ∷ near ∷ wide ∷ []; statics = []; mai
 abbrev items : Function → Instruction → ℕ
 items f x = longest (items_of f 0 x)
 
--- ---- what is near
+-- ---- near places
 
-element_by_a_shift : row near (instruction.Element (target.Temporary 0) (operand.Temporary 1) (operand.Cell 2) 4) ≡ 2
+element_by_a_shift : row near (instruction.Element (target.Temporary 0) (operand.Temporary 1) (operand.Cell 2) 256) ≡ 2
+unfolding count_trailing_zeros
 element_by_a_shift = refl
 
-element_by_a_product : row near (instruction.Element (target.Cell 4) (operand.Cell 3) (operand.Cell 4) 12) ≡ 7
+-- 2^31 bytes, the largest size by a shift
+element_by_the_longest_shift : row near (instruction.Element (target.Temporary 0) (operand.Temporary 1) (operand.Cell 2) 0x80000000) ≡ 2
+unfolding count_trailing_zeros
+element_by_the_longest_shift = refl
+
+-- by sizes of 12 bits, of more with zeros below, and of more
+element_by_a_product : row near (instruction.Element (target.Cell 4) (operand.Cell 3) (operand.Cell 4) 12) ≡ 6
+unfolding count_trailing_zeros
 element_by_a_product = refl
 
-element_attained : items near (instruction.Element (target.Cell 4) (operand.Cell 3) (operand.Cell 4) 12) ≡ 4 * 7
+element_of_pages : row near (instruction.Element (target.Cell 4) (operand.Cell 3) (operand.Cell 4) 0x3000) ≡ 6
+unfolding count_trailing_zeros
+element_of_pages = refl
+
+element_by_a_long_product : row near (instruction.Element (target.Cell 4) (operand.Cell 3) (operand.Cell 4) 5000) ≡ 7
+unfolding count_trailing_zeros
+element_by_a_long_product = refl
+
+element_attained : items near (instruction.Element (target.Cell 4) (operand.Cell 3) (operand.Cell 4) 12) ≡ 4 * 6
+unfolding count_trailing_zeros
 element_attained = refl
 
 sum_of_registers : row near (instruction.Compute (operation.Machine register_op.Add) (target.Cell 0) (operand.Cell 1) (operand.Temporary 7)) ≡ 1
@@ -52,6 +70,15 @@ sum_with_a_constant = refl
 
 product_with_a_constant : row near (instruction.Compute (operation.Machine register_op.Mul) (target.Cell 0) (operand.Cell 1) (operand.Constant 4000)) ≡ 3
 product_with_a_constant = refl
+
+product_with_pages : row near (instruction.Compute (operation.Machine register_op.Mul) (target.Cell 0) (operand.Cell 1) (operand.Constant 0x3000)) ≡ 2
+product_with_pages = refl
+
+constant_with_zeros_below : row near (instruction.Move (target.Temporary 0) (operand.Constant 0x12345000)) ≡ 1
+constant_with_zeros_below = refl
+
+constant_of_words : row near (instruction.Move (target.Temporary 0) (operand.Constant 0x12345001)) ≡ 2
+constant_of_words = refl
 
 equality_of_words : row near (instruction.Compute operation.Equal (target.Cell 4) (operand.Cell 3) (operand.Cell 4)) ≡ 5
 equality_of_words = refl
@@ -107,6 +134,28 @@ leaf_returns = refl
 leaf_return_attained : items leaf instruction.Return ≡ 4 * 3
 leaf_return_attained = refl
 
+-- one less where a frame of more than 12 bits is of whole pages, and where the place of an array is
+abbrev paged : Function
+paged = record { code = instruction.Return ∷ []; cells = 0; resident = 0; area = 8176; outgoing = 0 }
+
+paged_opens : opening_cost paged ≡ 2
+paged_opens = refl
+
+paged_entry_attained : longest (entry paged) ≡ 4 * 2
+paged_entry_attained = refl
+
+paged_returns : row paged instruction.Return ≡ 3
+paged_returns = refl
+
+address_of_a_page : row paged (instruction.Address (target.Temporary 0) (location.Frame 4092)) ≡ 2
+address_of_a_page = refl
+
+address_attained : items paged (instruction.Address (target.Temporary 0) (location.Frame 4092)) ≡ 4 * 2
+address_attained = refl
+
+address_past_a_page : row paged (instruction.Address (target.Temporary 0) (location.Frame 4096)) ≡ 3
+address_past_a_page = refl
+
 -- ---- two more for each operand that is far
 
 far_target : row wide (instruction.Move (target.Temporary 600) (operand.Temporary 0)) ≡ row wide (instruction.Move (target.Temporary 8) (operand.Temporary 0)) + 2
@@ -122,7 +171,7 @@ far_entry = refl
 far_return : row wide instruction.Return ≡ 3 + 2 + 4 * 2
 far_return = refl
 
--- ---- what only goes on to the next instruction
+-- ---- instructions that only go on to the next one
 
 jump_to_the_next : most_at program near 4 (instruction.Jump 5) ≡ 0
 jump_to_the_next = refl

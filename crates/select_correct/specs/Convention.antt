@@ -1,5 +1,5 @@
--- The calling convention of the machine's code (RISC-V ELF psABI, "Integer Calling Convention" and "Integer Register Convention"): what the machine
--- shows where it enters a function, while the function runs, and where it has returned.
+-- The calling convention of the machine's code (RISC-V ELF psABI, "Integer Calling Convention" and "Integer Register Convention"): the state of the machine at
+-- the entry of a function, while the function runs, and where it has returned.
 use Rattle.std.specs.Prelude.{◌≡◌, ◌≤◌, ◌<◌, ℕ, zero, suc, ◌+◌, ◌-◌, ◌*◌, ◌%◌, ◌^◌, true, false, List, [], ◌∷◌, Some}
 use Rattle.memory_map.specs.MemoryMap.{stack_end}
 use Rattle.rv32.specs.Space.{word_at}
@@ -17,7 +17,7 @@ use Rattle.select_correct.specs.Matches.{Ground, HasRoom, first_of}
 use Rattle.select_correct.specs.Laws.{AreBytes}
 use Rattle.select_correct.specs.Runs.{Laid, StandsWith, ground_at}
 
--- how a value is passed: a word as it is, an array as the address of what its reference names, in the data or in a frame on the stack
+-- how a value is passed: a word as it is, an array as the address of the bytes that its reference names, in the data or in a frame on the stack
 abbrev pub passed : (data_at : ℕ) → Value → ℕ
 passed data_at (word w) = w
 passed data_at (reference zero o) = (data_at + o) % 2 ^ 32
@@ -46,7 +46,7 @@ pub record IsInCallee (p : Program) (c : State) (m : ℕ) (t : State) : Type 0 w
   pub inside : (k : ℕ) → k ≤ m → IsInside p c (run p k c)
   pub own : active t ≡ active c
 
--- entered at v, the function has so many bytes of the stack at u: its stack pointer is so far below, and a multiple of 16
+-- entered at v, the function has this number of bytes of the stack at u: its stack pointer is lower by that number, and a multiple of 16
 pub record HasFrame (bytes : ℕ) (v u : World) : Type 0 where
   pub sp : register u.machine 2 + bytes ≡ register v.machine 2
   pub aligned : register u.machine 2 % 16 ≡ 0
@@ -78,7 +78,7 @@ pub record ComesToCall (p : Program) (input : List ℕ) (n f : ℕ) (s : State) 
   pub runs : run p n (start p input) ≡ running s
   pub next : next_of p s ≡ Some (instruction.Call f)
 
--- a call returns to the item behind it
+-- a call returns to the item after it
 abbrev pub behind_call : Program → (env : ℕ → ℕ) → State → ℕ
 behind_call p env s = env (first_of p s.frame.function + (s.frame.at + 1))
 

@@ -1,4 +1,4 @@
--- How many instructions of the machine a run of flat code comes to, at least and at most.
+-- The number of machine instructions that a run of flat code takes, at least and at most.
 use Rattle.std.specs.Prelude.{◌≡◌, ℕ, zero, suc, ◌+◌, ◌-◌, ◌*◌, ◌%◌, ◌^◌, ◌==◌, ◌≤◌, nat_lt, if◌then◌else◌, Option, Some, None}
 use Rattle.rv32.specs.declared.instr.Instr.{Instr}
 use Rattle.asm.specs.Layout.{longest}
@@ -18,7 +18,7 @@ use Rattle.select.specs.declared.places.Source.{Source}
 use Rattle.select.specs.declared.places.Source.TheVariants as source
 use Rattle.select.specs.declared.places.Home.{Home}
 use Rattle.select.specs.declared.places.Home.TheVariants as home
-use Rattle.select.specs.Selected.{source_of, home_of, register_of, made_in, machine_of, constant_form, byte_home, return_home, calls, entry, items_of, shortened}
+use Rattle.select.specs.Selected.{source_of, home_of, register_of, made_in, machine_of, constant_form, log2_of, byte_home, return_home, calls, entry, items_of, shortened}
 
 -- ---- at least
 
@@ -48,7 +48,7 @@ abbrev pub least_if : ℕ → Option Instruction → ℕ
 least_if k None = 0
 least_if k (Some x) = least_at k x
 
--- what n steps come to at least
+-- the least cost of n steps
 abbrev pub least_spent : Program → ℕ → State → ℕ
 least_spent p zero s = 0
 least_spent p (suc n) s = least_if s.frame.at (next_of p s) + cost_on (step p s) (least_spent p n)
@@ -59,13 +59,21 @@ least_spent p (suc n) s = least_if s.frame.at (next_of p s) + cost_on (step p s)
 abbrev pub far_cost : ℕ → ℕ
 far_cost o = if nat_lt o 0x800 then 0 else 2
 
--- a load or a store of a word of the frame, or the address of a place of it
+-- a load or a store of a word of the frame
 abbrev pub word_cost : ℕ → ℕ
 word_cost o = 1 + far_cost o
 
+-- a constant of more than 12 bits, with zeros below or not
+abbrev pub constant_cost : ℕ → ℕ
+constant_cost v = if v % 0x1000 == 0 then 1 else 2
+
+-- the address of a place of the frame
+abbrev pub address_cost : ℕ → ℕ
+address_cost o = if nat_lt o 0x800 then 1 else constant_cost o + 1
+
 -- a constant, of 12 bits with a sign or of more
 abbrev pub set_cost : ℕ → ℕ
-set_cost v = 1 + (if nat_lt ((v + 0x800) % 2 ^ 32) 0x1000 then 0 else 1)
+set_cost v = if nat_lt ((v + 0x800) % 2 ^ 32) 0x1000 then 1 else constant_cost v
 
 abbrev pub fetch_cost : Source → ℕ
 fetch_cost (source.Register r) = 0
@@ -117,19 +125,21 @@ reach_cost f (location.At x) = fetch_cost (source_of f x)
 
 abbrev pub reference_cost : Function → Home → Location → ℕ
 reference_cost f d (location.Statics o) = 2 + keep_cost d
-reference_cost f d (location.Frame o) = word_cost (area_home f + o) + keep_cost d
+reference_cost f d (location.Frame o) = address_cost (area_home f + o) + keep_cost d
 reference_cost f d (location.At x) = move_cost d (source_of f x)
 
--- nothing, a shift, or a product with a constant
+-- a shift, or a product with a constant
+abbrev pub product_cost : Option ℕ → ℕ → ℕ
+product_cost (Some k) size = 1
+product_cost None size = set_cost size + 1
+
+-- nothing for a size of 1
 abbrev pub scale_cost : ℕ → ℕ
-scale_cost size = if size == 1 then 0 else if size == 2 then 1 else if size == 4 then 1 else 3
+scale_cost size = if size == 1 then 0 else product_cost (log2_of size) size
 
--- two more where sp changes by more than 12 bits with a sign
-abbrev pub far_frame : ℕ → ℕ
-far_frame by = if nat_lt ((by + 0x800) % 2 ^ 32) 0x1000 then 0 else 2
-
+-- a change of sp, by 12 bits with a sign or by more
 abbrev pub frame_cost : ℕ → ℕ
-frame_cost by = 1 + far_frame by
+frame_cost by = if nat_lt ((by + 0x800) % 2 ^ 32) 0x1000 then 1 else constant_cost by + 1
 
 -- the homes of the first n resident words
 abbrev pub saved_cost : Function → ℕ → ℕ
@@ -156,12 +166,12 @@ row f (instruction.Element d x y size) = fetch_cost (source_of f x) + (fetch_cos
 row f (instruction.Jump to) = 1
 row f (instruction.Branch t x y to) = fetch_cost (source_of f x) + (fetch_cost (source_of f y) + 2)
 row f (instruction.Call g) = 2
-row f instruction.PutByte = word_cost (byte_home f) + 7
-row f instruction.GetByte = word_cost (byte_home f) + 9
+row f instruction.PutByte = address_cost (byte_home f) + 7
+row f instruction.GetByte = address_cost (byte_home f) + 9
 row f instruction.Exit = 2
 row f instruction.Return = saved_cost f f.resident + (return_cost f + (frame_cost (frame_bytes f) + 1))
 
--- how many instructions the items are: behind a byte that is put stand three more, which no run comes to where each call answers 1
+-- the number of instructions of the items: three more follow the output of a byte, which no run executes where each call returns 1
 abbrev pub item_count : Function → Instruction → ℕ
 item_count f instruction.PutByte = row f instruction.PutByte + 3
 item_count f x = row f x
@@ -183,7 +193,7 @@ abbrev pub most_if : Program → Function → ℕ → Option Instruction → ℕ
 most_if p f k None = 0
 most_if p f k (Some x) = most_at p f k x
 
--- what the next step comes to at most, and n steps
+-- the greatest cost of the next step, and of n steps
 abbrev pub most_next : Program → State → ℕ
 most_next p s = most_if p (function_at p s.frame.function) s.frame.at (next_of p s)
 
@@ -203,6 +213,10 @@ abbrev pub SpentIsMore : Type 0
 SpentIsMore = (p : Program) → IsSoundProgram p → (most_start p ≤ start_cost) × ((n : ℕ) (s : State) → most_spent p n s ≤ spent p n s)
 
 -- ---- the same in short: what is far, and all else
+
+-- two more where sp changes by more than 12 bits with a sign
+abbrev pub far_frame : ℕ → ℕ
+far_frame by = if nat_lt ((by + 0x800) % 2 ^ 32) 0x1000 then 0 else 2
 
 abbrev pub far_source : Source → ℕ
 far_source (source.Register r) = 0

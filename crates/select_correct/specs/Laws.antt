@@ -1,4 +1,4 @@
--- What simulation is: each form of instruction, and steps.
+-- The statement of simulation: each form of instruction, and steps.
 use Rattle.std.specs.Prelude.{◌≡◌, ◌<◌, ℕ, ◌^◌, List, slice_get, Some, length}
 use Rattle.rv32.specs.declared.instr.Test.{Test}
 use Rattle.frames_code.specs.declared.code.Operand.{Operand}
@@ -19,15 +19,15 @@ use Rattle.frames_code.specs.Sound.{FunctionFits, IsSoundProgram}
 abbrev pub Anything : Light → Type 0
 Anything m = Unit {0}
 
--- Where the instruction stands, the machine comes from matching a state to matching what the instruction makes of it, by the
--- table's count of instructions. The frame on top begins below the call of which one speaks, if any.
+-- At the instruction, the machine goes from matching a state to matching the state after the instruction, in the number of instructions that the table gives.
+-- The frame on top begins below the waiting call that `Ground` singles out, if any.
 abbrev pub Follows : Instruction → Type 0
 Follows x =
     (G : Ground) (s : State) (r b : ℕ → ℕ) → Ready G → Matched G s r (address G s.frame.function s.frame.at) b → IsBelow G (running s)
     → slice_get (function_at G.program s.frame.function).code s.frame.at ≡ Some x → HasRoom G (act G.program s x)
     → Comes G.machine Anything (least_at s.frame.at x) (most_at G.program (function_at G.program s.frame.function) s.frame.at x) (Go r (address G s.frame.function s.frame.at) b s.input s.trace) (Matches G (act G.program s x))
 
--- what is read is bytes
+-- the input is bytes: each value is less than 2^8
 abbrev pub AreBytes : List ℕ → Type 0
 AreBytes input = (k c : ℕ) → slice_get input k ≡ Some c → c < 2 ^ 8
 
@@ -80,6 +80,6 @@ CallsFollow = (f : ℕ) → Follows (instruction.Call f)
 abbrev pub ReturnsFollow : Type 0
 ReturnsFollow = Follows instruction.Return
 
--- the functions of a sound program fit what is asked of each
+-- the functions of a sound program meet the requirements on each
 abbrev pub FunctionsFit : Type 0
 FunctionsFit = (p : Program) → IsSoundProgram p → (k : ℕ) → FunctionFits (length p.functions) (function_at p k)

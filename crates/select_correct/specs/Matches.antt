@@ -1,4 +1,4 @@
--- What it is for the machine to stand where flat code stands.
+-- The relation of the machine's state to that of flat code.
 use Rattle.std.specs.Prelude.{◌≡◌, ◌≤◌, ◌<◌, ℕ, zero, suc, ◌+◌, ◌*◌, ◌-◌, ◌%◌, ◌^◌, nat_lt, true, if◌then◌else◌, List, [], ◌∷◌, length, take, slice_get, Some}
 use Rattle.rv32.specs.Space.{word_at}
 use Rattle.asm.specs.Placed.{Stands}
@@ -9,9 +9,9 @@ use Rattle.frames_code.specs.Run.{Value, word, reference, Values, Bytes, Frame, 
 use Rattle.select_exec.specs.Light.{Fixed, Light, Go, Done, Fell}
 use Rattle.select.specs.Selected.{kept, calls, items_of, entry, return_home, shortened}
 
--- A program whose items are placed, the address from which on the stack may be used, and what its outermost call found at its entry: the stack
--- pointer, the address to return to, s0 to s11, and the bytes from the stack pointer up. And a call that waits, of which one may speak: where its frame begins (2^32: none does),
--- where it is returned to, and its s0 to s11.
+-- A program whose items are placed, the lowest address of the stack that may be used, and the state at the entry of its outermost call: the stack pointer, the
+-- address to return to, s0 to s11, and the bytes from the stack pointer up. And a waiting call, which a statement may be about: where its frame begins (2^32:
+-- none does), its return address, and its s0 to s11.
 pub record Ground : Type 0 where
   pub program : Program
   pub machine : Fixed
@@ -63,7 +63,7 @@ temporary_at r b sp k = if nat_lt k 8 then r (10 + k) else word_at b (sp + 4 * (
 abbrev pub argument_at : Function → ℕ → ℕ → ℕ
 argument_at f sp k = sp + (frame_bytes f + 4 * (k - 8))
 
--- of the first n, what is set has its value there
+-- of the first n, each that is set has its value there
 abbrev pub Shows : Ground → ℕ → Values → (ℕ → ℕ) → Type 0
 Shows G n values place = (k : ℕ) (v : Value) → values k ≡ Some v → (k < n) × (shown G v < 2 ^ 32) × (place k ≡ shown G v)
 
@@ -91,8 +91,8 @@ pub record Returns (G : Ground) (w : Frame) (s : ℕ → ℕ) (base ra : ℕ) : 
   pub calls : calls (function_at G.program w.function).code ≡ true
   pub seen : base ≡ G.watch_sp → (ra ≡ G.watch_ra) × ((j : ℕ) → s j ≡ G.watch_file j)
 
--- The calls that wait, from base up, where the one on top sees the registers s, and is returned to at ra. Below them all is what the
--- outermost call found at its entry.
+-- The calls that wait, from base up, where the one on top sees the registers s, and is returned to at ra. Below them all is the state that the outermost call
+-- found at its entry.
 abbrev pub Waits : Ground → List Frame → (b : ℕ → ℕ) → (s : ℕ → ℕ) → (base ra : ℕ) → Type 0
 Waits G [] b s base ra =
     (base ≡ G.sp) × Small s × ((j : ℕ) → s j ≡ G.file j) × (ra ≡ G.ra) × ((k : ℕ) → base ≤ k → b k ≡ G.bytes k)
@@ -123,7 +123,7 @@ pub record Returned (G : Ground) (status : ℕ) (r : ℕ → ℕ) (at : ℕ) (b 
   pub bytes_are : (k : ℕ) → G.sp ≤ k → b k ≡ G.bytes k
   pub status_is : r 10 % 2 ^ 8 ≡ status
 
--- the machine stands where the flat run does, and did and has left what that did and has left; a stuck run promises nothing
+-- the machine is where the flat run is, with the same trace and the same remaining input; a stuck run promises nothing
 abbrev pub Matches : Ground → Progress → Light → Type 0
 Matches G (running s) (Go r at b i h) = Matched G s r at b × (i ≡ s.input) × (h ≡ s.trace)
 Matches G (running s) (Done x h) = ⊥
@@ -133,8 +133,8 @@ Matches G (ended status input trace) (Done x h) = (x ≡ status) × (h ≡ trace
 Matches G (ended status input trace) (Fell h) = ⊥
 Matches G stuck m = Unit {0}
 
--- The items of each instruction and entry stand at their labels, below 2^31; the stack and the data may be read and written, and lie
--- apart; the outermost call is returned to at an instruction.
+-- The items of each instruction and entry are at their labels, below 2^31; the stack and the data may be read and written, and are disjoint; the outermost call
+-- is returned to at an instruction.
 pub record Ready (G : Ground) : Type 0 where
   pub sound : IsSoundProgram G.program
   pub aligned : (f k : ℕ) (x : Instruction) → slice_get (function_at G.program f).code k ≡ Some x → (address G f k % 4 ≡ 0) × (address G f k < 2 ^ 31)

@@ -14,7 +14,6 @@ rows_of f = entry_bytes f + sum_by (instruction_bytes f) f.code
 pub record IsShortProgram (p : Program) : Type 0 where
   pub each : (k : ℕ) (f : Function) → slice_get p.functions k ≡ Some f → rows_of f ≤ 2 ^ 20
 
--- With all branches long, each jump of a sound program reaches its label, wherever its items stand: the premise of the clause
--- `reaches` of `assemble`.
+-- With all branches long, each jump of a sound program reaches its label, wherever its items are placed: the premise of the clause `reaches` of `assemble`.
 abbrev pub JumpsReach : Type 0
 JumpsReach = (p : Program) (base : ℕ) → IsSoundProgram p → IsShortProgram p → AllReach base (program_items p)

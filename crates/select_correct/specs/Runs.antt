@@ -1,4 +1,4 @@
--- What simulation is of whole runs: a step, so many steps, a program's entry and its end.
+-- Simulation of whole runs: one step, n steps, a program's entry and its end.
 use Rattle.std.specs.Prelude.{◌≡◌, ◌≤◌, ◌<◌, ℕ, ◌+◌, ◌-◌, ◌*◌, ◌%◌, ◌^◌, true, false, List, [], ◌∷◌, length, slice_get, Some}
 use Rattle.memory_map.specs.MemoryMap.{stack_end}
 use Rattle.rv32.specs.Space.{word_at}
@@ -20,14 +20,14 @@ use Rattle.frames_code.specs.Costs.{next_of}
 use Rattle.select_correct.specs.Costs.{least_if, least_spent, opening_cost, step_cost, most_next, most_spent, most_start}
 use Rattle.select_correct.specs.Laws.{Anything, AreBytes}
 
--- Whatever instruction stands there; also where none does, or the step is stuck.
+-- For any instruction there; also where there is none, or the step is stuck.
 abbrev pub StepFollows : Type 0
 StepFollows =
     (G : Ground) (s : State) (r b : ℕ → ℕ) → Ready G → Matched G s r (address G s.frame.function s.frame.at) b → IsBelow G (running s) → AreBytes s.input → HasRoom G (step G.program s)
     → Comes G.machine Anything (least_if s.frame.at (next_of G.program s)) (most_next G.program s) (Go r (address G s.frame.function s.frame.at) b s.input s.trace) (Matches G (step G.program s))
 
 -- After n steps of flat code, after a count of instructions between the sums of the table's rows, the machine matches, where all frames on
--- the way fit the stack, and lie below the call of which one speaks, if any.
+-- the way fit the stack, and are below the waiting call that `Ground` singles out, if any.
 abbrev pub RunsFollow : Type 0
 RunsFollow =
     (G : Ground) (n : ℕ) (s : State) (r b : ℕ → ℕ) → Ready G → Matched G s r (address G s.frame.function s.frame.at) b → AreBytes s.input → ((k : ℕ) → k ≤ n → HasRoom G (run G.program k s)) → ((k : ℕ) → k < n → IsBelow G (run G.program k s))
@@ -42,7 +42,7 @@ Progresses = (p : Program) (n : ℕ) (s t : State) → run p n s ≡ running t �
 
 -- ---- a function that is called from outside (RISC-V ELF psABI, "Integer Calling Convention")
 
--- What a call finds: arguments in a0 to a7, the further ones from the stack pointer up, and the stack pointer, the address to return to, s0 to
+-- The state at a call: arguments in a0 to a7, the further ones from the stack pointer up, and the stack pointer, the address to return to, s0 to
 -- s11 and the bytes from the stack pointer up as `Returned` has them.
 pub record Entered (G : Ground) (f : ℕ) (temporaries arguments : Values) (statics : Bytes) (r : ℕ → ℕ) (at : ℕ) (b : ℕ → ℕ) : Type 0 where
   pub at_is : at ≡ G.env f
@@ -76,8 +76,8 @@ EntriesFollow =
     → Entered G f temporaries arguments statics r at b → HasRoom G (running (outermost f temporaries arguments statics input trace))
     → Comes G.machine Anything 1 (opening_cost (function_at G.program f)) (Go r at b input trace) (Matches G (running (outermost f temporaries arguments statics input trace)))
 
--- Where its run ends, the machine stands where it is returned to, with the stack pointer, s0 to s11 and the bytes above as it found them, and
--- with its result in a0; or the program has exited.
+-- Where its run ends, the machine is at its return address, with the stack pointer, s0 to s11 and the bytes above as at its entry, and with its result in a0;
+-- or the program has exited.
 abbrev pub ConventionKept : Type 0
 ConventionKept =
     (G : Ground) (f : ℕ) (temporaries arguments : Values) (statics : Bytes) (input : List ℕ) (trace : List Event) (r : ℕ → ℕ) (at : ℕ) (b : ℕ → ℕ) → Ready G → f < length G.program.functions
@@ -101,8 +101,8 @@ IsBack G r t to (Go r2 at b i h) =
 IsBack G r t to (Done x h) = ⊥
 IsBack G r t to (Fell h) = ⊥
 
--- From a call, however deep, to the return that ends it: n steps within it lead to a Return over the frames that the call found. The machine
--- is then behind the call, with the stack pointer and s0 to s11 as they were, and with the result in a0.
+-- From a call, however deep, to the return that ends it: n steps within it lead to a Return over the frames that the call found. The machine is then after the
+-- call, with the stack pointer and s0 to s11 as they were, and with the result in a0.
 abbrev pub EachCallKeeps : Type 0
 EachCallKeeps =
     (G : Ground) (s t : State) (f n : ℕ) (r b : ℕ → ℕ) → Ready G → Matched G s r (address G s.frame.function s.frame.at) b → AreBytes s.input
@@ -114,7 +114,7 @@ EachCallKeeps =
 
 -- ---- whole programs
 
--- main is called with the stack pointer at the stack's end, and returned to behind its call; one speaks of no call
+-- main is called with the stack pointer at the stack's end, and returns to the place after its call; no waiting call is singled out
 abbrev pub ground_at : Program → Fixed → (env : ℕ → ℕ) → (floor data_at base : ℕ) → (r b : ℕ → ℕ) → Ground
 ground_at p F env floor data_at base r b = record {
   program = p;
@@ -131,8 +131,8 @@ ground_at p F env floor data_at base r b = record {
   watch_file = λ j. 0;
 }
 
--- A sound program's items stand from base up to e, below 2^31; the stack, from floor on, and the data may be read and written, and lie apart; the statics
--- are in memory as they begin.
+-- A sound program's items are placed from base up to e, below 2^31; the stack, from floor on, and the data may be read and written, and are disjoint; the
+-- statics are in memory with their initial values.
 pub record Laid (p : Program) (F : Fixed) (env : ℕ → ℕ) (floor data_at base e : ℕ) (r b : ℕ → ℕ) : Type 0 where
   pub sound : IsSoundProgram p
   pub stands : Stands F.text env data_at (program_items p) base e
@@ -149,11 +149,11 @@ pub record Laid (p : Program) (F : Fixed) (env : ℕ → ℕ) (floor data_at bas
   pub bytes : (k : ℕ) → b k < 2 ^ 8
   pub statics : Holds (slice_get p.statics) data_at 0 (length p.statics) b
 
--- each instruction's items and each function's entry stand at their labels
+-- each instruction's items and each function's entry are at their labels
 abbrev pub LaidIsReady : Type 0
 LaidIsReady = (p : Program) (F : Fixed) (env : ℕ → ℕ) (floor data_at base e : ℕ) (r b : ℕ → ℕ) → Laid p F env floor data_at base e r b → Ready (ground_at p F env floor data_at base r b)
 
--- from its entry the machine comes to match the flat program's beginning
+-- from its entry the machine reaches a match of the flat program's beginning
 abbrev pub BeginsFollow : Type 0
 BeginsFollow =
     (p : Program) (F : Fixed) (env : ℕ → ℕ) (floor data_at base e : ℕ) (r b : ℕ → ℕ) (input : List ℕ) → Laid p F env floor data_at base e r b → HasRoom (ground_at p F env floor data_at base r b) (running (start p input))
@@ -169,7 +169,7 @@ EndsFollow =
 
 -- ---- on the machine of the table, where no byte may be both executed and written, and text lies below 2^31
 
--- the machine stands where the flat program does: at the items of its next instruction, having done the same and with the same input left; the frames of
+-- the machine is where the flat program is: at the items of its next instruction, having done the same and with the same input left; the frames of
 -- the calls that are active lie between the stack pointer and the stack's end, and the temporaries that are words are in a0 to a7 and from the
 -- stack pointer up, so that of a call they are its arguments (RISC-V ELF psABI, "Integer Calling Convention")
 pub record StandsWith (p : Program) (env : ℕ → ℕ) (s : State) (w : World) : Type 0 where
@@ -199,8 +199,8 @@ MachineEnds =
     → ((k : ℕ) → k ≤ n → HasRoom (ground_at p (fixed P b) env floor data_at base r b) (run p k (start p input)))
     → (k : ℕ) × (w : World) × (k ≤ most_start p + most_spent p n (start p input) + 2) × (rvrun k (world P list base b input []) ≡ Ended status w) × (w.trace ≡ trace) × (w.input ≡ left)
 
--- Behind a call that t ends, which began in v: the machine stands there, the stack pointer and s0 to s11 are the same, the result, where it is a word, is
--- in a0, and all is done that t has done.
+-- After a call that t ends, which began in v: the machine is there, the stack pointer and s0 to s11 are the same, the result, where it is a word, is in a0, and
+-- the trace is that of t.
 pub record BackFrom (t : State) (to : ℕ) (v w : World) : Type 0 where
   pub pc : w.machine.pc ≡ to
   pub sp : register w.machine 2 ≡ register v.machine 2
@@ -209,7 +209,7 @@ pub record BackFrom (t : State) (to : ℕ) (v w : World) : Type 0 where
   pub trace : w.trace ≡ t.trace
   pub input : w.input ≡ t.input
 
--- At each call that the flat program comes to, and behind the return that ends it, as `EachCallKeeps` has it.
+-- At each call that the flat program reaches, and after the return that ends it, as `EachCallKeeps` states it.
 abbrev pub MachineCallsKeep : Type 0
 MachineCallsKeep =
     (P : Permits) → ((a : ℕ) → P.can_execute a ≡ true → a < 2 ^ 31) → ((a : ℕ) → P.can_execute a ≡ true → P.can_write a ≡ false)

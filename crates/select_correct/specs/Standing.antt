@@ -1,4 +1,4 @@
--- Where the machine of the table stands in the middle of a run, in the words of the symbolic machine, so that another may go on from there.
+-- The state of the machine of the table in the middle of a run, in terms of the symbolic machine, so that another may continue from there.
 use Rattle.std.specs.Prelude.{◌≡◌, ◌≤◌, ◌<◌, ℕ, ◌+◌, ◌^◌, List, [], ◌∷◌, true, false}
 use Rattle.frames_code.specs.Code.{Program}
 use Rattle.frames_code.specs.Run.{State, Progress, running, run, step, start, bytes_of}
@@ -10,7 +10,7 @@ use Rattle.select_correct.specs.Laws.{AreBytes}
 use Rattle.select_correct.specs.Matches.{Ground, Ready, Matched, HasRoom, address}
 use Rattle.select_correct.specs.Runs.{Laid, StandsWith, ground_at}
 
--- the run has come to a world of registers r and memory b, which match the state
+-- the run has reached a world of registers r and memory b, which match the state
 pub record StandsAt (P : Permits) (G : Ground) (s : State) (x : machine.Progress) : Type 0 where
   pub list : List ℕ
   pub r : ℕ → ℕ
@@ -32,8 +32,8 @@ MachineStands =
     → ((k : ℕ) → k ≤ n → HasRoom (ground_at p (fixed P b) env floor data_at base r b) (run p k (start p input)))
     → (k : ℕ) × StandsAt P (ground_at p (fixed P b) env floor data_at base r b) s (rvrun k (world P list base b input []))
 
--- From a world of registers r and memory b that match a state, one step of flat code: the machine comes to stand where that leads. Permissions and floor
--- may be others than the run began with.
+-- From a world of registers r and memory b that match a state, one step of flat code: the machine reaches a match of the state after it. Permissions and floor
+-- may differ from those that the run began with.
 abbrev pub StepStands : Type 0
 StepStands =
     (P : Permits) → ((a : ℕ) → P.can_execute a ≡ true → a < 2 ^ 31) → ((a : ℕ) → P.can_execute a ≡ true → P.can_write a ≡ false)

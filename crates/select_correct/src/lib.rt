@@ -14,13 +14,13 @@ pub fn rows_are_lengths()
     ensures { RowsAreLengths }
 {}
 
-/// The rows in short: a call and its entry come to 4 and the residents, a return to 3 and the residents, all else to 12 at most; and to 2 more for
-/// each operand that is far.
+/// The rows in short: a call and its entry take 4 instructions and the residents, a return 3 and the residents, all else at most 12; and 2 more for each
+/// operand that is far.
 pub fn rows_are_few()
     ensures { RowsAreFew }
 {}
 
-/// A run comes to no more than by the table of `frames`, which needs no function.
+/// The cost of a run is at most that by the table of `frames`, which needs no function.
 pub fn spent_is_more()
     ensures { SpentIsMore }
 {}
@@ -45,12 +45,12 @@ pub fn moves_follow()
     ensures { MovesFollow }
 {}
 
-/// A conversion to a narrow type gives what flat code gives.
+/// A conversion to a narrow type has the result of flat code.
 pub fn conversions_follow()
     ensures { ConversionsFollow }
 {}
 
-/// Each operation on two words gives what flat code gives.
+/// Each operation on two words has the result of flat code.
 pub fn operations_follow()
     ensures { OperationsFollow }
 {}
@@ -60,12 +60,12 @@ pub fn exit_follows()
     ensures { ExitFollows }
 {}
 
-/// A reference is the address of the statics' place, of the frame's, or what a reference leads to.
+/// A reference is the address of a place in the statics, of one in the frame, or of the target of a reference.
 pub fn addresses_follow()
     ensures { AddressesFollow }
 {}
 
-/// A reference so many elements on is so many times their size further, modulo 2^32.
+/// A reference advanced by n elements is n times their size further, modulo 2^32.
 pub fn elements_follow()
     ensures { ElementsFollow }
 {}
@@ -85,7 +85,7 @@ pub fn put_follows()
     ensures { PutFollows }
 {}
 
-/// The next byte of the input, or all bits at its end, comes to be in a0.
+/// The next byte of the input, or all bits at its end, is put in a0.
 pub fn get_follows()
     ensures { GetFollows }
 {}
@@ -100,22 +100,22 @@ pub fn returns_follow()
     ensures { ReturnsFollow }
 {}
 
-/// One step of flat code, whatever stands there.
+/// One step of flat code, whatever the instruction there.
 pub fn step_follows()
     ensures { StepFollows }
 {}
 
-/// So many steps of flat code, by the sums of the table's rows.
+/// Any number of steps of flat code, by the sums of the table's rows.
 pub fn runs_follow()
     ensures { RunsFollow }
 {}
 
-/// A run that goes on takes the machine on: at least one instruction for each so many steps.
+/// A run that goes on advances the machine: at least one instruction for each `slack` steps.
 pub fn progresses()
     ensures { Progresses }
 {}
 
-/// Each call within a run, however deep, keeps the stack pointer and s0 to s11, and is returned to behind it.
+/// Each call within a run, however deep, keeps the stack pointer and s0 to s11, and returns to the place after it.
 pub fn each_call_keeps()
     ensures { EachCallKeeps }
 {}
@@ -125,17 +125,17 @@ pub fn entries_follow()
     ensures { EntriesFollow }
 {}
 
-/// And it leaves as ILP32 asks: the stack pointer, s0 to s11 and the bytes above are as it found them.
+/// And it leaves as ILP32 requires: the stack pointer, s0 to s11 and the bytes above are as it found them.
 pub fn convention_kept()
     ensures { ConventionKept }
 {}
 
-/// Where a program's items stand, each instruction's items and each function's entry stand at their labels.
+/// Where a program's items are placed, each instruction's items and each function's entry are at their labels.
 pub fn laid_is_ready()
     ensures { LaidIsReady }
 {}
 
-/// From a program's entry the machine comes to stand where flat code begins.
+/// From a program's entry the machine reaches a match of flat code's beginning.
 pub fn begins_follow()
     ensures { BeginsFollow }
 {}
@@ -155,8 +155,8 @@ pub fn machine_ends()
     ensures { MachineEnds }
 {}
 
-/// At each call that a flat program comes to the machine of the table stands with it; behind the return that ends the call it has the same stack
-/// pointer and s0 to s11, and the result in a0.
+/// At each call that a flat program reaches the machine of the table matches it; after the return that ends the call it has the same stack pointer and s0 to
+/// s11, and the result in a0.
 pub fn machine_calls_keep()
     ensures { MachineCallsKeep }
 {}
@@ -186,7 +186,7 @@ pub fn step_stands()
     ensures { StepStands }
 {}
 
-/// The functions of a sound program fit what is asked of each.
+/// The functions of a sound program meet the requirements on each.
 pub fn functions_fit()
     ensures { FunctionsFit }
 {}

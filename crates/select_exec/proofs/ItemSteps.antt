@@ -12,7 +12,7 @@ use Rattle.select_exec.specs.Light.{Fixed, Light, Go, reg, with_reg, sum32, Come
 use Rattle.select_exec.proofs.Bridge.{bool_cases}
 use Rattle.select_exec.proofs.Steps.{on_lui, on_auipc, on_immediate, on_jump, on_jump_register, on_branch, comes_by}
 
--- a register that is written twice has what was written last
+-- a register that is written twice has the value written last
 twice_at : (r : ℕ → ℕ) (rd x v k : ℕ) → (if eqb k rd then v else (if eqb k rd then x else r k)) ≡ (if eqb k rd then v else r k)
 twice_at r rd x v k = bool_cases (eqb k rd) (λ e. rw e refl) (λ e. rw e refl)
 
@@ -38,7 +38,7 @@ module _ (F : Fixed) (I : Light → Type 0) (Q : Light → Type 0) (n : ℕ) (r 
       on_lui F I Q (suc n) r pc b i h p rd q.high q.first
       (on_immediate F I Q n (with_reg r rd q.high) (pc + 4) b i h mid immediate_op.Add rd rd q.low v q.second value there)
 
-  -- AUIPC and JALR with x1, which comes to hold the address behind
+  -- AUIPC and JALR with x1, which then holds the address after them
   pub on_call : {a0 : ℕ} → (to next : ℕ) → to % 4 ≡ 0 → (q : Calls F.text pc to next) → I (Go (with_reg r 1 (sum32 pc q.high)) (pc + 4) b i h) → Comes F I a0 n (Go (with_reg r 1 next) to b i h) Q → Comes F I 1 (suc (suc n)) (Go r pc b i h) Q
   on_call {a0} to next al q mid c =
       let ends : next ≡ pc + 4 + 4 = omega (arith, q.next_is) in

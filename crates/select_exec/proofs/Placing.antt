@@ -92,6 +92,6 @@ stands_in T U env seg (x ∷ rest) a e al g q =
       stands_in T U env seg rest q.0 e one.aligned (agree_later T env seg U a q.0 e one.on g) q.2,
     )
 
--- items stand in parts
+-- items are placed in parts
 pub stands_parts : (T : ℕ → Option Instr) (env : ℕ → ℕ) (seg : ℕ) (xs ys : List Item) (a e : ℕ) → Stands T env seg (xs ++ ys) a e → (m : ℕ) × Stands T env seg xs a m × Stands T env seg ys m e
 stands_parts T env seg xs ys a e = (in_parts T env seg xs ys a e).0

@@ -1,4 +1,4 @@
--- Registers, bytes and words of the memory behind a write.
+-- Registers, bytes and words of the memory after a write.
 use Rattle.std.proofs.Common.{◌≡◌, ◌≢◌, ◌⊎◌, inl, inr, ℕ, ◌+◌, ◌/◌, ◌%◌, ◌^◌, ◌<◌, ◌≤◌, Bool, true, false, refl, ◌∙◌, arith, eqb}
 use Rattle.std.proofs.lemmas.Bool.Decides.{nat_tests}
 use Rattle.rv32.specs.Space.{half_at, word_at, byte_put}
@@ -52,7 +52,7 @@ word_same b b2 a same = rw (same a (omega arith) (omega arith), same (a + 1) (om
 pub half_same : (b b2 : ℕ → ℕ) (a : ℕ) → ((k : ℕ) → a ≤ k → k < a + 2 → b2 k ≡ b k) → half_at b2 a ≡ half_at b a
 half_same b b2 a same = rw (same a (omega arith) (omega arith), same (a + 1) (omega arith) (omega arith)) refl
 
--- a word apart from what is stored
+-- a word apart from the stored one
 pub word_apart : (b : ℕ → ℕ) (a v c : ℕ) → (a + 4 ≤ c) ⊎ (c + 4 ≤ a) → word_at (with_word b a v) c ≡ word_at b c
 word_apart b a v c (inl h) = word_same b (with_word b a v) c (λ k lo hi. word_off b a v k (inl (omega (arith, h, lo))))
 word_apart b a v c (inr h) = word_same b (with_word b a v) c (λ k lo hi. word_off b a v k (inr (omega (arith, h, hi))))
@@ -65,7 +65,7 @@ pub word_apart_byte : (b : ℕ → ℕ) (a v c : ℕ) → (a < c) ⊎ (c + 4 ≤
 word_apart_byte b a v c (inl h) = word_same b (with_byte b a v) c (λ k lo hi. byte_off b a v k (λ e. omega (arith, h, lo, e)))
 word_apart_byte b a v c (inr h) = word_same b (with_byte b a v) c (λ k lo hi. byte_off b a v k (λ e. omega (arith, h, hi, e)))
 
--- what was stored is read back
+-- the stored word is read back
 pub word_back : (b : ℕ → ℕ) (a w : ℕ) → w < 2 ^ 32 → word_at (with_word b a w) a ≡ w
 word_back b a w h =
     let s0 : eqb a a ≡ true = grind (arith, nat_tests) in

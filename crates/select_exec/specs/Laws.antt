@@ -9,7 +9,7 @@ use Rattle.asm.specs.Placed.{Stands}
 use Rattle.select_exec.specs.Whole.{Permits}
 use Rattle.select_exec.specs.Worlds.{RunFollows}
 
--- where no byte may be both executed and written, and text lies low, the table's machine does what the light machine does
+-- where no byte may be both executed and written, and text lies low, the table's machine simulates the light machine
 abbrev pub TextStays : Type 0
 TextStays = (P : Permits) → ((a : ℕ) → P.can_execute a ≡ true → a < 2 ^ 31) → ((a : ℕ) → P.can_execute a ≡ true → P.can_write a ≡ false) → RunFollows P
 
@@ -17,7 +17,7 @@ TextStays = (P : Permits) → ((a : ℕ) → P.can_execute a ≡ true → a < 2 
 abbrev pub AgreeOn : (T U : ℕ → Option Instr) → (a e : ℕ) → Type 0
 AgreeOn T U a e = (x : ℕ) → a ≤ x → x + 4 ≤ e → x % 4 ≡ 0 → T x ≡ U x
 
--- items that stand in one text stand in another that has the same words there
+-- items placed in one text are placed in any other that has the same words there
 abbrev pub StandsWherever : Type 0
 StandsWherever = (T U : ℕ → Option Instr) (env : ℕ → ℕ) (seg : ℕ) (items : List Item) (a e : ℕ) → a % 4 ≡ 0 → AgreeOn T U a e → Stands T env seg items a e → Stands U env seg items a e
 
@@ -29,11 +29,11 @@ trace_of (Running w) = w.trace
 trace_of (Ended s w) = w.trace
 trace_of (Trapped c w) = w.trace
 
--- what happened since stands in front of what had happened
+-- the events since then are in front of the earlier ones
 abbrev pub IsEndOf : List Event → List Event → Type 0
 IsEndOf earlier later = (since : List Event) × (later ≡ since ++ earlier)
 
--- a run that goes on keeps what happened; one that has ended or trapped stays so
+-- a run that goes on keeps its past events; one that has ended or trapped stays so
 abbrev pub RunsKeep : Type 0
 RunsKeep =
     (k j : ℕ) (w : World)

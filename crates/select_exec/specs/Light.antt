@@ -1,4 +1,4 @@
--- The machine of the rows while its text stands: the text, and what may be read and written, are fixed.
+-- The machine of the table while its text is unchanged: the text, and the addresses that may be read and written, are fixed.
 use Rattle.std.specs.Prelude.{◌≤◌, ℕ, zero, suc, ◌+◌, ◌*◌, ◌/◌, ◌%◌, ◌^◌, ◌==◌, ◌&&◌, Bool, if◌then◌else◌, List, [], ◌∷◌, Option, Some, None}
 use Rattle.rv32.specs.declared.instr.Instr.{Instr}
 use Rattle.rv32.specs.declared.instr.Instr.TheVariants.{Lui, Auipc, Jal, Jalr, Branch, Load, Store, Immediate, Shift, Op, Fence, Ecall, Ebreak}
@@ -16,7 +16,7 @@ pub record Fixed : Type 0 where
   pub can_read : ℕ → Bool
   pub can_write : ℕ → Bool
 
--- registers, pc, bytes, the input left, and what was done, the newest first
+-- registers, pc, bytes, the input left, and the events so far, the newest first
 pub data Light : Type 0 where
   Go : (r : ℕ → ℕ) → (pc : ℕ) → (b : ℕ → ℕ) → (input : List ℕ) → (h : List Event) → Light
   Done : (status : ℕ) → (h : List Event) → Light
@@ -95,7 +95,7 @@ abbrev pub light_run : Fixed → ℕ → Light → Light
 light_run F zero m = m
 light_run F (suc k) m = light_run F k (light_step F m)
 
--- after `least` to `most` steps the machine comes to where Q holds, and I holds all the way
+-- after `least` to `most` steps the machine reaches a state where Q holds, and I holds all the way
 pub record Comes (F : Fixed) (I : Light → Type 0) (least most : ℕ) (m : Light) (Q : Light → Type 0) : Type 0 where
   pub j : ℕ
   pub some : least ≤ j

@@ -1,4 +1,4 @@
--- The machine of the rows, whose text is the bytes of its memory.
+-- The machine of the table, whose text is the bytes of its memory.
 use Rattle.std.specs.Prelude.{◌≡◌, ℕ, zero, suc, ◌%◌, ◌==◌, ◌&&◌, Bool, false, if◌then◌else◌, Option, None}
 use Rattle.rv32.specs.declared.instr.Instr.{Instr}
 use Rattle.rv32.specs.Words.{decode_of}

@@ -21,14 +21,14 @@ world P list pc b i h = record {
   trace = h;
 }
 
--- the run goes on at such a world
+-- the run continues at such a world
 pub record Goes (P : Permits) (r : ℕ → ℕ) (pc : ℕ) (b : ℕ → ℕ) (i : List ℕ) (h : List Event) (p : Progress) : Type 0 where
   pub list : List ℕ
   pub is : p ≡ Running (world P list pc b i h)
   pub shows : Registers list r
   pub small : pc < 2 ^ 32
 
--- the run is where the light machine is; nothing is said once that fell
+-- the run is where the light machine is; nothing is required once the light machine fell
 abbrev pub Follows : Permits → Light → Progress → Type 0
 Follows P (Go r pc b i h) p = Goes P r pc b i h p
 Follows P (Done s h) p = (v : World) × (p ≡ Ended s v) × (v.trace ≡ h)

@@ -13,7 +13,7 @@ pub fn stands_wherever()
     ensures { StandsWherever }
 {}
 
-/// A run that goes on keeps what happened; one that has ended or trapped stays so.
+/// A run that goes on keeps its past events; one that has ended or trapped stays so.
 pub fn runs_keep()
     ensures { RunsKeep }
 {}

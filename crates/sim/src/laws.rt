@@ -29,12 +29,12 @@ pub fn refusals_change_nothing()
     ensures { RefusalsChangeNothing }
 {}
 
-/// A step of the definition is one of the machine's own, with what its result asks for.
+/// A step of the definition is one of the machine's own, with the port operation that its result requests.
 pub fn ticks_are_steps()
     ensures { TicksAreSteps }
 {}
 
-/// A run that stops after k steps has met what at most so many steps are to meet.
+/// A run whose step after the first k stops satisfies the postcondition of every run of more than k steps.
 pub fn runs_stop()
     ensures { RunsStop }
 {}

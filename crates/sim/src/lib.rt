@@ -3,14 +3,17 @@
 
 mod accesses;
 mod decoded;
+mod environment;
 mod laws;
 mod machine;
 mod moves;
+mod places;
 mod registers;
 mod runs;
 mod stretches;
 mod tick;
 
+pub use environment::environment_call;
 pub use laws::{
     ends_of_input_go_on, gets_go_on, puts_go_on, refusals_change_nothing, runs_compose, runs_go_on,
     runs_stop, ticks_are_steps,

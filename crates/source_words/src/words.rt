@@ -4,10 +4,10 @@ use explain_places::Tokens;
 use std::alloc::{AllocError, Global};
 use std::str;
 
-/// A token that stands in no directive.
+/// A token that is in no directive.
 #[derive(Clone, Copy, Debug)]
 pub struct Word {
-    /// How many bytes of the file stand before it.
+    /// The offset of its first byte in the file.
     pub start: usize,
     /// How many bytes there are up to its end.
     pub end: usize,
@@ -22,7 +22,7 @@ pub struct Span {
     pub past: usize,
 }
 
-/// The tokens of a source file that stand in no directive.
+/// The tokens of a source file that are in no directive.
 #[derive(Drop)]
 pub struct Words<'b> {
     bytes: &'b [u8],
@@ -69,7 +69,7 @@ impl<'b> Words<'b> {
         }
     }
 
-    /// How many bytes stand before the token with this number; all, where there is no such token.
+    /// The offset of the token with this number; the size of the file, where there is no such token.
     pub fn start(&self, number: usize) -> usize {
         match self.list.get(number) {
             Some(word) => word.start,
@@ -93,7 +93,7 @@ impl<'b> Words<'b> {
         }
     }
 
-    /// The number of the token that begins behind so many bytes.
+    /// The number of the token that begins at this offset.
     pub fn number_at(&self, start: usize) -> Option<usize> {
         self.list.iter().position(|word| word.start == start)
     }
@@ -111,7 +111,7 @@ impl<'b> Words<'b> {
     }
 }
 
-/// Whether a space stands between two tokens where they are shown.
+/// Whether there is a space between two tokens where they are shown.
 fn has_gap(before: &[u8], token: &[u8]) -> bool {
     let is_close = matches!(token, b"[" | b"]" | b")" | b"," | b";" | b"++" | b"--");
     let is_open = matches!(before, b"[" | b"(" | b"!" | b"~");

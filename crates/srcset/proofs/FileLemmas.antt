@@ -1,4 +1,4 @@
--- What a map from texts to vectors shows as a list of files.
+-- The model of a map from texts to vectors as a list of files.
 use Rattle.std.proofs.Common.{◌≡◌, ℕ, ◌<◌, ◌≤◌, List, [], ◌∷◌, ◌++◌, map, length, Option, Some, None, Bool, true, false, cond, if◌then◌else◌, not, nat_lt, nat_le, length-append, ◌&&◌, ◌||◌, is_some, refl, sym, ap, ◌∙◌, subst, arith, String, Global, Vec}
 use Rattle.std.proofs.lemmas.Bool.{le-leb}
 use Rattle.std.proofs.lemmas.Bool.Decides.{nat_tests}
@@ -34,7 +34,7 @@ pub both : (a b : Bool) → (a && b) ≡ true → (a ≡ true) × (b ≡ true)
 both true b e = (refl, e)
 both false b e = absurd (cc)
 
--- each file that is found passes what all pass
+-- each file that is found satisfies a test that all files satisfy
 pub found_passes : {K V : Type 0} (p : V → Bool) (test : K → Bool) (es : List (K × V)) (v : V) → list_all (λ e. p e.1) es ≡ true → lookup test es ≡ Some v → p v ≡ true
 found_passes p test [] v all e = absurd (cc)
 found_passes p test (x ∷ es) v all e =
@@ -45,7 +45,7 @@ found_passes p test (x ∷ es) v all e =
       | false ↦ rest
     ]) e
 
--- what holds of all holds of all and one more
+-- a property of all elements extends to one more
 pub list_all_push : {X : Type 0} (p : X → Bool) (xs : List X) (y : X) → list_all p xs ≡ true → p y ≡ true → list_all p (xs ++ y ∷ []) ≡ true
 list_all_push p [] y all here = rw here refl
 list_all_push p (x ∷ xs) y all here =
@@ -63,7 +63,7 @@ passes true false true d e = absurd (cc)
 passes true false false true e = absurd (cc)
 passes true false false false e = (refl, refl, refl, refl)
 
--- a file that is not refused is new, small, finds room, and has a name that it may have
+-- a file that is not rejected is new, small, finds room, and has an allowed name
 pub accepted : (files : Files) (name bytes : List ℕ) → add_fault files name bytes ≡ None
     → (is_some (file_of files name) ≡ false) × (length bytes ≤ max_file_bytes) × (length files < max_files) × (is_file_name name ≡ true)
 unfolding first_fault

@@ -1,4 +1,4 @@
--- What a table of texts keeps.
+-- The invariant of a table of texts.
 use Rattle.std.proofs.Common.{◌≡◌, ◌↔◌, ℕ, List, [], ◌∷◌, ◌++◌, suc, map, length, slice_get, get_or, Option, Some, None, is_some, Bool, true, false, cond, position, refl, sym, ap, ◌∙◌, ◌⊎◌, inl, inr, true≢false, zero}
 use Rattle.std.proofs.lemmas.List.{map-append}
 use Rattle.std.proofs.lemmas.List.Quantifiers.{position-Some}
@@ -37,7 +37,7 @@ slice_get_kept [] ys n x e = absurd (cc)
 slice_get_kept (y ∷ xs) ys zero x e = e
 slice_get_kept (y ∷ xs) ys (suc n) x e = slice_get_kept xs ys n x e
 
--- what stands in a list with one more at its end
+-- the elements of a list with one more at its end
 pub slice_get_push : {X : Type 0} (xs : List X) (y : X) (n : ℕ) (x : X) → slice_get (xs ++ y ∷ []) n ≡ Some x → (slice_get xs n ≡ Some x) ⊎ ((n ≡ length xs) × (y ≡ x))
 slice_get_push [] y zero x e = inr (refl, cc)
 slice_get_push [] y (suc n) x e = absurd (cc)

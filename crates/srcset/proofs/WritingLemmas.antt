@@ -15,14 +15,14 @@ appends_kept (Some x) None c xs p q = absurd p
 appends_kept (Some x) (Some y) None xs p q = absurd q
 appends_kept (Some x) (Some y) (Some z) xs p q = q ∙ p
 
--- a beginning and the next part of what is left
+-- a beginning and the next part of the rest
 take_part : (xs : List ℕ) (a n : ℕ) → take a xs ++ take n (drop a xs) ≡ take (a + n) xs
 take_part xs a n =
     let front : take a xs ≡ take a (take (a + n) xs) = sym (take-take a (a + n) xs (omega arith)) in
     let back : take n (drop a xs) ≡ drop a (take (a + n) xs) = sym (drop-take a n xs) in
     rw (front, back) (take-append-drop a (take (a + n) xs))
 
--- one write of what is left
+-- one write of the rest
 pub write_step : (a b c : Option (List ℕ)) (bytes : List ℕ) (at n : ℕ) → at < length bytes → Appends a b (take at bytes)
     → n ≤ length (take (length bytes - at) (drop at bytes)) → Appends b c (take n (take (length bytes - at) (drop at bytes)))
     → (at + n ≤ length bytes) × Appends a c (take (at + n) bytes)

@@ -113,7 +113,7 @@ number_of code.BadProgramHeader = 905
 number_of code.SegmentsOverlap = 906
 number_of code.TooMuchMemory = 907
 
--- what a fault line says behind the number
+-- the text of a fault line after the number
 abbrev pub text_of : Code → List ℕ
 text_of code.FileGivenTwice = codes "file name given twice"
 text_of code.BadFileName = codes "bad file name"
@@ -318,7 +318,7 @@ constraint_code n =
     if nat_eq n 553 then Some code.BuiltInDefined else
     None
 
--- what the compiler leaves out of the language
+-- the faults for parts of the language that the compiler leaves out
 unfoldable pub profile_code : ℕ → Option Code
 profile_code n =
     if nat_eq n 601 then Some code.LeftOutFloating else

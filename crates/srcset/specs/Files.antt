@@ -25,14 +25,14 @@ max_file_bytes = 1048576
 abbrev pub max_files : ℕ
 max_files = 256
 
--- a byte that may stand in a file's name: printable, and none of '"', '\', '<' and '>'
+-- a byte that a file's name may contain: printable, and none of '"', '\', '<' and '>'
 abbrev pub is_name_byte : ℕ → Bool
 is_name_byte b = nat_le 32 b && nat_le b 126 && not (nat_eq b 34 || nat_eq b 92 || nat_eq b 60 || nat_eq b 62)
 
 abbrev pub is_file_name : List ℕ → Bool
 is_file_name name = nat_le 1 (length name) && nat_le (length name) 255 && list_all is_name_byte name
 
--- the code of the fault at adding a file, by the first rule that is broken
+-- the code of the fault at adding a file, by the first rule that is violated
 abbrev pub add_fault : Files → List ℕ → List ℕ → Option Code
 add_fault files name bytes =
     if not (is_file_name name) then Some BadFileName
@@ -45,6 +45,6 @@ add_fault files name bytes =
 abbrev pub IsWithinLimits : Files → Type 0
 IsWithinLimits files = (length files ≤ max_files) × IsTrue (list_all (λ f. nat_le (length f.1) max_file_bytes) files)
 
--- what every set keeps: the limits, and names that are allowed, each of them once
+-- the invariant of every set: the limits, and names that are allowed, each of them once
 abbrev pub IsFileMap : Files → Type 0
 IsFileMap files = IsWithinLimits files × IsTrue (list_all (λ f. is_file_name f.0) files) × NumbersOnce (names_of files)

@@ -1,8 +1,8 @@
--- What a call that writes many bytes leaves.
+-- The output of a call that writes many bytes.
 use Rattle.std.specs.Prelude.{ℕ, ◌≤◌, List, Option, take, length}
 use Rattle.std.specs.Io.KnownBytes.{Appends}
 
--- the writer took a beginning of the bytes
+-- the writer accepted a prefix of the bytes
 pub record TakesBeginning (before after : Option (List ℕ)) (bytes : List ℕ) : Type 0 where
   pub count : ℕ
   pub within : count ≤ length bytes

@@ -1,9 +1,9 @@
-//! The faults by their codes: the number and the text of each, which stand here alone.
+//! The faults by their codes: the number and the text of each, which appear only here.
 ghost use Rattle.std.specs.Prelude.{◌≡◌};
 ghost use Rattle.srcset.specs.declared.code.Code.{Code};
 ghost use Rattle.srcset.specs.Codes.{number_of, text_of, code_with, group_code, message_of, file_code, macro_code, token_code, syntax_code, constraint_code, profile_code, limit_code, system_code, image_code};
 
-/// What is wrong, a variant a fault. A number's first digit says what kind of rule it is about.
+/// The kind of error, one variant per fault. A number's first digit gives the kind of rule.
 #[derive(Clone, Copy, Debug, PartialEq, Eq)]
 pub enum Code {
     /// 101: file name given twice.
@@ -342,7 +342,7 @@ impl Code {
         }
     }
 
-    /// What a fault line says behind the number.
+    /// The text of a fault line after the number.
     pub fn message(self) -> &'static str
         ensures { result.now ≡ text_of self }
     {
@@ -598,7 +598,7 @@ fn constraint_code(number: u16) -> Option<Code>
     }
 }
 
-// What the compiler leaves out of the language.
+// The faults for parts of the language that the compiler leaves out.
 #[tactic(auto, unfolding(crate::specs::Codes::profile_code))]
 fn profile_code(number: u16) -> Option<Code>
     ensures { result ≡ profile_code number }

@@ -1,4 +1,4 @@
-//! Faults: what the compiler says where it refuses its input.
+//! Faults: the diagnostics of the compiler where it rejects its input.
 ghost use Rattle.std.specs.Prelude.{◌≡◌, ◌++◌, IfOk, OnOk, Some};
 ghost use Rattle.std.specs.Prelude.{◌⊎◌};
 ghost use Rattle.srcset.specs.Fault.{IsFaultOrMemory, IsFaultWith, IsMemoryFault, fault_line, place_text};
@@ -9,7 +9,7 @@ use std::alloc::{AllocError, Global};
 use std::fmt;
 use thiserror::Error;
 
-/// Why the compiler refused its input, and where.
+/// The reason why the compiler rejected its input, and the place.
 ///
 /// It is shown as the one line `FILE:LINE: CODE TEXT`, or `cc: CODE TEXT` where `file` is empty.
 /// TEXT is the text of the code, as `message` gives it, followed by `text`.
@@ -22,13 +22,13 @@ pub struct Fault {
     pub file: String,
     /// The line, counted from 1, or 0 where the fault concerns no line.
     pub line: u32,
-    /// What this fault adds to the text of its code: the tokens of an `#error`, each after a space,
+    /// The text that this fault adds to that of its code: the tokens of an `#error`, each after a space,
     /// and else nothing.
     pub text: String,
 }
 
 impl Fault {
-    /// Want of memory: code 801, no file, line 0. Takes no memory.
+    /// Out of memory: code 801, no file, line 0. Allocates nothing.
     pub fn memory(alloc: Global) -> Fault
         ensures { IsMemoryFault result }
     {
@@ -42,7 +42,7 @@ impl Fault {
 
     /// The fault with this code at a line of a file, and no text of its own.
     ///
-    /// Where the copy of the file's name finds no memory, the fault is 801 in its place.
+    /// Where memory runs out for the copy of the file's name, the fault is 801 instead.
     pub fn at(alloc: Global, code: Code, file: &str, line: u32) -> Fault
         ensures { IsFaultOrMemory result code file.now line }
     {
@@ -59,7 +59,7 @@ impl Fault {
 
     /// The fault with this code at a line of a file, which adds a text to that of its code.
     ///
-    /// Where a copy of the file's name or of the text finds no memory, the fault is 801 in its place.
+    /// Where memory runs out for a copy of the file's name or of the text, the fault is 801 instead.
     pub fn with_text(alloc: Global, code: Code, file: &str, line: u32, text: &str) -> Fault
         ensures { IsFaultWith result code file.now line text.now ⊎ IsMemoryFault result }
     {
@@ -94,7 +94,7 @@ impl Fault {
     }
 }
 
-/// Shows the line that `Fault::to_line` gives.
+/// Prints the line that `Fault::to_line` returns.
 impl fmt::Display for Fault {
     ghost output = { λ fault. Some (fault_line fault) };
 
@@ -108,7 +108,7 @@ impl fmt::Display for Fault {
     }
 }
 
-// Adds where a fault stands: `FILE:LINE: `, or `cc: ` where there is no file.
+// Appends the place of a fault: `FILE:LINE: `, or `cc: ` where there is no file.
 fn push_place(text: &mut Vec<u8>, file: &str, line: u32) -> Result<(), AllocError>
     ensures { OnOk result (text.new.items ≡ text.old.items ++ place_text file.now line) }
 {

@@ -46,7 +46,7 @@ impl Model for FileSet {
 }
 
 impl FileSet {
-    /// The set with no file. It keeps `alloc`, and takes no memory yet.
+    /// The set with no file. It stores `alloc`, and allocates nothing yet.
     pub fn new(alloc: Global) -> FileSet
         ensures { result ≡ [] }
     {
@@ -56,7 +56,7 @@ impl FileSet {
         }
     }
 
-    /// The bytes of the file with this name, or `None` where no file has it. Takes no memory.
+    /// The bytes of the file with this name, or `None` where no file has it. Allocates nothing.
     pub fn get(&self, name: &str) -> Option<&[u8]>
         ensures bytes { option_copied result ≡ file_of self.now name.now }
         ensures small { IfSome result (λ bytes. length bytes.now ≤ max_file_bytes) }
@@ -66,7 +66,7 @@ impl FileSet {
         Some(bytes.as_slice())
     }
 
-    /// The bytes of the file whose name has these bytes, or `None` where no file has it. Takes no memory.
+    /// The bytes of the file whose name has these bytes, or `None` where no file has it. Allocates nothing.
     pub fn find(&self, name: &[u8]) -> Option<&[u8]>
         ensures bytes { option_copied result ≡ file_of self.now name.now }
         ensures small { IfSome result (λ bytes. length bytes.now ≤ max_file_bytes) }
@@ -79,7 +79,7 @@ impl FileSet {
         Some(bytes.as_slice())
     }
 
-    /// Whether a file has this name. Takes no memory.
+    /// Whether a file has this name. Allocates nothing.
     pub fn contains(&self, name: &str) -> bool
         ensures { result ≡ is_some (file_of self.now name.now) }
     {
@@ -100,10 +100,10 @@ impl FileSet {
         self.files.is_empty()
     }
 
-    /// Adds a file behind those that are there.
+    /// Adds a file after the existing ones.
     ///
-    /// The first of these that holds refuses it, and leaves the set as it was: the name is not one
-    /// that a file may have (102), it is taken (101), the file has more than 1,048,576 bytes (701),
+    /// Fails by the first of these rules that applies, and leaves the set as it was: the name is not one
+    /// that a file may have (102), it is in use (101), the file has more than 1,048,576 bytes (701),
     /// there are 256 files (702). The fault has the file's name and line 0. Where memory runs out it
     /// is 801, and the set is as it was too.
     pub fn add(&mut self, name: &str, bytes: Vec<u8>) -> Result<(), Fault>
@@ -158,7 +158,7 @@ fn are_name_bytes(bytes: &[u8]) -> bool
     bytes.iter().all(|b| is_name_byte(*b))
 }
 
-// Whether this byte may stand in a file's name.
+// Whether a file's name may contain this byte.
 fn is_name_byte(b: u8) -> bool
     ensures { result ≡ name_byte b }
 {

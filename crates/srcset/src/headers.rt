@@ -42,7 +42,7 @@ const ISO646: &[u8] = b"#define and &&\n\
 #define xor ^\n\
 #define xor_eq ^=\n";
 
-/// The text of the built-in header with this name, or `None` where there is none. Takes no memory.
+/// The text of the built-in header with this name, or `None` where there is none. Allocates nothing.
 ///
 /// There are four: `limits.h` (ISO/IEC 9899:2011 5.2.4.2.1, without the limits of `long long`, at the
 /// sizes of the RISC-V psABI's ILP32 with a plain `char` that is unsigned), `stdbool.h` (7.18),
@@ -62,7 +62,7 @@ pub fn builtin(name: &str) -> Option<&'static [u8]>
     }
 }
 
-/// The text of the built-in header whose name has these bytes, as `builtin` gives it. Takes no memory.
+/// The text of the built-in header whose name has these bytes, as `builtin` returns it. Allocates nothing.
 pub fn find_builtin(name: &[u8]) -> Option<&'static [u8]>
     ensures text { option_copied result ≡ header_of name.now }
     ensures small { IfSome result (λ bytes. length bytes.now ≤ max_file_bytes) }

@@ -1,5 +1,5 @@
-//! What every layer of the compiler stands on: the source files of a translation unit, the numbers
-//! that stand for texts, the faults with their texts, and the built-in headers.
+//! The base of every layer of the compiler: the source files of a translation unit, the string
+//! interner, the faults with their texts, and the built-in headers.
 #![tactic(auto)]
 
 pub mod code;

@@ -1,4 +1,4 @@
-//! Numbers that stand for texts.
+//! String interner.
 ghost use Rattle.std.specs.Prelude.{◌≡◌, ◌↔◌, ℕ, [], ◌∷◌, ◌++◌, Some, Ok, IsTrue, slice_get, IfOk, IfErr, OnOk, OnErr, length};
 ghost use Rattle.std.specs.Option.{option_copied};
 ghost use Rattle.srcset.specs.NameTable.{with_text, shown_text, file_name_of, KeepsNumbers, NumbersOnce};
@@ -9,9 +9,9 @@ use indexmap::IndexSet;
 use std::alloc::Global;
 use std::marker::Model;
 
-/// A table that numbers texts: one number a text, one text a number, for good.
+/// A table that numbers texts: one number a text, one text a number, which never changes.
 ///
-/// The numbers are 0, 1, 2 and so on, in the order in which the texts came. A text is any bytes, also
+/// The numbers are 0, 1, 2 and so on, in the order in which the texts were added. A text is any bytes, also
 /// none. Both look-ups take constant time, but for the bytes of the text.
 #[derive(Drop)]
 pub struct Names {
@@ -31,7 +31,7 @@ impl Model for Names {
 }
 
 impl Names {
-    /// The table with no text. It keeps `alloc`, and takes no memory yet.
+    /// The table with no text. It stores `alloc`, and allocates nothing yet.
     pub fn new(alloc: Global) -> Names
         ensures { result ≡ [] }
     {
@@ -55,7 +55,7 @@ impl Names {
         self.texts.is_empty()
     }
 
-    /// The text of a number, or `None` where no text has it. Takes no memory.
+    /// The text of a number, or `None` where no text has it. Allocates nothing.
     pub fn text(&self, n: usize) -> Option<&[u8]>
         ensures { option_copied result ≡ slice_get self.now n }
     {
@@ -66,7 +66,7 @@ impl Names {
     }
 
     /// The text of a number as a fault shows it: empty where no text has the number, and where its
-    /// text is not UTF-8. Takes no memory.
+    /// text is not UTF-8. Allocates nothing.
     pub fn shown_text(&self, n: usize) -> &str
         ensures { result.now ≡ shown_text self.now n }
     {
@@ -86,7 +86,7 @@ impl Names {
         self.shown_text(n)
     }
 
-    /// The number of a text, or `None` where it has none. Takes no memory.
+    /// The number of a text, or `None` where it has none. Allocates nothing.
     pub fn find(&self, text: &[u8]) -> Option<usize>
         ensures found { (n : ℕ) → (result ≡ Some n) ↔ (slice_get self.now n ≡ Some text.now) }
         ensures once { NumbersOnce self.now }
@@ -94,9 +94,9 @@ impl Names {
         self.texts.get_index_of(text)
     }
 
-    /// The number of a text. A text that has none takes the next number, the count of texts so far.
+    /// The number of a text. A text that has none gets the next number, the count of texts so far.
     ///
-    /// Fails with 801 where memory runs out, which only a new text can meet. Then the table is as it was.
+    /// Fails with 801 where memory runs out, which only a new text can cause. Then the table is as it was.
     pub fn intern(&mut self, text: &[u8]) -> Result<usize, Fault>
         ensures text { IfOk result (λ n. slice_get self.new n ≡ Some text.now) }
         ensures known { (n : ℕ) → slice_get self.old n ≡ Some text.now → result ≡ Ok n }

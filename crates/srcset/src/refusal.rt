@@ -1,4 +1,4 @@
-//! Refusals inside the compiler, which name no file and take no memory.
+//! Errors inside the compiler, which name no file and allocate nothing.
 ghost use Rattle.std.specs.Prelude.{◌≡◌};
 ghost use Rattle.srcset.specs.declared.refusal.Refusal.TheVariants.{Memory};
 ghost use Rattle.srcset.specs.Refusal.{IsFaultOfRefusal};
@@ -17,21 +17,21 @@ pub struct Pos {
     pub line: u32,
 }
 
-/// Why an inner step was refused. The call that answers to the outside makes a `Fault` of it, once.
+/// The error of an inner step. The public function converts it to a `Fault`, once.
 #[derive(Clone, Copy, Debug, PartialEq, Eq)]
 pub enum Refusal {
     /// Memory ran out.
     Memory,
-    /// The fault with this code stands here.
+    /// The fault with this code is reported here.
     At {
-        /// What is wrong.
+        /// The kind of error.
         code: Code,
         /// The place of the fault.
         pos: Pos,
     },
     /// The same, and the fault adds a text to that of its code.
     Told {
-        /// What is wrong.
+        /// The kind of error.
         code: Code,
         /// The place of the fault.
         pos: Pos,
@@ -57,11 +57,11 @@ impl<T: Drop> From<AllocFailed<T>> for Refusal {
 }
 
 impl Refusal {
-    /// The fault that this refusal stands for.
+    /// The fault that this error corresponds to.
     ///
     /// Its file is the text that `names` has for the number of the place's file, or empty where there
     /// is none or it is not UTF-8; the text that it adds likewise. It is 801 for `Memory`, and where a copy
-    /// of these texts finds no memory.
+    /// of these texts runs out of memory.
     pub fn to_fault(self, alloc: Global, names: &Names) -> Fault
         ensures { IsFaultOfRefusal result names.now self }
     {

@@ -5,10 +5,10 @@ ghost use Rattle.srcset.specs.Writing.{TakesBeginning};
 
 use std::io::{ErrorKind, Write};
 
-/// How often a call that a signal interrupted is tried, in all, so that each call ends.
+/// How often a call that a signal interrupted is attempted, in all, so that each call ends.
 pub const TRIES: u32 = 1000;
 
-/// Writes what the writer takes at once, of a text that is not empty. `None` where it refuses.
+/// Writes the bytes of a text, which is not empty, that the writer accepts at once. `None` where it fails.
 fn write_part<W: Write>(writer: &mut W, bytes: &[u8]) -> Option<usize>
     ensures bound { IfSome result (λ count. (1 ≤ count) × (count ≤ length bytes.now)) }
     ensures taken { MatchOption result
@@ -29,9 +29,9 @@ fn write_part<W: Write>(writer: &mut W, bytes: &[u8]) -> Option<usize>
     None
 }
 
-/// Writes all bytes. `false` where the writer refused; it then took a beginning of them.
+/// Writes all bytes. `false` where the writer failed; it then accepted a prefix of them.
 ///
-/// A write that a signal interrupted is tried again, `TRIES` times in all.
+/// Retries a write that a signal interrupted, `TRIES` attempts in all.
 pub fn write_text<W: Write>(writer: &mut W, bytes: &[u8]) -> bool
     ensures all { result ≡ true → Appends (W.contents writer.old) (W.contents writer.new) bytes.now }
     ensures some { TakesBeginning (W.contents writer.old) (W.contents writer.new) bytes.now }

@@ -3,7 +3,7 @@
 use crate::functions::Function;
 use std::alloc::{AllocError, Global};
 
-/// What is summed along a chain of calls.
+/// The quantity summed along a chain of calls.
 #[derive(Clone, Copy, Debug, PartialEq, Eq)]
 pub enum Cost {
     /// The bytes of frames.
@@ -25,9 +25,9 @@ impl Cost {
 /// A chain of calls from one function on.
 #[derive(Drop)]
 pub enum Chain {
-    /// No function that is reached calls itself, over others or not: the greatest sum, and the functions that have it.
+    /// No function that is reached calls itself, directly or through others: the greatest sum, and the functions that have it.
     Deepest(u64, Vec<usize>),
-    /// Functions that call each other in a circle, the first of them again at its end.
+    /// Functions that call each other in a cycle, the first of them again at its end.
     Circle(Vec<usize>),
 }
 
@@ -38,7 +38,7 @@ struct Best {
     callee: Option<usize>,
 }
 
-/// What is known of the functions so far.
+/// The results for the functions so far.
 #[derive(Drop)]
 struct Depths {
     // How many of the calls of each function are not settled.
@@ -50,7 +50,7 @@ struct Depths {
     settled: Vec<usize>,
 }
 
-/// The greatest sum of costs along the calls from a function on, where these come to no circle.
+/// The greatest sum of costs along the calls from a function on, where these contain no cycle.
 pub fn deepest(
     alloc: Global,
     functions: &[Function],
@@ -74,7 +74,7 @@ pub fn deepest(
 }
 
 impl Depths {
-    /// Nothing is known but of the functions that call nothing.
+    /// The initial state: only functions that call nothing are settled.
     fn new(alloc: Global, functions: &[Function]) -> Result<Depths, AllocError> {
         let mut depths = Depths {
             left: Vec::new(alloc),
@@ -99,7 +99,7 @@ impl Depths {
         Ok(depths)
     }
 
-    /// Notes a function as a caller of those that it calls.
+    /// Records a function as a caller of those that it calls.
     fn note_calls(&mut self, number: usize, function: &Function) -> Result<(), AllocError> {
         for callee in &function.calls {
             if let Some(callers) = self.callers.get_mut(*callee) {
@@ -121,7 +121,7 @@ impl Depths {
         }
     }
 
-    /// Tells a function's sum to its callers; those whose last call this was are settled.
+    /// Adds a function's sum to its callers; those whose last call this was are settled.
     fn settle(&mut self, number: usize, sum: u64) -> Result<(), AllocError> {
         let Some(callers) = self.callers.get(number) else {
             return Ok(());
@@ -168,7 +168,7 @@ impl Depths {
         Ok(chain)
     }
 
-    /// A circle that is reached from a function that is not settled: each calls one that is not settled.
+    /// A cycle that is reached from a function that is not settled: each calls one that is not settled.
     fn circle(
         &self,
         alloc: Global,

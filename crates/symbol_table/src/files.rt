@@ -1,9 +1,9 @@
-//! The files in which statements stand.
+//! The files that contain statements.
 
 use srcset::Names;
 use std::alloc::{AllocError, Global};
 
-/// The names of files, numbered in the order in which they are first asked for.
+/// The names of files, numbered in the order in which they are first requested.
 #[derive(Drop)]
 pub(crate) struct Files<'n> {
     names: &'n Names,

@@ -1,12 +1,15 @@
-//! The functions and the objects of a built file, as the compiler tells them.
+//! The functions and the objects of a built file, as the compiler reports them.
 
 use crate::files::Files;
-use cc::{Built, CodeMap, DataObject, FunctionCode, Reference, StackSize, map_of};
+use crate::variables::{FunctionVariables, VariableType, function_variables, object_type};
+use cc::{Built, CodeMap, DataObject, FunctionCode, Mapped, Reference, StackSize, map_of};
 use memory_map::{TEXT_OFFSET, TEXT_START};
+use object_names::{ProgramNames, names_of_set};
 use srcset::{Fault, FileSet, Names};
 use std::alloc::{AllocError, Global};
+use typed_ast::Program;
 
-/// The line of a source in which a statement stands, and the address at which its code begins.
+/// The source line of a statement, and the address at which its code begins.
 #[derive(Clone, Copy, Debug, PartialEq, Eq)]
 pub struct Line {
     /// The number of the file in `SymbolTable::files`.
@@ -32,6 +35,7 @@ pub struct Function {
     pub calls: Vec<usize>,
     /// The line of its name, and then those of its statements, in the order of their code.
     pub lines: Vec<Line>,
+    pub variables: FunctionVariables,
 }
 
 /// An object with static storage, or a string literal.
@@ -42,6 +46,8 @@ pub struct Object {
     pub address: u32,
     /// In bytes.
     pub size: u32,
+    /// None of a string literal.
+    pub object_type: Option<VariableType>,
 }
 
 /// An instruction that loads the address of a byte in the data, and that address.
@@ -51,7 +57,7 @@ pub struct DataLoad {
     pub address: u32,
 }
 
-/// What is told of a built file.
+/// The symbols of a built file.
 #[derive(Drop)]
 pub struct SymbolTable {
     /// In the order of their definitions, which is that of their addresses.
@@ -60,15 +66,15 @@ pub struct SymbolTable {
     pub objects: Vec<Object>,
     /// In the order of the instructions.
     pub loads: Vec<DataLoad>,
-    /// The names of the files in which statements stand, as `#line` and includes name them.
+    /// The names of the files that contain statements, as `#line` and includes name them.
     pub files: Vec<String>,
     /// The bytes of the code.
     pub text: Vec<u8>,
 }
 
-/// What the compiler tells of the file that it makes of the program in the file `main` of the set.
+/// The symbols of the file that the compiler makes of the program in the file `main` of the set.
 ///
-/// Refuses as `compile_with` does.
+/// Fails as `compile_with` does.
 pub fn symbol_table(
     alloc: Global,
     set: &FileSet,
@@ -77,51 +83,70 @@ pub fn symbol_table(
     built: &Built,
 ) -> Result<SymbolTable, Fault> {
     let mut names = Names::new(alloc);
-    match map_of(alloc, set, main, &mut names, stack) {
-        Ok(map) => match table_of(alloc, &names, &map, built) {
-            Ok(table) => Ok(table),
-            Err(_) => Err(Fault::memory(alloc)),
-        },
-        Err(fault) => Err(fault),
+    let mapped = map_of(alloc, set, main, &mut names, stack)?;
+    match table_of(alloc, set, main, names, &mapped, built) {
+        Ok(table) => Ok(table),
+        Err(_) => Err(Fault::memory(alloc)),
     }
 }
 
 fn table_of(
     alloc: Global,
-    names: &Names,
-    map: &CodeMap,
+    set: &FileSet,
+    main: &str,
+    names: Names,
+    mapped: &Mapped,
     built: &Built,
 ) -> Result<SymbolTable, AllocError> {
-    let mut files = Files::new(alloc, names)?;
-    let mut functions = functions(alloc, names, map, built, &mut files)?;
+    let mut names = names;
+    let objects_named = names_of_set(alloc, set, main, &mut names, &mapped.program)?;
+    let map = &mapped.map;
+    let mut files = Files::new(alloc, &names)?;
+    let told = Told {
+        program: &mapped.program,
+        names: &names,
+        objects: &objects_named,
+    };
+    let mut functions = functions(alloc, &told, map, built, &mut files)?;
     put_calls(alloc, &mut functions, map.references.as_slice())?;
     Ok(SymbolTable {
         functions,
-        objects: objects(alloc, names, map.objects.as_slice())?,
+        objects: objects(alloc, &told, map.objects.as_slice())?,
         loads: loads(alloc, map.references.as_slice())?,
         files: files.list,
         text: text_of(alloc, map.functions.as_slice(), built.elf.as_slice())?,
     })
 }
 
+/// The program and its names.
+#[derive(Clone, Copy)]
+struct Told<'a> {
+    program: &'a Program,
+    names: &'a Names,
+    objects: &'a ProgramNames,
+}
+
 fn functions(
     alloc: Global,
-    names: &Names,
+    told: &Told<'_>,
     map: &CodeMap,
     built: &Built,
     files: &mut Files<'_>,
 ) -> Result<Vec<Function>, AllocError> {
     let mut functions = Vec::with_capacity(alloc, map.functions.len())?;
-    for (code, (_, frame, weight)) in map.functions.iter().zip(built.frames.iter()) {
-        functions.push(Function {
-            name: String::from_str(alloc, names.shown_text(code.name))?,
-            frame: *frame,
-            weight: *weight,
-            start: code.start,
-            size: code.end.wrapping_sub(code.start),
-            calls: Vec::new(alloc),
-            lines: lines(alloc, code, files)?,
-        })?;
+    for (number, code) in map.functions.iter().enumerate() {
+        if let Some((_, frame, weight)) = built.frames.get(number) {
+            functions.push(Function {
+                name: String::from_str(alloc, told.names.shown_text(code.name))?,
+                frame: *frame,
+                weight: *weight,
+                start: code.start,
+                size: code.end.wrapping_sub(code.start),
+                calls: Vec::new(alloc),
+                lines: lines(alloc, code, files)?,
+                variables: function_variables(alloc, told.program, told.objects, number, code)?,
+            })?;
+        }
     }
     Ok(functions)
 }
@@ -173,7 +198,7 @@ fn index_at(functions: &[Function], address: u32) -> Option<usize> {
     None
 }
 
-/// Notes the callees of each function. A function is a new callee where its mark is another than the caller's number and one.
+/// Records the callees of each function. A function is a new callee where its mark is not the caller's number plus one.
 fn put_calls(
     alloc: Global,
     functions: &mut [Function],
@@ -204,7 +229,7 @@ fn put_call(
     Ok(())
 }
 
-/// Marks a function; answers whether it had another mark.
+/// Marks a function; returns whether it had another mark.
 fn is_new(marks: &mut [usize], number: usize, mark: usize) -> bool {
     match marks.get_mut(number) {
         Some(old) => {
@@ -216,19 +241,35 @@ fn is_new(marks: &mut [usize], number: usize, mark: usize) -> bool {
     }
 }
 
-/// The objects that take bytes.
-fn objects(alloc: Global, names: &Names, all: &[DataObject]) -> Result<Vec<Object>, AllocError> {
+/// The objects that take bytes. String literals come first.
+fn objects(alloc: Global, told: &Told<'_>, all: &[DataObject]) -> Result<Vec<Object>, AllocError> {
     let mut objects = Vec::with_capacity(alloc, all.len())?;
-    for object in all {
+    for (number, object) in all.iter().enumerate() {
         if object.size != 0 {
             objects.push(Object {
-                name: object_name(alloc, names, object.name)?,
+                name: object_name(alloc, told.names, object.name)?,
                 address: object.address,
                 size: object.size,
+                object_type: static_type(alloc, told.program, number)?,
             })?;
         }
     }
     Ok(objects)
+}
+
+/// The type of the object with this number, where it is no string literal.
+fn static_type(
+    alloc: Global,
+    program: &Program,
+    number: usize,
+) -> Result<Option<VariableType>, AllocError> {
+    let Some(behind) = number.checked_sub(program.literals.len()) else {
+        return Ok(None);
+    };
+    match program.statics.get(behind) {
+        Some(object) => Ok(Some(object_type(alloc, &object.object_type, false)?)),
+        None => Ok(None),
+    }
 }
 
 fn object_name(

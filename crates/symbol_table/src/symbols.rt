@@ -1,6 +1,7 @@
-//! An ELF file of symbols beside an executable file, for debuggers and disassemblers.
+//! An ELF file of symbols next to an executable file, for debuggers and disassemblers.
 
-use crate::debug_lines::{ABBREVIATIONS, line_table};
+use crate::debug_entries::{ABBREVIATIONS, info_section};
+use crate::debug_lines::line_section;
 use crate::functions::{Object, SymbolTable};
 use std::alloc::{AllocError, Global};
 
@@ -11,7 +12,7 @@ const SECTION_SIZE: u32 = 40;
 
 const SYMBOL_SIZE: u32 = 16;
 
-/// The names of the sections, each behind a zero byte.
+/// The names of the sections, each after a zero byte.
 const SECTION_NAMES: &[u8] =
     b"\0.text\0.symtab\0.strtab\0.debug_abbrev\0.debug_info\0.debug_line\0.shstrtab\0.data\0";
 
@@ -23,7 +24,7 @@ const DATA_SECTION: u16 = 8;
 /// The address of the text.
 const TEXT_START: u32 = 0x1_1000;
 
-/// What a section header says.
+/// The contents of a section header.
 #[derive(Clone, Copy)]
 struct Section {
     name: u32,
@@ -38,7 +39,7 @@ struct Section {
     entry_size: u32,
 }
 
-/// What a symbol says.
+/// The contents of a symbol.
 #[derive(Clone, Copy)]
 struct Symbol {
     name: u32,
@@ -49,20 +50,21 @@ struct Symbol {
 }
 
 /// An ELF32 file with the code of a program, and a symbol for each of its functions and of its objects with static storage, and for
-/// `_start`, where it begins: for `objdump -d`, and for a debugger beside the executable file, whose addresses it has. Its line table
-/// has the line of each statement. Its section of data has no bytes.
+/// `_start`, where it begins: for `objdump -d`, and for a debugger next to the executable file, whose addresses it has. Its line table
+/// has the line of each statement, and its entries the types and the places of variables. Its section of data has no bytes.
 pub fn symbol_file(alloc: Global, map: &SymbolTable) -> Result<Vec<u8>, AllocError> {
     let mut names = Vec::new(alloc);
     let mut symbols = Vec::new(alloc);
     put_symbols(map, &mut names, &mut symbols)?;
-    let lines = line_table(alloc, map)?;
+    let info = info_section(alloc, map)?;
+    let lines = line_section(alloc, map)?;
     let contents = [
         map.text.as_slice(),
         symbols.as_slice(),
         names.as_slice(),
         ABBREVIATIONS,
-        lines.info.as_slice(),
-        lines.lines.as_slice(),
+        info.as_slice(),
+        lines.as_slice(),
         SECTION_NAMES,
     ];
     let mut file = Vec::new(alloc);
@@ -75,7 +77,7 @@ pub fn symbol_file(alloc: Global, map: &SymbolTable) -> Result<Vec<u8>, AllocErr
     Ok(file)
 }
 
-/// Where the sections' headers begin: behind the file's header and all contents.
+/// The offset of the section headers: after the file's header and all contents.
 fn table_place(contents: &[&[u8]]) -> u32 {
     let mut place = HEADER_SIZE;
     for content in contents {
@@ -89,7 +91,7 @@ fn size(count: usize) -> u32 {
     (count % 0x1_0000_0000) as u32
 }
 
-/// Puts the symbols and their names: the empty one, `_start`, the functions, and the objects that have names.
+/// Appends the symbols and their names: the empty one, `_start`, the functions, and the objects that have names.
 fn put_symbols(
     map: &SymbolTable,
     names: &mut Vec<u8>,
@@ -151,7 +153,7 @@ fn object_symbol(object: &Object) -> Symbol {
     }
 }
 
-/// Puts a symbol and its name.
+/// Appends a symbol and its name.
 fn put_named(
     names: &mut Vec<u8>,
     symbols: &mut Vec<u8>,
@@ -179,7 +181,7 @@ fn put_symbol(symbols: &mut Vec<u8>, symbol: &Symbol) -> Result<(), AllocError> 
     put_half(symbols, symbol.section)
 }
 
-/// Puts the ELF header of an executable file for RISC-V without program headers, with nine sections.
+/// Appends the ELF header of an executable file for RISC-V without program headers, with nine sections.
 fn put_header(file: &mut Vec<u8>, table_at: u32) -> Result<(), AllocError> {
     file.extend_from_slice(&[0x7F, 0x45, 0x4C, 0x46, 1, 1, 1, 0, 0, 0, 0, 0, 0, 0, 0, 0])?;
     put_half(file, 2)?;
@@ -193,7 +195,7 @@ fn put_header(file: &mut Vec<u8>, table_at: u32) -> Result<(), AllocError> {
     Ok(())
 }
 
-/// Puts the headers of the sections: the empty one, and one for each of the contents.
+/// Appends the headers of the sections: the empty one, and one for each of the contents.
 fn put_sections(file: &mut Vec<u8>, contents: &[&[u8]]) -> Result<(), AllocError> {
     put_section(file, &plain_section(0, 0, 0, 0))?;
     let mut offset = HEADER_SIZE;

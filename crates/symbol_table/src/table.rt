@@ -1,4 +1,4 @@
-//! What each function takes, as a table.
+//! The sizes of each function, as a table.
 
 use crate::depth::{Chain, Cost, deepest};
 use crate::functions::{Function, SymbolTable};
@@ -7,13 +7,13 @@ use std::alloc::{AllocError, Global};
 /// The fewest letters of the column of names.
 const NAME_WIDTH: usize = 8;
 
-/// A line for each function: its name, the bytes of its frame, its weight, the bytes of its code, and what it calls; behind them
-/// the greatest sums along the calls from `main` on, or a circle of calls, for which there is none.
+/// A line for each function: its name, the bytes of its frame, its weight, the bytes of its code, and the functions it calls; after them
+/// the greatest sums along the calls from `main` on, or a cycle of calls, for which there is none.
 pub fn frames_table(alloc: Global, map: &SymbolTable) -> Result<String, AllocError> {
     table(alloc, map, false)
 }
 
-/// The same, with the address of each function behind its name.
+/// The same, with the address of each function after its name.
 pub fn sizes_table(alloc: Global, map: &SymbolTable) -> Result<String, AllocError> {
     table(alloc, map, true)
 }
@@ -61,7 +61,7 @@ fn name_width(functions: &[Function]) -> usize {
     width
 }
 
-/// Puts a text, and spaces up to this width.
+/// Appends a text, and spaces up to this width.
 fn put_padded(text: &str, width: usize, out: &mut String) -> Result<(), AllocError> {
     out.push_str(text)?;
     for _ in text.len()..width {
@@ -70,7 +70,7 @@ fn put_padded(text: &str, width: usize, out: &mut String) -> Result<(), AllocErr
     Ok(())
 }
 
-/// Puts what a function takes, and what it calls.
+/// Prints the sizes of a function, and the functions it calls.
 fn put_function(
     alloc: Global,
     map: &SymbolTable,
@@ -114,7 +114,7 @@ fn put_chain(
     }
 }
 
-/// Puts names with ` > ` between them.
+/// Appends names with ` > ` between them.
 fn put_names(map: &SymbolTable, numbers: &[usize], out: &mut String) -> Result<(), AllocError> {
     for (place, number) in numbers.iter().enumerate() {
         out.push_str(if place == 0 { " " } else { " > " })?;

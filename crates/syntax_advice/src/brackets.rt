@@ -30,7 +30,7 @@ pub fn open_before(words: &Words<'_>, number: usize) -> Option<usize> {
     None
 }
 
-/// The number of the token that closes what the token with this number opens.
+/// The number of the token that closes the bracket opened by the token with this number.
 pub fn close_behind(words: &Words<'_>, open: usize) -> Option<usize> {
     let mut depth: usize = 0;
     for place in open..words.list.len() {

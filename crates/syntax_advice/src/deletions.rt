@@ -1,11 +1,11 @@
-//! What may be too much at a token, or what the compiler leaves out.
+//! Candidates for a superfluous token, or for a construct that the compiler leaves out.
 
 use crate::brackets::{close_behind, is_closing, open_before};
 use crate::expectation::{Candidate, Expected, inserted, replaced, tried};
 use crate::vocabulary::{is_identifier, is_keyword, is_type_word};
 use source_words::Words;
 
-/// Two tokens in a row that stand for one operator of C.
+/// Two tokens in a row in place of one operator of C.
 pub fn operator(words: &Words<'_>, number: usize) -> Option<Candidate> {
     let before = number.checked_sub(1)?;
     match joined(words, before) {
@@ -29,7 +29,7 @@ pub fn operator(words: &Words<'_>, number: usize) -> Option<Candidate> {
     }
 }
 
-/// The operator that is meant by the token with this number and the next, where nothing stands between them.
+/// The operator that is meant by the token with this number and the next, where nothing is between them.
 fn joined(words: &Words<'_>, number: usize) -> Option<&'static str> {
     let next = number.saturating_add(1);
     if words.end(number) != words.start(next) {
@@ -58,7 +58,7 @@ pub fn power(words: &Words<'_>, number: usize) -> Option<Candidate> {
     None
 }
 
-/// What the compiler leaves out, by the token that begins it.
+/// The construct that the compiler leaves out, by the token that begins it.
 pub fn left_out(words: &Words<'_>, number: usize) -> Option<Candidate> {
     match words.at(number) {
         b"*" => Some(stars(words, number)),
@@ -103,7 +103,7 @@ fn stars(words: &Words<'_>, number: usize) -> Candidate {
     without(words, number, past.saturating_add(1), expected)
 }
 
-/// A `[` that stands before a name, in a list of initialisers, or behind the parameters of a function.
+/// A `[` before a name, in a list of initialisers, or after the parameters of a function.
 fn bracket(words: &Words<'_>, number: usize) -> Option<Candidate> {
     let past = close_behind(words, number)?.saturating_add(1);
     let before = words.before(number);
@@ -126,7 +126,7 @@ fn member(words: &Words<'_>, number: usize) -> Candidate {
     }
 }
 
-/// A braced list behind a type in parentheses.
+/// A braced list after a type in parentheses.
 fn compound_literal(words: &Words<'_>, number: usize) -> Option<Candidate> {
     if !matches!(words.before(number), b")") {
         return None;
@@ -177,7 +177,7 @@ pub fn brace_before_function(words: &Words<'_>, number: usize) -> Option<Candida
     Some(inserted(words, first, Expected::CloseBrace, "\n}"))
 }
 
-/// A name in place of a keyword that stands where a declaration names something.
+/// A name in place of a keyword that is where a declaration names something.
 pub fn keyword_as_name(words: &Words<'_>, number: usize) -> Option<Candidate> {
     let is_named = is_type_word(words.before(number)) || matches!(words.before(number), b",");
     if is_named && is_keyword(words.at(number)) {

@@ -6,11 +6,11 @@ use source_words::Words;
 /// Why an `else` has no `if`.
 #[derive(Clone, Copy, Debug, PartialEq, Eq)]
 pub enum LoneElse {
-    /// No `if` stands before it in its block.
+    /// No `if` precedes it in its block.
     NoIf,
-    /// The token with this number is a `;` directly behind the head of the `if`, whose body it is.
+    /// The token with this number is a `;` directly after the head of the `if`, whose body it is.
     EmptyBody(usize),
-    /// The `if` with this number ended with the first statement behind its head.
+    /// The `if` with this number ended with the first statement after its head.
     Ended(usize),
 }
 

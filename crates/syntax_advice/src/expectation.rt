@@ -1,8 +1,8 @@
-//! A change that may mend a syntax error, and what it says of it.
+//! A change that may mend a syntax error, and its message.
 
 use source_words::Words;
 
-/// What was expected at a token that does not fit, or what is wrong with it.
+/// The expectation at a token that does not fit, or the error in the token.
 #[derive(Clone, Copy, Debug, PartialEq, Eq)]
 pub enum Expected {
     Semicolon,
@@ -48,7 +48,7 @@ pub enum Expected {
     Indirection,
     /// An operand without `&`.
     Address,
-    /// The brackets behind the name.
+    /// The brackets after the name.
     BracketsBehindName,
     /// An initialiser without a designator.
     Designator,
@@ -74,16 +74,16 @@ pub enum Expected {
 #[derive(Clone, Copy, Debug, PartialEq, Eq)]
 pub struct Candidate {
     pub expected: Expected,
-    /// How many bytes of the file stand before the change.
+    /// The offset of the change in the file, in bytes.
     pub start: usize,
-    /// How many bytes there are up to the end of what is replaced.
+    /// The offset of the end of the replaced text, in bytes.
     pub end: usize,
     pub text: &'static str,
     /// Whether the change is one to be made, and not only a trial.
     pub is_fix: bool,
 }
 
-/// A text behind the token before the one with this number.
+/// A text after the token before the one with this number.
 pub fn inserted(
     words: &Words<'_>,
     number: usize,

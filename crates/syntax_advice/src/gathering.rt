@@ -12,7 +12,7 @@ use crate::type_names::{known_type_name, type_name};
 use source_words::Words;
 use std::alloc::{AllocError, Global};
 
-/// The most changes that are tried, each of them one more reading of the source.
+/// The most changes that are tried, each of them one more parse of the source.
 const MAX_TRIED: usize = 24;
 
 /// The changes that may mend a syntax error at the token with this number, the likeliest first: at most 24.
@@ -67,7 +67,7 @@ fn put_some(
     Ok(())
 }
 
-/// What may be missing behind the last token of the file.
+/// The candidate for a missing token after the last token of the file.
 fn at_end(words: &Words<'_>, number: usize) -> Option<Candidate> {
     let past = number.saturating_add(1);
     if past < words.list.len() {

@@ -1,4 +1,4 @@
-//! What may be missing before a token.
+//! Candidates for a missing token before a token.
 
 use crate::brackets::{open_before, wants_colon, wants_statement};
 use crate::expectation::{Candidate, Expected, inserted, replaced, tried};
@@ -6,7 +6,7 @@ use crate::vocabulary::{has_head, is_identifier, is_type_word};
 use source_words::Words;
 use std::alloc::AllocError;
 
-/// Puts what may be missing before the token with this number.
+/// Adds the candidates for a missing token before the token with this number.
 pub fn put_insertions(
     words: &Words<'_>,
     number: usize,
@@ -49,7 +49,7 @@ fn put_all(
     Ok(())
 }
 
-/// What may stand between two tokens that open and close.
+/// The text that may be between two tokens that open and close.
 fn pair_of_nothing(words: &Words<'_>, number: usize) -> Option<Candidate> {
     match (words.before(number), words.at(number)) {
         (b"(", b")") => Some(inserted(words, number, Expected::VoidParameters, "void")),
@@ -70,7 +70,7 @@ fn ending(words: &Words<'_>, number: usize, inside: &[u8], owner: &[u8]) -> Opti
     Some(inserted(words, number, Expected::Semicolon, ";"))
 }
 
-/// What closes the innermost token that is open.
+/// The token that closes the innermost one that is open.
 fn closing(words: &Words<'_>, number: usize, inside: &[u8]) -> Option<Candidate> {
     match inside {
         b"(" => Some(inserted(words, number, Expected::CloseParenthesis, ")")),
@@ -88,7 +88,7 @@ pub fn head(words: &Words<'_>, number: usize) -> Option<Candidate> {
     None
 }
 
-/// What separates arguments, parameters, initialisers and enumerators.
+/// The token that separates arguments, parameters, initialisers and enumerators.
 fn separating(words: &Words<'_>, number: usize, inside: &[u8], owner: &[u8]) -> Option<Candidate> {
     let is_list = match inside {
         b"(" => is_identifier(owner),

@@ -1,4 +1,4 @@
-//! What was expected where a token does not fit the grammar (ISO/IEC 9899:2011 6.5 to 6.9): changes of the source that may mend it.
+//! The expectation where a token does not fit the grammar (ISO/IEC 9899:2011 6.5 to 6.9): changes of the source that may mend it.
 #![tactic(auto)]
 
 mod brackets;

@@ -1,4 +1,4 @@
-//! Words that may have been meant.
+//! Likely intended spellings of words.
 
 use crate::brackets::open_before;
 use crate::expectation::{Candidate, Expected, replaced};
@@ -47,7 +47,7 @@ fn keyword_within(alloc: Global, word: &str, distance: usize) -> Result<&'static
     Ok("")
 }
 
-/// What may be meant by a word; empty where nothing is near.
+/// The likely intended spelling of a word; empty where nothing is near.
 fn meant(alloc: Global, word: &[u8]) -> Result<&'static str, AllocError> {
     if !is_identifier(word) || word.len() < 2 || word.len() > MAX_WORD {
         return Ok("");
@@ -63,7 +63,7 @@ fn is_else_if(word: &[u8]) -> bool {
     matches!(word, b"elif" | b"elseif" | b"elsif")
 }
 
-/// Puts the keyword that may be meant by the token with this number.
+/// Appends the keyword that the token with this number probably misspells.
 fn put_word(
     alloc: Global,
     words: &Words<'_>,
@@ -93,7 +93,7 @@ fn word_of_head(words: &Words<'_>, number: usize) -> Option<usize> {
     }
 }
 
-/// Puts the keywords that may be meant where the token with this number does not fit: by it, by the word before it, or by the one before
+/// Appends the likely intended keywords where the token with this number does not fit: for it, for the word before it, or for the one before
 /// its parentheses.
 pub fn put_words(
     alloc: Global,

@@ -1,10 +1,10 @@
-//! What was expected, in words.
+//! The texts of expectations.
 
 use crate::expectation::Expected;
 use crate::type_names::known_type;
 use std::alloc::{AllocError, Global};
 
-/// What to say of a token that does not fit. `token` is that token, `word` what the change replaces, `text` what stands there instead.
+/// The message for a token that does not fit. `token` is that token, `word` the text that the change replaces, `text` its replacement.
 pub fn expected_text(
     alloc: Global,
     expected: Expected,
@@ -29,7 +29,7 @@ pub fn expected_text(
     }
 }
 
-/// What is said of a token by what was expected alone.
+/// The message for a token by the expectation alone.
 fn plain_text(
     alloc: Global,
     expected: Expected,
@@ -50,7 +50,7 @@ fn plain_text(
     }
 }
 
-/// What is said of a form that the compiler leaves out, or that C has not; empty for any other.
+/// The message for a form that the compiler leaves out, or that C does not have; empty for any other.
 fn left_out_text(expected: Expected) -> &'static str {
     match expected {
         Expected::Then => "C has no `then`: the statement follows the `)`",
@@ -71,7 +71,7 @@ fn left_out_text(expected: Expected) -> &'static str {
     }
 }
 
-/// What to write instead; empty where that is said already. `word` is what the change replaces.
+/// The replacement to suggest; empty where the message says it already. `word` is the text that the change replaces.
 pub fn expected_help(expected: Expected, word: &[u8]) -> &'static str {
     match expected {
         Expected::TypeName => type_help(word),
@@ -93,7 +93,7 @@ pub fn expected_help(expected: Expected, word: &[u8]) -> &'static str {
     }
 }
 
-/// What to write in place of a type that is none.
+/// The replacement to suggest for a type that is none.
 fn type_help(name: &[u8]) -> &'static str {
     match name {
         b"bool" => "`#include <stdbool.h>` defines `bool`, `true` and `false`",

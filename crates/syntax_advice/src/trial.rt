@@ -1,10 +1,10 @@
-//! A source file with a change, laid out so that the line of its next fault tells how far it is read.
+//! A source file with a change, laid out so that the line of its next fault shows how far it is parsed.
 
 use crate::expectation::Candidate;
 use source_words::Words;
 use std::alloc::{AllocError, Global};
 
-/// What stands behind the main file: where it is read up to its last line, all before it fits. A block cannot hold its first line.
+/// The text after the main file: where it is parsed up to its last line, all before it fits. A block cannot contain its first line.
 const SENTINEL: &str = "int zk_end(\nvoid) {\n)\n";
 
 /// A file to be read.
@@ -17,7 +17,7 @@ pub struct Trial {
     pub last: u32,
 }
 
-/// The file with a change, where each token behind the one with this number begins a line.
+/// The file with a change, where each token after the one with this number begins a line.
 pub fn trial_text(
     alloc: Global,
     words: &Words<'_>,
@@ -49,7 +49,7 @@ pub fn trial_text(
     })
 }
 
-/// The number of the first token from this one on that stands behind so many bytes.
+/// The number of the first token from this one on that begins at offset `place` or later.
 fn first_behind(words: &Words<'_>, from: usize, place: usize) -> usize {
     for number in from..words.list.len() {
         if words.start(number) >= place {
@@ -59,7 +59,7 @@ fn first_behind(words: &Words<'_>, from: usize, place: usize) -> usize {
     words.list.len()
 }
 
-/// Puts a token and what follows it up to the next one.
+/// Appends a token and the text after it up to the next one.
 fn put_line(words: &Words<'_>, number: usize, text: &mut Vec<u8>) -> Result<(), AllocError> {
     let next = words.start(number.saturating_add(1));
     text.push(b'\n')?;
@@ -71,7 +71,7 @@ fn put_line(words: &Words<'_>, number: usize, text: &mut Vec<u8>) -> Result<(), 
     )
 }
 
-/// Puts all tokens from this one on, each on a line of its own.
+/// Appends all tokens from this one on, each on a line of its own.
 fn put_lines(words: &Words<'_>, from: usize, text: &mut Vec<u8>) -> Result<(), AllocError> {
     for number in from..words.list.len() {
         put_line(words, number, text)?;

@@ -1,4 +1,4 @@
-//! Names that stand where a type is wanted.
+//! Names at a place that requires a type.
 
 use crate::expectation::{Candidate, Expected, replaced, tried};
 use crate::vocabulary::{is_front, is_identifier};
@@ -18,7 +18,7 @@ pub fn known_type(name: &[u8]) -> &'static str {
     }
 }
 
-/// The number of the name that stands where a type is wanted, where the token with this number does not fit.
+/// The number of the name at a place that requires a type, where the token with this number does not fit.
 fn name_for_type(words: &Words<'_>, number: usize) -> Option<usize> {
     let next = number.saturating_add(1);
     if is_identifier(words.at(number))

@@ -74,7 +74,7 @@ fn is_left_out_word(token: &[u8]) -> bool {
     )
 }
 
-/// Whether a statement, a declaration or a parameter can begin behind this token, which is empty at the start of a file.
+/// Whether a statement, a declaration or a parameter can begin after this token, which is empty at the start of a file.
 pub fn is_front(before: &[u8]) -> bool {
     matches!(
         before,
@@ -93,7 +93,7 @@ pub fn is_front(before: &[u8]) -> bool {
     )
 }
 
-/// Whether a token begins a statement whose head stands in parentheses.
+/// Whether a token begins a statement whose head is in parentheses.
 pub fn has_head(token: &[u8]) -> bool {
     matches!(token, b"if" | b"while" | b"for" | b"switch")
 }

@@ -70,7 +70,7 @@ start_as P s t n i e1 e2 e3 x =
 
 -- ---- a list, of whose initialisers some are left
 
--- what was written so far, for all of them, where `rest` is left for k more from number i on
+-- the instructions written so far, for all of them, where `rest` is left for k more from number i on
 pub record Filling (p : typed.Program) (f : typed.Function) (all : Initialisers) (count : ℕ) (lengths : List ℕ) (a : Start)
     (rest : Initialisers) (k : ℕ) (b : Start) (old new : List Instruction) : Type 0 where
   pub begins : Begins old new

@@ -13,7 +13,7 @@ use Rattle.lower_ops.proofs.Parts.{none_wrote}
 use Rattle.tac.specs.inside.FirstSizes.{word_size, fills_size, first_size}
 use Rattle.tac.specs.inside.Written.{WroteFills, WroteInitialises}
 
--- what is looked up among the types of objects
+-- a look-up among the types of objects
 pub looked_up : {A B C : Type 0} (F : Option B → C) (f : A → B) (xs : List A) (i : ℕ) (o : Option A) → slice_get xs i ≡ o → F (option_map f o) ≡ F (slice_get (map f xs) i)
 looked_up F f xs i o e = sym (ap F (slice_get-map f xs i ∙ ap (option_map f) e))
 

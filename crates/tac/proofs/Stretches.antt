@@ -17,7 +17,7 @@ use Rattle.tac.specs.inside.Starts.{element_at, WroteBegins, WroteClears}
 
 -- ---- loops
 
--- a loop begins where its first instruction stands
+-- a loop begins at its first instruction
 at_top : (limit top : ℕ) (c0 : List Instruction) {c1 c2 : List Instruction} → top ≡ plus (length c0) 0 → length c0 < 4611686018427387904
     → Wrote (λ w p q. GoesOn w limit top p q) goes_on_size c1 c2 → Wrote (λ w p q. GoesOn w limit (length c0) p q) goes_on_size c1 c2
 at_top limit top c0 {c1} {c2} e l x =

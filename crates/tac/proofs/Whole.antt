@@ -1,4 +1,4 @@
--- Functions and programs of what was written.
+-- Functions and programs of the instructions written.
 use Rattle.std.proofs.Common.{◌≡◌, ℕ, zero, suc, ◌+◌, ◌<◌, Bool, max, List, [], ◌∷◌, ◌++◌, take, get_or, length, map, Option, Some, None, refl, ap, sym, ◌∙◌, subst, length-append, arith}
 use Rattle.std.specs.Prelude.{slice_get, nat_eq}
 use Rattle.std.proofs.lemmas.List.{take_more}

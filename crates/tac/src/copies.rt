@@ -1,4 +1,4 @@
-//! Types of objects, string literals and objects with static storage once more.
+//! Copies of types of objects, string literals and objects with static storage.
 
 ghost use Rattle.std.specs.Prelude.{◌≡◌, map, IfOk};
 ghost use Rattle.typed_ast.specs.View.{object_type_of, static_of};

@@ -168,7 +168,7 @@ fn temporaries_of(functions: &[Function], instruction: Instruction) -> Result<us
     }
 }
 
-/// The most temporaries that an instruction asks for, a function of the program having as many parameters as its source has.
+/// The most temporaries that an instruction needs, a function of the program having as many parameters as its source has.
 pub(crate) fn most_temporaries(
     functions: &[Function],
     code: &[Instruction],
@@ -316,7 +316,7 @@ fn slots_of(instruction: Instruction) -> Result<usize, AllocError>
     }
 }
 
-/// The most slots that an instruction asks for.
+/// The most slots that an instruction needs.
 pub(crate) fn most_slots(code: &[Instruction]) -> Result<usize, AllocError>
     ensures { IfOk result (λ n. n ≡ relation.most relation.slots_of code.now) }
 {

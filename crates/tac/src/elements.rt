@@ -182,7 +182,7 @@ fn put_clears_by_loop(code: &mut Code, start: Start, count: usize) -> Result<(),
     Ok(())
 }
 
-/// So many elements become zero (6.7.9p21).
+/// `count` elements become zero (6.7.9p21).
 pub(crate) fn put_clears(code: &mut Code, start: Start, count: usize) -> Result<(), AllocError>
     ensures { OnOk result (WroteClears count start code.old.list.items code.new.list.items) }
 {
@@ -217,7 +217,7 @@ fn put_clears_rest(
     Ok(())
 }
 
-/// So many elements become a literal, which has so many characters with its zero (6.7.9p14).
+/// `count` elements become a literal, which has `characters` characters with its zero (6.7.9p14).
 pub(crate) fn put_copies(
     code: &mut Code,
     start: Start,

@@ -18,7 +18,7 @@ use lower_ops::row_sizes::Scope;
 use lower_ops::spots::cuts_for;
 use typed_ast::{Initialiser, Value};
 
-// ---- what the sizes go by
+// ---- the parameters of the sizes
 
 pub(crate) fn first_length(lengths: &[u32]) -> u32
     ensures { result ≡ meaning.first_length lengths.now }
@@ -78,7 +78,7 @@ fn clears_size(count: usize) -> usize
     plus(plus(1, 1), clears_to_size())
 }
 
-/// So many rows or elements become zero.
+/// `rows` rows or elements become zero.
 fn rest_size(rows: u32, lengths: &[u32]) -> usize
     ensures { result ≡ size.clears_size (rows * type.elements_in lengths.now) }
 {

@@ -37,7 +37,7 @@ pub(crate) fn all_free() -> Free
     }
 }
 
-/// An object that is no array gets its first value, which costs a tick behind its expression.
+/// An object that is no array gets its first value, which costs a tick after its expression.
 fn put_word(
     scope: &Scope<'_>,
     code: &mut Code,
@@ -85,7 +85,7 @@ fn put_set(
     Ok(())
 }
 
-/// So many elements ahead.
+/// `count` elements ahead.
 fn ahead_of(start: Start, count: usize) -> Result<Start, AllocError>
     ensures { IfOk result (λ s. (s.element ≡ start.element) × (s.array ≡ start.array) × (s.number ≡ start.number + count)) }
 {
@@ -99,7 +99,7 @@ fn ahead_of(start: Start, count: usize) -> Result<Start, AllocError>
     }
 }
 
-/// So many elements or rows of these lengths; what the list leaves becomes zero (6.7.9p17, p21).
+/// `count` elements or rows of these lengths; those that the list omits become zero (6.7.9p17, p21).
 #[cycle(fills)]
 fn put_fill_all(
     scope: &Scope<'_>,
@@ -124,7 +124,7 @@ fn put_fill_all(
     Ok(())
 }
 
-/// What begins at an element, and has these lengths.
+/// An initialiser that begins at an element, and has these lengths.
 #[cycle(fills)]
 fn put_fills(
     scope: &Scope<'_>,

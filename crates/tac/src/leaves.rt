@@ -19,7 +19,7 @@ use std::alloc::AllocError;
 use tac_code::{Instruction, Target};
 use typed_ast::{Initialiser, Value};
 
-/// What may be left out: nothing is evaluated.
+/// An expression that may be left out: nothing is evaluated.
 pub(crate) fn put_effects(
     scope: &Scope<'_>,
     code: &mut Code,
@@ -36,7 +36,7 @@ pub(crate) fn put_effects(
     }
 }
 
-/// What may be left out: a loop goes on.
+/// An expression that may be left out: a loop goes on.
 pub(crate) fn put_repeats(
     scope: &Scope<'_>,
     code: &mut Code,

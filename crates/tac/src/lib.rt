@@ -18,4 +18,4 @@ mod switches;
 pub use functions::lower_function;
 pub use laws::{function_is_code, functions_are_code};
 pub use programs::lower;
-pub use statement_starts::{CodeStart, code_starts};
+pub use statement_starts::{CodeScope, CodeStart, code_scopes, code_starts};

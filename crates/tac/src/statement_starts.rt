@@ -1,4 +1,4 @@
-//! Where the code of each statement of a function begins, for listings and debuggers.
+//! Where the code of each statement of a function begins, and that of each block ends, for listings and debuggers.
 
 use crate::block_sizes::{effects_size, repeats_size, statement_size, tests_size};
 use lower_exprs::operands::waits_for_objects;
@@ -10,16 +10,66 @@ use srcset::Pos;
 use std::alloc::{AllocError, Global};
 use typed_ast::{ForControl, Function, Place, Program, Statement, Value};
 
-/// A place in the source, and the number of the instruction of its function with which the code of what stands there begins.
+/// A place in the source, and the number of the instruction of its function with which the code of the construct there begins.
 #[derive(Clone, Copy, Debug)]
 pub struct CodeStart {
     pub place: Pos,
     pub number: usize,
 }
 
-fn put_start(starts: &mut Vec<CodeStart>, place: Pos, number: usize) -> Result<(), AllocError> {
-    starts.push(CodeStart { place, number })?;
+/// The instructions of a scope (6.2.1p4): a block, or a `for` with its declarations. It has `count` objects from number `first` on; those of a scope within it
+/// are among them.
+#[derive(Clone, Copy, Debug)]
+pub struct CodeScope {
+    pub first: usize,
+    pub count: usize,
+    /// The number of its first instruction, and that after its last.
+    pub start: usize,
+    pub end: usize,
+}
+
+/// The starts and scopes found in a function. A scope comes before those within it.
+#[derive(Drop)]
+struct Found {
+    starts: Vec<CodeStart>,
+    scopes: Vec<CodeScope>,
+}
+
+fn put_start(found: &mut Found, place: Pos, number: usize) -> Result<(), AllocError> {
+    found.starts.push(CodeStart { place, number })?;
     Ok(())
+}
+
+/// Adds a scope that begins at an instruction. Returns its number.
+fn open_scope(
+    found: &mut Found,
+    first: usize,
+    count: usize,
+    start: usize,
+) -> Result<usize, AllocError> {
+    let number = found.scopes.len();
+    found.scopes.push(CodeScope {
+        first,
+        count,
+        start,
+        end: start,
+    })?;
+    Ok(number)
+}
+
+/// The scope with this number ends before an instruction.
+fn close_scope(found: &mut Found, number: usize, end: usize) {
+    if let Some(scope) = found.scopes.get_mut(number) {
+        scope.end = end;
+    }
+}
+
+/// The number of the object that a declaration declares.
+fn declared_object(declared: &[Statement]) -> usize {
+    match declared.first() {
+        Some(Statement::Declare(_, object)) | Some(Statement::Define(_, object, _)) => *object,
+        _ => 0,
+    }
 }
 
 /// The place of an expression's operator or name, if it has one.
@@ -39,97 +89,130 @@ fn place_of_object(place: &Place) -> Pos {
     }
 }
 
-/// A `for` (6.8.5.3), from behind its first instruction on.
+/// A `for` (6.8.5.3), from after its first instruction on.
 #[cycle(code_starts)]
 fn put_for(
     scope: &Scope<'_>,
-    starts: &mut Vec<CodeStart>,
+    found: &mut Found,
     place: Pos,
     declared: &[Statement],
     control: &ForControl,
     body: &Statement,
     at: usize,
 ) -> Result<usize, AllocError> {
-    let start = put_statements(scope, starts, declared, at)?;
+    let number = open_scope(found, declared_object(declared), declared.len(), at)?;
+    let start = put_statements(scope, found, declared, at)?;
     let jump = plus(start, effects_size(&control.start));
-    let step = put_statement(scope, starts, body, plus(jump, 1))?;
-    put_start(starts, place, step)?;
+    let step = put_statement(scope, found, body, plus(jump, 1))?;
+    put_start(found, place, step)?;
     let test = plus(step, effects_size(&control.step));
-    Ok(plus(test, repeats_size(&control.test)))
+    let behind = plus(test, repeats_size(&control.test));
+    close_scope(found, number, behind);
+    Ok(behind)
 }
 
-/// A body behind which its test stands (6.8.5.1, 6.8.5.2).
+/// A body followed by its test (6.8.5.1, 6.8.5.2).
 #[cycle(code_starts)]
 fn put_loop(
     scope: &Scope<'_>,
-    starts: &mut Vec<CodeStart>,
+    found: &mut Found,
     place: Pos,
     test: &Value,
     body: &Statement,
     at: usize,
 ) -> Result<usize, AllocError> {
-    let behind = put_statement(scope, starts, body, at)?;
-    put_start(starts, place, behind)?;
+    let behind = put_statement(scope, found, body, at)?;
+    put_start(found, place, behind)?;
     Ok(plus(behind, value_size(test, Shape::Jump)))
 }
 
-/// Statements one behind the other, from the instruction `at` on. It answers the number of the one behind them.
+/// Consecutive statements, from the instruction `at` on. Returns the number of the instruction after them.
 #[cycle(code_starts)]
 fn put_statements(
     scope: &Scope<'_>,
-    starts: &mut Vec<CodeStart>,
+    found: &mut Found,
     all: &[Statement],
     at: usize,
 ) -> Result<usize, AllocError> {
     match all.split_first() {
         None => Ok(at),
         Some((statement, more)) => {
-            let behind = put_statement(scope, starts, statement, at)?;
-            put_statements(scope, starts, more, behind)
+            let behind = put_statement(scope, found, statement, at)?;
+            put_statements(scope, found, more, behind)
         }
     }
 }
 
-/// A statement whose code begins at the instruction `at`. It answers the number of the one behind it.
+/// The statements of a block, from the instruction `at` on; its objects are `count` from `first` on, and its code begins at `start`.
+#[cycle(code_starts)]
+fn put_block(
+    scope: &Scope<'_>,
+    found: &mut Found,
+    block: (usize, usize, usize),
+    all: &[Statement],
+    at: usize,
+) -> Result<usize, AllocError> {
+    let (first, count, start) = block;
+    let number = open_scope(found, first, count, start)?;
+    let behind = put_statements(scope, found, all, at)?;
+    close_scope(found, number, behind);
+    Ok(behind)
+}
+
+/// A statement whose code begins at the instruction `at`. Returns the number of the instruction after it.
 #[cycle(code_starts)]
 fn put_statement(
     scope: &Scope<'_>,
-    starts: &mut Vec<CodeStart>,
+    found: &mut Found,
     statement: &Statement,
     at: usize,
 ) -> Result<usize, AllocError> {
     let place = statement.place();
-    put_start(starts, place, at)?;
+    put_start(found, place, at)?;
     let next = plus(at, 1);
     match statement {
-        Statement::Block(_, _, _, all) => put_statements(scope, starts, all, next),
+        Statement::Block(_, first, count, all) => {
+            put_block(scope, found, (*first, *count, at), all, next)
+        }
         Statement::If(_, e, a) => {
-            put_statement(scope, starts, a, plus(next, value_size(e, Shape::Jump)))
+            put_statement(scope, found, a, plus(next, value_size(e, Shape::Jump)))
         }
         Statement::IfElse(_, e, a, b) => {
             let test = plus(next, value_size(e, Shape::Jump));
-            let behind = put_statement(scope, starts, a, test)?;
-            put_statement(scope, starts, b, plus(behind, 1))
+            let behind = put_statement(scope, found, a, test)?;
+            put_statement(scope, found, b, plus(behind, 1))
         }
         Statement::Switch(_, _, e, first, count, all) => {
             let value = value_size(e, shape_for(waits_for_objects(e, *first, *count)));
             let tests = plus(plus(next, value), 1);
-            put_statements(scope, starts, all, plus(tests, tests_size(all)))
+            let inside = plus(tests, tests_size(all));
+            put_block(scope, found, (*first, *count, inside), all, inside)
         }
-        Statement::While(_, e, a) => put_loop(scope, starts, place, e, a, next),
+        Statement::While(_, e, a) => put_loop(scope, found, place, e, a, next),
         Statement::DoWhile(_, a, e) => {
             let test = place_of(e).unwrap_or(place);
-            put_loop(scope, starts, test, e, a, next)
+            put_loop(scope, found, test, e, a, next)
         }
         Statement::For(_, declared, control, a) => {
-            put_for(scope, starts, place, declared, control, a, next)
+            put_for(scope, found, place, declared, control, a, next)
         }
         _ => Ok(plus(at, statement_size(scope, statement))),
     }
 }
 
-/// Where the code of each statement of a function begins, in the order of their code: the numbers of instructions of the code that
-/// `lower_function` makes. That of a loop's test or step, which stands behind the loop's body, is told too.
+fn found_in(alloc: Global, program: &Program, function: &Function) -> Result<Found, AllocError> {
+    let scope = Scope { program, function };
+    let mut found = Found {
+        starts: Vec::new(alloc),
+        scopes: Vec::new(alloc),
+    };
+    let idles = plus(1, function.function_type.parameters.len());
+    put_statement(&scope, &mut found, &function.body, idles)?;
+    Ok(found)
+}
+
+/// Where the code of each statement of a function begins, in the order of their code: the numbers of instructions of the code that `lower_function` makes. That
+/// of a loop's test or step, which follows the loop's body, is included.
 ///
 /// Fails only where there is no memory. Takes time by the statements and the depth to which they are nested.
 pub fn code_starts(
@@ -137,9 +220,17 @@ pub fn code_starts(
     program: &Program,
     function: &Function,
 ) -> Result<Vec<CodeStart>, AllocError> {
-    let scope = Scope { program, function };
-    let mut starts = Vec::new(alloc);
-    let idles = plus(1, function.function_type.parameters.len());
-    put_statement(&scope, &mut starts, &function.body, idles)?;
-    Ok(starts)
+    let found = found_in(alloc, program, function)?;
+    Ok(found.starts)
+}
+
+/// The scopes of a function, each before those within it, with the instructions that `lower_function` makes of them. It fails and takes
+/// time as `code_starts`.
+pub fn code_scopes(
+    alloc: Global,
+    program: &Program,
+    function: &Function,
+) -> Result<Vec<CodeScope>, AllocError> {
+    let found = found_in(alloc, program, function)?;
+    Ok(found.scopes)
 }

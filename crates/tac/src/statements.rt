@@ -132,7 +132,7 @@ fn put_do_while(
     Ok(())
 }
 
-/// A `for`, whose test stands behind its body.
+/// A `for`, whose test follows its body.
 #[cycle(statement_code)]
 fn put_for(
     scope: &Scope<'_>,
@@ -164,7 +164,7 @@ fn put_for(
     Ok(())
 }
 
-/// The instructions of a `for` as far as its body's jump, and so many more.
+/// The instructions of a `for` as far as its body's jump, and `more` further ones.
 fn before_body(
     scope: &Scope<'_>,
     declared: &[Statement],
@@ -182,7 +182,7 @@ fn before_body(
     )
 }
 
-/// Its objects are forgotten behind its value, which one of them cannot hold.
+/// Its objects are forgotten after its value, which one of them cannot hold.
 #[cycle(statement_code)]
 fn put_switch(
     scope: &Scope<'_>,
@@ -210,7 +210,7 @@ fn put_switch(
     Ok(())
 }
 
-/// The code of statements, one behind the other.
+/// The code of consecutive statements.
 #[cycle(statement_code)]
 fn put_statements(
     scope: &Scope<'_>,

@@ -28,8 +28,8 @@ fn label_at(statement: &Statement) -> Option<Option<i64>>
     }
 }
 
-/// The tests of the labels among statements, the first of which is to stand at `at`; where none is met, the code goes to `other`. Each
-/// call of itself is its last act and nothing of its own is lent to it, so that a compiler makes a loop of it.
+/// The tests of the labels among statements, the first of which is to be placed at `at`; where none matches, the code goes to `other`. Each recursive call is a
+/// tail call and borrows no local of the caller, so that a compiler makes a loop of it.
 pub(crate) fn put_tests(
     scope: &Scope<'_>,
     code: &mut Code,

@@ -1,4 +1,4 @@
--- One walk over the instructions: what a step adds to the history, and that the open calls stay those of the history.
+-- One walk over the instructions: the entries that a step adds to the history, and that the open calls stay those of the history.
 use Rattle.std.proofs.Common.{◌≡◌, ℕ, zero, suc, ◌+◌, Bool, true, false, List, [], ◌∷◌, ◌++◌, map, Option, Some, None, refl, ap, ◌∙◌, subst, sym, arith}
 use Rattle.csem.specs.Store.{Tree, Reference, into, tree_at}
 use Rattle.csem.specs.History.{Entry, Did, Entered, Left, active, without_innermost}
@@ -24,7 +24,7 @@ Adds s stuck = Unit {0}
 pub record Follows (s : State) (r : Progress) : Type 0 where
   pub adds : Adds s r
 
--- what hangs on a value that may be absent, or on a test
+-- continuations of a value that may be absent, or of a test
 bound : {A : Type 0} (s : State) (o : Option A) (go : A → Progress) → ((x : A) → Follows s (go x)) → Follows s (o >>= go)
 bound s None go each = record { adds = tt }
 bound s (Some x) go each = each x
@@ -148,7 +148,7 @@ grows_on : (h h2 h3 : List Entry) → Grows h h2 → Grows h2 h3 → Grows h h3
 grows_on h h2 h3 first second =
     (second.0 ++ first.0, second.1 ∙ (ap (λ es. second.0 ++ es) first.1 ∙ joins first.0 second.0 h))
 
--- a run from t on, where s has come to t
+-- a run from t on, where s has reached t
 goes_further : (s t : State) (r : Progress) → Grows s.history t.history → ComesOf (running t) r → ComesOf (running s) r
 goes_further s t (running u) first second = grows_on s.history t.history u.history first second
 goes_further s t (ended status input history) first second = grows_on s.history t.history history first second

@@ -1,5 +1,5 @@
--- Programs and their three-address code, both computed: they end in the same way, having done the same; where the program meets an
--- undefined behaviour its code is stuck. The sources stand above; each clock has exactly the ticks that the run takes.
+-- Programs and their three-address code, both computed: they end in the same way, with the same trace; where the program meets undefined behaviour its code is
+-- stuck. The source is above each; each clock has exactly the ticks that the run takes.
 use Rattle.std.proofs.Common.{◌≡◌, ℕ, ◌+◌, ◌*◌, List, [], ◌∷◌, ℤ, pos, negsuc, refl, Some, None, Option, Bool, true, false}
 use Rattle.std.specs.Prelude.{zero, suc, ◌&&◌, ◌-◌, ◌^◌, nat_le, nat_eq}
 use Rattle.srcset.specs.declared.refusal.Pos.{Pos}
@@ -38,7 +38,7 @@ use Rattle.tac_code.specs.Spans.{span, own_bytes}
 use Rattle.tac_code.specs.Designated.{in_function}
 use Rattle.tac_code.specs.Costs.{spent_in_all, function_bytes, call_bytes}
 
--- ---- what a row tells
+-- ---- the result of a row
 
 -- a run that ended with a status, and used all its ticks
 abbrev ended_with : ℕ → machine.State → Progress
@@ -63,7 +63,7 @@ all_fit [] (g ∷ gs) = false
 all_fit (f ∷ fs) [] = false
 all_fit (f ∷ fs) (g ∷ gs) = nat_le (call_bytes g) f.weight && (nat_le (call_bytes g) (span f) && (nat_le (function_bytes g) (128 * f.nodes + 1024) && all_fit fs gs))
 
--- what lowering asks for, where it can be computed
+-- the premises of lowering, where they can be computed
 abbrev all_checked : typed.Program → List typed.Function → Bool
 all_checked p [] = true
 all_checked p (f ∷ fs) = nat_eq f.weight (weight_of f.nodes (own_bytes f)) && (in_function p f && all_checked p fs)

@@ -1,5 +1,5 @@
--- How many instructions of RV32IM each instruction comes to at most, how many bytes of code, and how many bytes of the stack a
--- call takes. A word of the frame takes up to three to read or write, where it lies past the reach of 12 bits; a constant two.
+-- At most how many instructions of RV32IM each instruction takes, how many bytes of code, and how many bytes of the stack a call takes. A word of the frame
+-- takes up to three to read or write, where it is past the reach of 12 bits; a constant two.
 use Rattle.std.specs.Prelude.{ℕ, zero, suc, ◌+◌, ◌*◌, ◌-◌, ◌/◌, max, nat_lt, if◌then◌else◌, List, [], ◌∷◌, length, sum_by, Option, Some, None}
 use Rattle.ctypes.specs.Types.{bytes_of}
 use Rattle.typing_spec.specs.Units.{bytes_of_objects}
@@ -50,7 +50,7 @@ cost_on (running s) go = go s
 cost_on (ended status input history) go = 0
 cost_on stuck go = 0
 
--- what n steps cost
+-- the cost of n steps
 abbrev pub spent : Program → ℕ → State → ℕ
 spent p zero s = 0
 spent p (suc n) s = cost_if p (instruction_at p s) + cost_on (step p s) (spent p n)

@@ -5,7 +5,7 @@ use Rattle.csem.specs.Laws.{Grows}
 use Rattle.tac_code.specs.Code.{Program}
 use Rattle.tac_code.specs.Run.{State, Progress, running, ended, stuck, open_calls, run, start}
 
--- the second is the first, or what comes of it: more was done, and what has ended stays
+-- the second is the first, or follows it: its history is no shorter, and an outcome stays
 abbrev pub ComesOf : Progress → Progress → Type 0
 ComesOf (running s) (running t) = Grows s.history t.history
 ComesOf (running s) (ended status input history) = Grows s.history history
@@ -31,7 +31,7 @@ IsSeen weight n (running s) = n ≤ greatest_sum weight s.history
 IsSeen weight n (ended status input history) = n ≤ greatest_sum weight history
 IsSeen weight n stuck = Unit {0}
 
--- the weights of the calls that are open at a step are never more than the greatest sum that the history of a later step tells
+-- the weights of the calls that are open at a step are never more than the greatest sum in the history of a later step
 abbrev pub WeightsAreSeen : Type 0
 WeightsAreSeen = (weight : ℕ → ℕ) (p : Program) (n k : ℕ) (input : List ℕ) (s : State) → run p n (start p input) ≡ running s →
     IsSeen weight (sum_of weight (open_calls s)) (run p (n + k) (start p input))

@@ -1,4 +1,4 @@
--- What it is for three-address code to do what a typed program does: the contract of lowering.
+-- The relation of three-address code to a typed program that it simulates: the contract of lowering.
 use Rattle.std.specs.Prelude.{◌≡◌, ◌≤◌, ◌<◌, ℕ, ◌+◌, ◌*◌, ◌^◌, true, List, [], map, length, slice_get, Some}
 use Rattle.ctypes.specs.declared.types.IntType.TheVariants as ty
 use Rattle.tree.specs.Counts.{weight_of}
@@ -28,11 +28,11 @@ abbrev pub kind_of : ParameterType → Parameter
 kind_of (number t) = parameter.Number
 kind_of (elements t) = parameter.Array
 
--- at most 60 instructions of RV32IM, by what its instructions cost, for each of n ticks, and 60 for the beginning of main
+-- at most 60 instructions of RV32IM, by the costs of its instructions, for each of n ticks, and 60 for the beginning of main
 abbrev pub CostsAtMost : Program → List ℕ → (m n : ℕ) → Type 0
 CostsAtMost q input m n = spent_in_all q m (start q input) ≤ 60 * n + 60
 
--- after m steps the run has done just what the abstract machine has done when n ticks are used, and goes on
+-- after m steps the run has exactly the history of the abstract machine when n ticks are used, and goes on
 abbrev pub GoesOn : Program → List ℕ → (m : ℕ) → machine.State → Type 0
 GoesOn q input m s = (t : State) × (run_of q input m ≡ running t) × (t.history ≡ s.history) × (t.input ≡ s.input)
 
@@ -54,7 +54,7 @@ pub record IsCodeOf (f : typed.Function) (g : Function) : Type 0 where
   pub within_span : call_bytes g ≤ span f
   pub code : function_bytes g ≤ 128 * f.nodes + 1024
 
--- what lowering gives
+-- the postcondition of lowering
 pub record IsLowered (p : typed.Program) (q : Program) : Type 0 where
   pub sound : IsSoundProgram q
   pub behaves : (input : List ℕ) → AreBytes input → Behaves p q input
@@ -64,16 +64,16 @@ pub record IsLowered (p : typed.Program) (q : Program) : Type 0 where
   pub count : length q.functions ≡ length p.functions
   pub each : (k : ℕ) (f : typed.Function) (g : Function) → slice_get p.functions k ≡ Some f → slice_get q.functions k ≡ Some g → IsCodeOf f g
 
--- ---- what lowering asks for
+-- ---- the premises of lowering
 
--- its weight is that of its nodes and objects, its nodes are within their limit, no object is without bytes, and what it designates is defined
+-- its weight is that of its nodes and objects, its nodes are within their limit, no object is without bytes, and each name in it is defined
 pub record FunctionIsChecked (p : typed.Program) (f : typed.Function) : Type 0 where
   pub weight : f.weight ≡ weight_of f.nodes (own_bytes f)
   pub nodes : f.nodes ≤ function_node_limit
   pub sized : (n : ℕ) (o : ObjectType) → slice_get f.objects n ≡ Some o → 0 < size_of_object o
   pub defined : in_function p f ≡ true
 
--- what the checker is to say of a program
+-- the facts that the checker is to establish of a program
 pub record IsChecked (p : typed.Program) : Type 0 where
   pub well_typed : is_typed p ≡ true
   pub main_takes_nothing : (f : typed.Function) → slice_get p.functions p.main ≡ Some f → f.type.parameters ≡ []

@@ -1,4 +1,4 @@
--- What three-address code does, by a count of steps, over the objects of the abstract machine (ISO/IEC 9899:2011 6.2.4). Reading what was
+-- The semantics of three-address code, by a count of steps, over the objects of the abstract machine (ISO/IEC 9899:2011 6.2.4). Reading an operand that was
 -- never set, undefined behaviour, a word that is no value of its object's type: the run is stuck, and a stuck run promises nothing.
 use Rattle.std.specs.Prelude.{ℕ, zero, suc, ◌+◌, ◌*◌, ◌-◌, ◌%◌, ◌^◌, ◌==◌, ◌&&◌, not, nat_lt, Bool, true, false, if◌then◌else◌, ℤ, pos, int_lt, List, [], ◌∷◌, ◌++◌, map, length, take, drop, slice_get, option_map, Option, Some, None, Result, Ok, Err}
 use Rattle.ctypes.specs.declared.types.IntType.{IntType}
@@ -55,8 +55,8 @@ pub record Call : Type 0 where
   pub base : ℕ
   pub arrays : List Reference
 
--- the call that runs, and its temporaries; the calls that wait, the newest first; the objects that live, the input left, and what
--- was done, the newest first
+-- the call that runs, and its temporaries; the calls that wait, the newest first; the objects that live, the input left, and the history, the newest entry
+-- first
 pub record State : Type 0 where
   pub call : Call
   pub temporaries : Values
@@ -85,7 +85,7 @@ where_true false go = stuck
 
 -- ---- words and numbers
 
--- the word of a number, and the number of a type that a word stands for
+-- the word of a number, and the number of a type that a word represents
 abbrev pub word_for : ℤ → ℕ
 word_for v = modulo 32 v
 
@@ -227,7 +227,7 @@ abbrev mutual
   elements_of_row no_parts = 0
   elements_of_row (and_part t row) = elements_of t + elements_of_row row
 
--- ---- elements, counted in the order in which they lie (6.5.2.1p3)
+-- ---- elements, counted in memory order (6.5.2.1p3)
 
 -- the subscripts of element i
 abbrev mutual
@@ -253,7 +253,7 @@ abbrev mutual
   first_in (and_part t row) zero path = first_of t path
   first_in (and_part t row) (suc k) path = elements_of t + first_in row k path
 
--- element i of an object, and the one that lies i elements behind a reference
+-- element i of an object, and the one that is i elements after a reference
 abbrev pub element_of : (object : ℕ) → Option Tree → ℕ → Option Reference
 element_of x None i = None
 element_of x (Some t) i = option_map (λ path. record { object = x; path = path }) (path_of t i)
@@ -316,7 +316,7 @@ number_object None w = None
 number_object (Some t) None = None
 number_object (Some t) (Some w) = if is_word_of t w then Some (Element (Some (number_of t w))) else None
 
--- from the arguments in temporary k and those behind it
+-- from the arguments in temporary k and the later ones
 abbrev pub numbers_in : List Parameter → List ObjectType → Values → ℕ → Option (List Tree)
 numbers_in [] objects temporaries k = Some []
 numbers_in (parameter.Array ∷ more) objects temporaries k = numbers_in more objects temporaries (suc k)

@@ -1,4 +1,4 @@
--- Which three-address programs are sound: each instruction names what there is, and what there is has its place. What the next step takes.
+-- Which three-address programs are sound: each instruction names only existing things, and each of them has its place. The needs of the next step.
 use Rattle.std.specs.Prelude.{◌≡◌, ◌≤◌, ◌<◌, ℕ, ◌+◌, ◌^◌, Bool, true, false, List, [], ◌∷◌, length, slice_get, sum_by, Some, None}
 use Rattle.ctypes.specs.declared.types.IntType.{IntType}
 use Rattle.typing_spec.specs.Types.{ObjectType, elements_in, size_of_object}

@@ -3,7 +3,7 @@
 use ctypes::IntType;
 use typed_ast::{ObjectType, Static};
 
-/// What an instruction reads.
+/// An operand of an instruction.
 #[derive(Clone, Copy, Debug, PartialEq, Eq)]
 pub enum Operand {
     /// A temporary, which a call loses.
@@ -12,7 +12,7 @@ pub enum Operand {
     Kept(usize),
     /// An object of the present call that is no array.
     Object(usize),
-    /// What an array parameter refers to, these numbered apart.
+    /// The array that an array parameter refers to, these numbered apart.
     Parameter(usize),
     Constant(u32),
 }
@@ -33,7 +33,7 @@ pub enum Place {
     Static(usize),
     /// An array of the present call.
     Array(usize),
-    /// One of its elements, counted from 0 in the order in which they lie (6.5.2.1p3), and their type.
+    /// One of its elements, counted from 0 in memory order (6.5.2.1p3), and their type.
     Element {
         array: usize,
         number: usize,
@@ -125,15 +125,14 @@ pub enum Instruction {
         index: Operand,
         size: usize,
     },
-    /// A reference to the element that lies `count` elements behind the one that `from` leads to, or behind the first one there, in the
-    /// same object.
+    /// A reference to the element that is `count` elements after the one that `from` leads to, or after the first one there, in the same object.
     Element {
         element: IntType,
         target: Target,
         from: Operand,
         count: Operand,
     },
-    /// So many objects of the call, from number `first` on, become indeterminate (6.2.4p6).
+    /// `count` objects of the call, from number `first` on, become indeterminate (6.2.4p6).
     Forget {
         first: usize,
         count: usize,
@@ -155,7 +154,7 @@ pub enum Instruction {
     Return,
 }
 
-/// What a call passes for a parameter (6.9.1p10): a number, which becomes an object, or a reference to an array.
+/// The value that a call passes for a parameter (6.9.1p10): a number, which becomes an object, or a reference to an array.
 #[derive(Clone, Copy, Debug, PartialEq, Eq)]
 pub enum Parameter {
     Number,
@@ -174,7 +173,7 @@ pub struct Function {
     pub kept: usize,
 }
 
-/// A program: its functions, its string literals with the zero behind them, its objects with static storage, and the number of `main`.
+/// A program: its functions, its string literals with their terminating zero, its objects with static storage, and the number of `main`.
 #[derive(Drop)]
 pub struct TacProgram {
     pub functions: Vec<Function>,

@@ -2,7 +2,7 @@
 
 ghost use Rattle.tac_code.specs.Laws.{RunGrows, CallsAreActive, WeightsAreSeen};
 
-/// After more steps a run has done what it did after fewer, and perhaps more behind it; one that has ended stays so.
+/// After more steps a run has the history that it had after fewer, perhaps with newer entries; one that has ended stays so.
 pub fn run_grows()
     ensures { RunGrows }
 {}
@@ -12,7 +12,7 @@ pub fn calls_are_active()
     ensures { CallsAreActive }
 {}
 
-/// The weights of the calls that are open at a step sum to no more than the greatest sum that the history of a later step tells.
+/// The weights of the calls that are open at a step sum to no more than the greatest sum in the history of a later step.
 pub fn weights_are_seen()
     ensures { WeightsAreSeen }
 {}

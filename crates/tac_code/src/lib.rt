@@ -1,5 +1,5 @@
-//! Three-address code: functions over numbered temporaries and over the objects of the abstract machine. Today its types, what it
-//! does as a definition, what it is for it to do what a program does, and laws of its runs.
+//! Three-address code: functions over numbered temporaries and over the objects of the abstract machine. Today its types, its semantics as a definition, the
+//! relation of simulating a program, and laws of its runs.
 #![tactic(auto)]
 
 mod code;

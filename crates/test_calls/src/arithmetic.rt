@@ -3,7 +3,7 @@
 use ctypes::{BinOp, IntType, Undef, binary, compatible, convert, promote, size_of, usual};
 use test_rows::{Answer, Fields};
 
-/// The type that a letter stands for.
+/// The type that a letter denotes.
 pub fn int_type(letter: u8) -> IntType {
     match letter {
         b'b' => IntType::Bool,

@@ -30,7 +30,7 @@ fn listed<W: Write>(alloc: Global, items: &Items, base: u32, writer: &mut W) -> 
     }
 }
 
-/// The items of a row behind their base, which is in hexadecimal.
+/// The items of a row after their base, which is in hexadecimal.
 fn placed(row: &Fields, answer: &mut Answer) -> Option<(u32, Items)> {
     match items_of(answer.alloc(), row.field(2)) {
         Some(items) => Some((hexadecimal(row.field(1)), items)),
@@ -59,7 +59,7 @@ pub fn word(row: &Fields, answer: &mut Answer) {
     }
 }
 
-/// The lines of a listing, with `|` behind each, or the code of the fault.
+/// The lines of a listing, with `|` after each, or the code of the fault.
 fn show_listing(items: &Items, base: u32, answer: &mut Answer) {
     let mut lines = Vec::new(answer.alloc());
     let code = listed(answer.alloc(), items, base, &mut lines);
@@ -76,7 +76,7 @@ fn show_listing(items: &Items, base: u32, answer: &mut Answer) {
     }
 }
 
-/// `code BASE ITEMS`: the words of the items' code, `WORD*COUNT` for so many that follow one another, or the code of the fault.
+/// `code BASE ITEMS`: the words of the items' code, `WORD*COUNT` for equal words that follow one another, or the code of the fault.
 pub fn code(row: &Fields, answer: &mut Answer) {
     let Some((base, items)) = placed(row, answer) else {
         return;
@@ -141,7 +141,7 @@ pub fn jump(row: &Fields, answer: &mut Answer) {
     answer.show(&!lines.is_empty());
 }
 
-/// `listing BASE ITEMS`: the lines of the listing, and to how many writers that refuse from some byte on it is told as 803, with just
+/// `listing BASE ITEMS`: the lines of the listing, and for how many writers that refuse from some byte on it fails with 803, with just
 /// the bytes before written.
 pub fn listing(row: &Fields, answer: &mut Answer) {
     let Some((base, items)) = placed(row, answer) else {

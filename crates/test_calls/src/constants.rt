@@ -12,7 +12,7 @@ use tree::{Declaration, Expr, External, Specifier, Unit};
 use typed_ast::{DeclaredType, ObjectType, Storage};
 use typing_scopes::{Linkage, Meaning, Scope, State};
 
-/// An object of a type's letter and the lengths behind it. To a constant expression its storage is nothing.
+/// An object of a type's letter and the lengths after it. Its storage does not matter to a constant expression.
 fn object(alloc: Global, words: &mut Words<'_>, answer: &mut Answer) -> Meaning {
     let letter = words.word();
     let mut lengths = Vec::new(alloc);

@@ -54,7 +54,7 @@ fn assertion<'t>(parts: &mut Pieces<'t>, condition: &'t Expr, text: usize) {
     parts.add(Piece::Text(b"\");"));
 }
 
-/// The specifiers, each with a space behind it.
+/// The specifiers, each with a space after it.
 fn specifiers<'t>(parts: &mut Pieces<'t>, part: &'t Specifiers) {
     for one in &part.list {
         specifier(parts, one);
@@ -145,7 +145,7 @@ fn function_declarator<'t>(parts: &mut Pieces<'t>, part: &'t FunctionDeclarator)
     }))
 }
 
-/// A parameter, its specifiers with a space behind each.
+/// A parameter, its specifiers with a space after each.
 pub fn parameter<'t>(parts: &mut Pieces<'t>, part: &'t Parameter) {
     for specifier in &part.specifiers.list {
         type_specifier(parts, *specifier);

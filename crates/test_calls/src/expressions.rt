@@ -76,7 +76,7 @@ fn before<'t>(
     parts.add(Piece::Text(b")"));
 }
 
-/// Two operands behind an opening parenthesis, with a text between and behind them.
+/// Two operands after an opening parenthesis, with a text between and after them.
 fn between<'t>(
     parts: &mut Pieces<'t>,
     left: &'t Expr,

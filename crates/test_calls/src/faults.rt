@@ -93,7 +93,7 @@ pub fn out_of_memory(answer: &mut Answer) {
     show_fault(&Refusal::from(AllocError).to_fault(alloc, &names), answer);
 }
 
-/// A writer that is interrupted so often, then takes two bytes at a time, so many in all.
+/// A writer that is interrupted `interrupts` times, then takes two bytes at a time, `room` in all.
 #[derive(Drop)]
 struct Halting {
     interrupts: i64,
@@ -118,7 +118,7 @@ impl Write for Halting {
     }
 }
 
-/// `write INTERRUPTS ROOM TEXT`: whether the text is written, and what of it.
+/// `write INTERRUPTS ROOM TEXT`: whether the text is written, and the part of it that is.
 pub fn write(row: &Fields, answer: &mut Answer) {
     let mut writer = Halting {
         interrupts: row.number(1),

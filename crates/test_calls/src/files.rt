@@ -1,9 +1,9 @@
-//! Files that a text says.
+//! Files described by a text.
 
 use std::alloc::Global;
 use test_rows::{Words, bytes};
 
-/// A file of `SIZE PLACE=BYTES PLACE=BYTES ..`: so many bytes, 0 where no others are told.
+/// A file of `SIZE PLACE=BYTES PLACE=BYTES ..`: `SIZE` bytes, 0 where no others are given.
 pub fn file_of(alloc: Global, text: &[u8]) -> Vec<u8> {
     let mut words = Words::new(text, b' ');
     let size = usize::try_from(words.number()).unwrap_or(0);

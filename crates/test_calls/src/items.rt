@@ -1,4 +1,4 @@
-//! Items that a text says.
+//! Items described by a text.
 
 use asm::{Item, Items, ItemsBuilder, Label};
 use rv32::{Five, ImmediateOp, Instr, Short, Test, decode};
@@ -70,7 +70,7 @@ fn next_item(kind: u8, words: &mut Words<'_>) -> Option<Item> {
     }
 }
 
-/// Adds the item of a text, or so many instructions that do nothing.
+/// Adds the item of a text, or a number of instructions that do nothing.
 fn add_item(items: &mut Vec<Item>, text: &[u8]) -> bool {
     let mut words = Words::new(text, b' ');
     let kind = *words.word().first().unwrap_or(&0);
@@ -92,7 +92,7 @@ fn add_times(items: &mut Vec<Item>, item: &Item, times: u32) -> bool {
     true
 }
 
-/// The items that the text says; none where it says something else.
+/// The items that the text describes; none where it is malformed.
 pub fn list_of(alloc: Global, text: &[u8]) -> Vec<Item> {
     let mut items = Vec::new(alloc);
     let mut is_read = true;

@@ -1,4 +1,4 @@
-//! Prints what calls of libraries answer for the rows of its input, a line each.
+//! Prints the results of library calls for the rows of its input, a line each.
 #![tactic(auto)]
 
 mod arithmetic;
@@ -60,7 +60,7 @@ fn main(rt: HostRuntime) -> ExitCode {
     }
 }
 
-/// Sets, names and faults, and what texts are read as.
+/// Sets, names and faults, and the parsed forms of texts.
 fn of_sources(row: &Fields, answer: &mut Answer) -> bool {
     match row.text(0) {
         "file" => sets::file(row, answer),

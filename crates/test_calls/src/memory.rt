@@ -1,4 +1,4 @@
-//! Calls of a state and of its memory, with their answers.
+//! Calls of a state and of its memory, with their results.
 
 use crate::files::file_of;
 use loader::load;
@@ -60,7 +60,7 @@ pub fn calls_of_image(row: &Fields, answer: &mut Answer) {
     answer_calls(&mut state, row.field(2), answer);
 }
 
-/// What each call answers, with `;` behind it.
+/// The result of each call, with `;` after it.
 fn answer_calls(state: &mut State, calls: &[u8], answer: &mut Answer) {
     for call in calls.split(|byte| *byte == b';') {
         let mut words = Words::new(call, b' ');
@@ -69,8 +69,8 @@ fn answer_calls(state: &mut State, calls: &[u8], answer: &mut Answer) {
     }
 }
 
-/// A call is a letter and its arguments: `s` step, `p` the pc, `a` advance, `j` jump, `r` and `w` for a register; behind an address `f` fetch, `W`, `H`
-/// and `B` load a word, a half and a byte, `c` whether it can be written, and `o`, `h` and `b` store a word, a half and a byte.
+/// A call is a letter and its arguments: `s` step, `p` the pc, `a` advance, `j` jump, `r` and `w` for a register; after an address `f` fetch,
+/// `W`, `H` and `B` load a word, a half and a byte, `c` whether it can be written, and `o`, `h` and `b` store a word, a half and a byte.
 fn answer_call(state: &mut State, words: &mut Words<'_>, answer: &mut Answer) {
     let letter = *words.word().first().unwrap_or(&0);
     match letter {

@@ -102,8 +102,8 @@ fn writer_of(row: &Fields, answer: &Answer) -> TestWriter {
     }
 }
 
-/// `port FILE INPUT ends|fails ROOM STEPS STEPS ..`, over a reader and a writer that are interrupted: what each run comes to, what
-/// `finish` answers, the bytes put, and those of the input that are left.
+/// `port FILE INPUT ends|fails ROOM STEPS STEPS ..`, over a reader and a writer that are interrupted: the outcome of each run, the
+/// result of `finish`, the bytes put, and those of the input that are left.
 pub fn run(row: &Fields, answer: &mut Answer) {
     let Some(mut machine) = machine_of(row, answer) else {
         return;
@@ -123,7 +123,7 @@ pub fn run(row: &Fields, answer: &mut Answer) {
     answer.field(reader.bytes.get(reader.next..).unwrap_or(&[]));
 }
 
-/// A port that refuses each call, and tells neither its input nor its output.
+/// A port that refuses each call, and reports neither its input nor its output.
 #[derive(Drop)]
 struct RefusingPort {
     failures: u64,
@@ -145,7 +145,7 @@ impl Port for RefusingPort {
     }
 }
 
-/// `silent FILE STEPS STEPS ..`, over a port that refuses each call: what each run comes to, and how many calls were refused by then.
+/// `silent FILE STEPS STEPS ..`, over a port that refuses each call: the outcome of each run, and how many calls were refused by then.
 pub fn run_silent(row: &Fields, answer: &mut Answer) {
     let Some(mut machine) = machine_of(row, answer) else {
         return;

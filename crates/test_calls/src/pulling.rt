@@ -15,7 +15,7 @@ pub const MAIN: &str = "row.c";
 /// More tokens than a stream gives.
 const LIMIT: u32 = 1_048_577;
 
-// Has the lexer take a token. Behind a fault, which is kept, the same has to come again.
+// Has the lexer take a token. After a fault, which is kept, the lexer has to report the same one again.
 fn takes(lexer: &mut Lexer, fault: &mut Option<Fault>, token: &PpToken, names: &mut Names) -> bool
     ensures { KeepsNumbers names.old names.new }
 {
@@ -71,7 +71,7 @@ pub fn pull_list(
     true
 }
 
-// Passes the tokens that are left. Whether this fault stands behind them.
+// Skips the tokens that are left. Whether this fault follows them.
 fn passes_to(alloc: Global, pp: &mut Pp, names: &mut Names, fault: &Fault) -> bool
     requires { IsStream names.old pp.old }
     ensures { IsStream names.new pp.new }
@@ -111,7 +111,7 @@ pub fn ends_so(alloc: Global, pp: &mut Pp, names: &mut Names, fault: Option<&Fau
     true
 }
 
-/// Whether the stream of a set ends in this fault, and tells it again.
+/// Whether the stream of a set ends in this fault, and reports it again.
 pub fn ends_in(alloc: Global, set: &FileSet, fault: &Fault) -> bool {
     let mut names = Names::new(alloc);
     let mut pp = match Pp::new(alloc, set, &mut names, MAIN) {

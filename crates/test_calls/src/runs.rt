@@ -18,7 +18,7 @@ pub fn machine_of(row: &Fields, answer: &mut Answer) -> Option<Machine> {
     }
 }
 
-/// What each run of so many steps on comes to, with `;` behind it.
+/// The outcome of each run of the given numbers of steps, with `;` after it.
 pub fn show_runs<P: Port>(machine: &mut Machine, port: &mut P, steps: &[u8], answer: &mut Answer) {
     for count in steps.split(|byte| *byte == b' ') {
         let most = u64::try_from(decimal(count)).unwrap_or(0);
@@ -27,7 +27,7 @@ pub fn show_runs<P: Port>(machine: &mut Machine, port: &mut P, steps: &[u8], ans
     }
 }
 
-/// `run FILE INPUT STEPS STEPS ..`: what each run of so many steps on comes to, the bytes put, the next byte of the input, and how many
+/// `run FILE INPUT STEPS STEPS ..`: the outcome of each run of these numbers of steps, the bytes put, the next byte of the input, and how many
 /// calls of the port were refused.
 pub fn run(row: &Fields, answer: &mut Answer) {
     let Some(mut machine) = machine_of(row, answer) else {

@@ -1,4 +1,4 @@
-//! What is the same under two tables of names.
+//! Equality of faults and tokens under two tables of names.
 
 use lexer::{Kind, Token};
 use phases::PpToken;

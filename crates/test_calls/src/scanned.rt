@@ -21,7 +21,7 @@ pub fn show_line(fault: &Fault, answer: &mut Answer) {
     }
 }
 
-/// `KIND:SPELLING:LINE`, and `:space` where white space stands before it.
+/// `KIND:SPELLING:LINE`, and `:space` where white space precedes it.
 fn show_token(token: &PpToken<'_>, answer: &mut Answer) {
     answer.debug(&token.kind());
     answer.write(b":");
@@ -44,7 +44,7 @@ fn show_copies(line: &[PpToken<'_>], answer: &mut Answer) {
     answer.write(b"\\n");
 }
 
-/// `text TEXT`: copies of its tokens, each with a space behind it and each line with a newline, or the fault's line.
+/// `text TEXT`: copies of its tokens, each with a space after it and each line with a newline, or the fault's line.
 pub fn text(row: &Fields, answer: &mut Answer) {
     let text = row.field(1);
     if text.len() > MAX_FILE_BYTES {

@@ -5,7 +5,7 @@ use srcset::{Fault, FileSet, Names, builtin};
 use std::alloc::Global;
 use test_rows::{Answer, Fields};
 
-/// A set of the files `0.c`, `1.c` and so on, so many, each with its name as its bytes.
+/// A set of `count` files `0.c`, `1.c` and so on, each with its name as its bytes.
 fn filled(alloc: Global, count: i64, answer: &mut Answer) -> FileSet {
     let mut set = FileSet::new(alloc);
     for number in 0..count {
@@ -30,7 +30,7 @@ fn add(set: &mut FileSet, alloc: Global, name: &[u8], answer: &mut Answer) {
     }
 }
 
-/// What comes of a file of so many zeros.
+/// The result of adding a file of a given number of zeros.
 fn added(set: &mut FileSet, alloc: Global, row: &Fields, answer: &mut Answer) -> Result<(), Fault> {
     let size = usize::try_from(row.number(3)).unwrap_or(0);
     match vec![in alloc; 0u8; size] {
@@ -49,8 +49,8 @@ fn show_bytes(bytes: Option<&[u8]>, answer: &mut Answer) {
     }
 }
 
-/// `file COUNT NAME SIZE`: the code with which a set of so many files refuses one more, 0 where it takes it; how many it has then, whether
-/// there are none, whether it has this one, and what it has as `0.c`.
+/// `file COUNT NAME SIZE`: the code with which a set of `COUNT` files refuses one more, 0 where it takes it; how many it has then, whether
+/// there are none, whether it has this one, and the text that it has as `0.c`.
 pub fn file(row: &Fields, answer: &mut Answer) {
     let alloc = answer.alloc();
     let mut set = filled(alloc, row.number(1), answer);
@@ -68,7 +68,7 @@ pub fn file(row: &Fields, answer: &mut Answer) {
     show_bytes(set.get("0.c"), answer);
 }
 
-/// `refused COUNT NAME SIZE`: the line of the fault, and what the set has under the name then.
+/// `refused COUNT NAME SIZE`: the line of the fault, and the text that the set has under the name then.
 pub fn refused(row: &Fields, answer: &mut Answer) {
     let alloc = answer.alloc();
     let mut set = filled(alloc, row.number(1), answer);
@@ -115,7 +115,7 @@ fn entered(names: &mut Names, text: &[u8], answer: &mut Answer) {
     }
 }
 
-/// `many COUNT`: how many of so many texts get their number, and how many are found by it then.
+/// `many COUNT`: how many of `COUNT` texts get their number, and how many are found by it then.
 pub fn many(row: &Fields, answer: &mut Answer) {
     let alloc = answer.alloc();
     let count = usize::try_from(row.number(1)).unwrap_or(0);

@@ -1,4 +1,4 @@
-//! Whether phase 4 and the C tokens come to the same, whole and as streams.
+//! Whether phase 4 and the C tokens give the same result, whole and as streams.
 
 use crate::pulling::{MAIN, ends_in, ends_so, pull_list};
 use crate::same::is_same_reading;
@@ -9,7 +9,7 @@ use srcset::{Fault, FileSet, Names};
 use std::alloc::Global;
 use test_rows::{Answer, Fields};
 
-/// `stream SOURCE`: what both come to, or where they differ.
+/// `stream SOURCE`: the result of both, or where they differ.
 pub fn stream(row: &Fields, answer: &mut Answer) {
     let alloc = answer.alloc();
     let mut set = FileSet::new(alloc);
@@ -65,7 +65,7 @@ fn show_list(set: &FileSet, list: &[PpToken], mut names: Names, answer: &mut Ans
     }
 }
 
-/// Writes what both came to.
+/// Writes the result of both.
 fn show_same(count: usize, whole: &Result<Vec<Token>, Fault>, answer: &mut Answer) {
     answer.write(b"same, ");
     answer.show(&count);

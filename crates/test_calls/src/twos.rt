@@ -1,4 +1,4 @@
-//! Texts of two bytes and what stands behind them.
+//! Texts of two bytes, with a text after them.
 
 use crate::scanned::{file_names, show_line};
 use phases::{PpToken, scan};
@@ -47,8 +47,8 @@ fn shape(names: &Names, text: &[u8], answer: &mut Answer) {
     }
 }
 
-/// `twos FIRST BEHIND`: what texts come to that begin with a byte. Second bytes that follow one another and whose texts come to the same
-/// are told once.
+/// `twos FIRST BEHIND`: the results of the texts that begin with a byte. Consecutive second bytes whose texts have the same result
+/// are printed once.
 pub fn twos(row: &Fields, answer: &mut Answer) {
     let names = file_names(answer.alloc());
     let mut before = Answer::new(answer.alloc());

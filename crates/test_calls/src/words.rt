@@ -72,7 +72,7 @@ pub fn assign_text(op: AssignOp) -> &'static [u8] {
     }
 }
 
-/// What stands behind the digits of a constant of this type (ISO/IEC 9899:2011 6.4.4.1).
+/// The suffix after the digits of a constant of this type (ISO/IEC 9899:2011 6.4.4.1).
 pub fn suffix(ty: IntType) -> &'static [u8] {
     match ty {
         IntType::UInt => b"u",

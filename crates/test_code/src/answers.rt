@@ -1,4 +1,4 @@
-//! Calls that are passed on, with the clauses that say when a fault, or that the ticks are used up, may be answered.
+//! Wrappers of calls, with the clauses that state when a fault, or that the ticks are used up, may be returned.
 
 ghost use Rattle.std.specs.Prelude.{◌≡◌, ℕ, List, Some, IfErr};
 ghost use Rattle.tree.specs.View.{unit_of};
@@ -25,14 +25,14 @@ pub fn parsed(alloc: Global, tokens: &[Token], names: &Names) -> Result<Unit, Fa
     parse(alloc, tokens, names)
 }
 
-/// The typed program of a tree, for a stack of 1,048,576 bytes. A fault is of a constraint that does not stand.
+/// The typed program of a tree, for a stack of 1,048,576 bytes. A fault is of a constraint that is broken.
 pub fn checked(alloc: Global, unit: Unit, names: &Names, whole: Pos) -> Result<Program, Fault>
     ensures { IfErr result (λ fault. IsFaultOfVerdict fault names.now (typed.unit_typed 1048576 names.now whole (unit_of unit))) }
 {
     check(alloc, unit, names, whole, 1_048_576)
 }
 
-/// What a program comes to. It ends so where it does by the definition.
+/// The outcome of a program. It ends so where it does by the definition.
 pub fn interpreted<P: Port>(
     alloc: Global,
     program: &Program,

@@ -74,7 +74,7 @@ pub fn build(alloc: Global, program: &FlatProgram) -> Result<Built, &'static str
     }
 }
 
-/// `flat NAME INPUT COSTS 0 MAIN LINE LINE ..`: how the program of these lines ends, what it got and put, or why it does not run so.
+/// `flat NAME INPUT COSTS 0 MAIN LINE LINE ..`: how the program of these lines ends, the bytes that it got and put, or why it does not run so.
 pub fn run_flat(row: &Fields, answer: &mut Answer) {
     show_name(row, answer);
     let program = flat_program(row, answer);
@@ -103,7 +103,7 @@ pub fn write_flat(row: &Fields, answer: &mut Answer) {
     }
 }
 
-/// `flat_times` with the same, where the costs are a number of times: makes the text so often, and tells how many flat instructions it has.
+/// `flat_times` with the same, where the costs are a number of times: makes the text that number of times, and prints how many flat instructions it has.
 pub fn repeat_flat(row: &Fields, answer: &mut Answer) {
     let program = flat_program(row, answer);
     if !is_sound(&program) {

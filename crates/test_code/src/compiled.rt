@@ -1,4 +1,4 @@
-//! What the compiler tells that no command of the program `cc` shows.
+//! Results of the compiler that no command of the program `cc` shows.
 
 use cc::{Cmd, StackSize, compile, perform, read_source, write_out};
 use io_ports::MemPort;
@@ -59,7 +59,7 @@ pub fn missing(row: &Fields, answer: &mut Answer) {
     answer.field(line.as_slice());
 }
 
-/// Writes what comes of a source that is read and written out again, or how long that is; or the line of its fault.
+/// Writes the result of reading a source and writing it out again, or its length; or the line of its fault.
 fn show_passed(source: Vec<u8>, is_counted: bool, answer: &mut Answer) {
     let alloc = answer.alloc();
     let mut port = MemPort::new(alloc, source);
@@ -78,7 +78,7 @@ fn show_passed(source: Vec<u8>, is_counted: bool, answer: &mut Answer) {
     }
 }
 
-/// `passed SOURCE`: what comes of a source that is read and written out again.
+/// `passed SOURCE`: the result of reading a source and writing it out again.
 pub fn passed(row: &Fields, answer: &mut Answer) {
     match row.field(1).to_vec(answer.alloc()) {
         Ok(source) => show_passed(source, false, answer),
@@ -86,7 +86,7 @@ pub fn passed(row: &Fields, answer: &mut Answer) {
     }
 }
 
-/// `passed_length BYTE COUNT`: how much comes of a source of so many bytes that is read and written out again.
+/// `passed_length BYTE COUNT`: the length of the result of reading a source of `COUNT` bytes and writing it out again.
 pub fn passed_length(row: &Fields, answer: &mut Answer) {
     let count = usize::try_from(row.number(2)).unwrap_or(0);
     match vec![in answer.alloc(); row.letter(1); count] {

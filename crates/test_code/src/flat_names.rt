@@ -1,4 +1,4 @@
-//! Operands of flat code, and what numbers stand for.
+//! Operands of flat code, and the meanings of numbers.
 
 use crate::types::{constant, letter_of, place_of};
 use frames_code::{Conversion, Location, Operand, Operation, Target, Width};

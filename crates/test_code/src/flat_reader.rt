@@ -60,7 +60,7 @@ fn next_function(alloc: Global, words: &mut Words<'_>) -> Function {
     }
 }
 
-/// Adds an instruction to the last function, so many times.
+/// Adds an instruction to the last function, a number of times.
 fn push_instructions(
     functions: &mut Vec<Function>,
     instruction: Instruction,

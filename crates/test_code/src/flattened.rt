@@ -35,8 +35,8 @@ fn build_tac(row: &Fields, answer: &mut Answer) -> Result<Built, &'static str> {
     }
 }
 
-/// `tac NAME INPUT COSTS FRAME MAIN LINE LINE ..`: how the program of these lines ends, how many bytes of the input are left, what it got and
-/// put, or why it does not run so.
+/// `tac NAME INPUT COSTS FRAME MAIN LINE LINE ..`: how the program of these lines ends, how many bytes of the input are left, the bytes that it got
+/// and put, or why it does not run so.
 pub fn run_tac(row: &Fields, answer: &mut Answer) {
     show_name(row, answer);
     match build_tac(row, answer) {

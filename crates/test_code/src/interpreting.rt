@@ -30,7 +30,7 @@ pub fn interpreted_row(row: &Fields, answer: &mut Answer) {
     }
 }
 
-/// Writes the bytes put, and those of an input of so many bytes that are left.
+/// Writes the bytes put, and those of an input of `count` bytes that are left.
 fn show_port(port: &mut MemPort, count: usize, answer: &mut Answer) {
     answer.write(b", put");
     for byte in port.output() {

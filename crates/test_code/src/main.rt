@@ -1,4 +1,4 @@
-//! Prints what programs and code do for the rows of its input, a line each.
+//! Prints the results of programs and code for the rows of its input, a line each.
 #![tactic(auto)]
 
 mod answers;

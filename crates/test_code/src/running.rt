@@ -1,4 +1,4 @@
-//! Files on the machine, and what is told of them. The first fields of a row are the name, the input, the most instructions of the run, and
+//! Files on the machine, and the reports on them. The first fields of a row are the name, the input, the most instructions of the run, and
 //! the most bytes of main's frame, 0 for any.
 
 use crate::trace::Recorder;
@@ -22,7 +22,7 @@ struct Ended {
     instructions: u64,
 }
 
-/// Runs a file for at most so many instructions.
+/// Runs a file for at most `most` instructions.
 fn run_file(
     alloc: Global,
     file: &[u8],
@@ -58,7 +58,7 @@ fn most_of(row: &Fields) -> u64 {
     u64::try_from(row.number(3)).unwrap_or(0)
 }
 
-/// Writes how the program ends, how many bytes of the input are left where that is told, and what it got and put, in this order.
+/// Writes how the program ends, how many bytes of the input are left where that is requested, and the bytes that it got and put, in this order.
 pub fn show_run(built: &Built, is_left_told: bool, row: &Fields, answer: &mut Answer) {
     let room = usize::try_from(row.number(4)).unwrap_or(0);
     if room > 0 && built.frame > room {
@@ -85,7 +85,7 @@ pub fn show_run(built: &Built, is_left_told: bool, row: &Fields, answer: &mut An
     }
 }
 
-/// Writes how many instructions the program takes, the most by its costs, and the bytes of its text, with those of main's frame where they are told.
+/// Writes how many instructions the program takes, the most by its costs, and the bytes of its text, with those of main's frame where they are requested.
 pub fn show_took(built: &Built, is_frame_told: bool, row: &Fields, answer: &mut Answer) {
     let mut port = Recorder::new(answer.alloc(), row.field(2));
     match run_file(

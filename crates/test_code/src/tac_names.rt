@@ -1,10 +1,10 @@
-//! Operands of three-address code, and what letters and numbers stand for.
+//! Operands of three-address code, and the meanings of letters and numbers.
 
 use crate::types::{constant, int_type, letter_of, next_place, place_of};
 use tac_code::{Comparison, Operand, Operation, Parameter, Place, Reading, Target};
 use test_rows::Words;
 
-/// `tN`, `kN`, `oN` or `pN` for a temporary, a slot, an object or what an array parameter refers to; else a constant.
+/// `tN`, `kN`, `oN` or `pN` for a temporary, a slot, an object or the referent of an array parameter; else a constant.
 pub fn operand_of(word: &[u8]) -> Operand {
     match letter_of(word) {
         b't' => Operand::Temporary(place_of(word)),

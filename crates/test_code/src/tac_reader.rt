@@ -127,7 +127,7 @@ fn push_object(functions: &mut Vec<Function>, object: ObjectType) -> bool {
     }
 }
 
-/// Adds an instruction to the last function, so many times.
+/// Adds an instruction to the last function, a number of times.
 fn push_instructions(
     functions: &mut Vec<Function>,
     instruction: Instruction,

@@ -1,4 +1,4 @@
-//! What a program does to its outside.
+//! The effects of a program on its outside.
 
 ghost use Rattle.std.specs.Prelude.{◌≡◌};
 
@@ -6,7 +6,7 @@ use io_ports::{Port, PortFault};
 use std::alloc::Global;
 use test_rows::Answer;
 
-/// What came last.
+/// The last event.
 #[derive(Clone, Copy, PartialEq, Eq)]
 enum Event {
     Got,
@@ -14,7 +14,7 @@ enum Event {
     End,
 }
 
-/// A port over memory that writes down what is got and put, in its order: ` put:` or ` got:` with the bytes that follow one another, or ` end`.
+/// A port over memory that records the bytes got and put, in their order: ` put:` or ` got:` with the bytes that follow one another, or ` end`.
 #[derive(Drop)]
 pub struct Recorder<'i> {
     input: &'i [u8],
@@ -41,7 +41,7 @@ impl<'i> Recorder<'i> {
         self.input.len().saturating_sub(self.next)
     }
 
-    /// Writes down what was got and put.
+    /// Writes the recorded events.
     pub fn show(&self, answer: &mut Answer) {
         match self.trace.text() {
             Some(text) => answer.write(text),
@@ -50,7 +50,7 @@ impl<'i> Recorder<'i> {
     }
 }
 
-/// Writes a byte, behind a head where another kind of event came last.
+/// Writes a byte, after a head where another kind of event came last.
 fn note(trace: &mut Answer, is_same: bool, head: &[u8], byte: u8) {
     if !is_same {
         trace.write(head);

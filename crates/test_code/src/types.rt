@@ -1,9 +1,9 @@
-//! What letters and words of digits stand for.
+//! The meanings of letters and of words of digits.
 
 use ctypes::IntType;
 use test_rows::{Words, decimal};
 
-/// The type that a letter stands for.
+/// The type that a letter denotes.
 pub fn int_type(letter: u8) -> IntType {
     match letter {
         b'b' => IntType::Bool,
@@ -27,7 +27,7 @@ pub fn letter_of(word: &[u8]) -> u8 {
     }
 }
 
-/// The number in a word, whatever letter stands before it.
+/// The number in a word, whatever letter precedes it.
 pub fn place_of(word: &[u8]) -> usize {
     usize::try_from(decimal(word)).unwrap_or(0)
 }

@@ -35,7 +35,7 @@ fn has_sound_code(count: usize, function: &Function) -> bool
     true
 }
 
-/// Whether a function of a program of so many is sound.
+/// Whether a function of a program of `count` functions is sound.
 fn is_sound_function(count: usize, function: &Function) -> bool
     ensures { IsTrue result ↔ FunctionFits count (function_of function.now) }
 {

@@ -1,4 +1,4 @@
-//! Whether an instruction names what its function has.
+//! Whether an instruction names only what its function has.
 
 ghost use Rattle.std.specs.Prelude.{◌≡◌, ◌↔◌, ◌≤◌, ◌<◌, IsTrue};
 ghost use Rattle.frames_code.specs.Code.{function_of};
@@ -42,7 +42,7 @@ fn has_location(function: &Function, location: Location) -> bool
     }
 }
 
-/// Whether an instruction of this function, in a program of so many, names what there is.
+/// Whether an instruction of this function, in a program of `count` functions, names only existing things.
 pub fn has_all(count: usize, function: &Function, instruction: Instruction) -> bool
     requires { function.now.outgoing ≤ 16777216 }
     ensures { IsTrue result ↔ InstructionFits count (function_of function.now) instruction }

@@ -5,7 +5,7 @@ use std::fmt::{Debug, Display};
 
 const DIGITS: [u8; 16] = *b"0123456789abcdef";
 
-/// What is written for the rows so far. Memory that is refused is kept in mind, so that a subject needs no early exit.
+/// The output for the rows so far. A failed allocation is recorded, so that a subject needs no early exit.
 #[derive(Drop)]
 pub struct Answer {
     alloc: Global,
@@ -28,7 +28,7 @@ impl Answer {
         self.alloc
     }
 
-    /// What is written, unless something could not be.
+    /// The output, unless a part of it could not be written.
     pub fn text(&self) -> Option<&[u8]> {
         if self.failed {
             return None;
@@ -36,7 +36,7 @@ impl Answer {
         Some(self.text.as_slice())
     }
 
-    /// Keeps in mind that an answer is not whole.
+    /// Records that an output is not complete.
     pub fn fail(&mut self) {
         self.failed = true;
     }

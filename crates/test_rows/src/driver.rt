@@ -3,13 +3,13 @@
 use crate::answer::Answer;
 use crate::fields::Fields;
 
-/// The subjects of a program: what it answers for a row.
+/// The subjects of a program: its output for a row.
 pub trait Subjects {
-    /// Writes what is answered for a row.
+    /// Writes the output for a row.
     fn answer(row: &Fields, answer: &mut Answer);
 }
 
-/// Writes what is answered for each row of an input, a line each. An empty line is no row.
+/// Writes the output for each row of an input, a line each. An empty line is no row.
 pub fn answer_rows<S: Subjects>(input: &[u8], answer: &mut Answer) {
     let mut row = Fields::new(answer.alloc());
     for byte in input {

@@ -1,4 +1,4 @@
-//! The fields of a row: tabs stand between them, and in one a backslash begins `\\`, `\n`, `\t` or `\x` and two hexadecimal digits.
+//! The fields of a row: tabs separate them, and in one a backslash begins `\\`, `\n`, `\t` or `\x` and two hexadecimal digits.
 
 use crate::words::{decimal, digit};
 use std::alloc::Global;

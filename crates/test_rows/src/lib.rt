@@ -1,4 +1,4 @@
-//! The driver of programs of rows: takes rows, has each answered, and gives the lines that are written.
+//! The driver of programs of rows: reads rows, runs the subject on each, and returns the lines to write.
 #![tactic(auto)]
 
 mod answer;

@@ -2,7 +2,7 @@
 
 use std::alloc::Global;
 
-/// What is left of a field, with this byte between its words.
+/// The rest of a field, with this byte between its words.
 #[derive(Drop)]
 pub struct Words<'w> {
     rest: &'w [u8],
@@ -25,7 +25,7 @@ impl<'w> Words<'w> {
         self.is_over
     }
 
-    /// The next word; behind the last one, an empty one.
+    /// The next word; after the last one, an empty one.
     pub fn word(&mut self) -> &'w [u8] {
         let rest = self.rest;
         for index in 0..rest.len() {
@@ -45,7 +45,7 @@ impl<'w> Words<'w> {
     }
 }
 
-/// The number of these digits, which may have a minus before them. What is no digit counts as none, and what is too large wraps.
+/// The number of these digits, which a minus may precede. Other characters count as no digits, and a number that is too large wraps.
 pub fn decimal(digits: &[u8]) -> i64 {
     let mut value: i64 = 0;
     let mut is_negative = false;
@@ -74,7 +74,7 @@ pub fn digit(byte: u8) -> u8 {
     }
 }
 
-/// The number of these hexadecimal digits. What is too large wraps.
+/// The number of these hexadecimal digits. A number that is too large wraps.
 pub fn hexadecimal(digits: &[u8]) -> u32 {
     let mut value: u32 = 0;
     for byte in digits {
@@ -83,7 +83,7 @@ pub fn hexadecimal(digits: &[u8]) -> u32 {
     value
 }
 
-/// Bytes of two hexadecimal digits each. Where memory is refused, some are missing.
+/// Bytes of two hexadecimal digits each. Where memory runs out, some are missing.
 pub fn bytes(alloc: Global, digits: &[u8]) -> Vec<u8> {
     let mut bytes = Vec::new(alloc);
     for pair in digits.chunks(2) {

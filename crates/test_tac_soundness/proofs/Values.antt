@@ -1,4 +1,4 @@
--- What each test finds, as the definitions have it.
+-- The result of each test, as the definitions have it.
 use Rattle.std.proofs.Common.{◌≡◌, ℕ, zero, suc, ◌+◌, min, ◌<◌, ◌≤◌, ◌^◌, Bool, true, false, List, [], ◌∷◌, length, map, get_or, Option, Some, None, inl, inr, refl, sym, ap, subst, arith, ◌∙◌}
 use Rattle.std.specs.Prelude.{slice_get, IsTrue, ◌↔◌, nat_lt}
 use Rattle.std.proofs.lemmas.Bool.{cases_lt, ltb-true, lt-ltb}
@@ -17,7 +17,7 @@ use Rattle.frames.proofs.Whole.{data_bytes_are}
 use Rattle.test_tac_soundness.proofs.Lists.{false-true, got_in, one_more_here}
 use Rattle.test_tac_soundness.specs.inside.Parts.{element_in, IsElement, defined_in, AreScalars, CodeFits, BytesFit, LiteralsFit, ValuesFit, FunctionsFit, places_of}
 
--- ---- what is named
+-- ---- names
 
 same_element : (o : Option ObjectType) (t : IntType) → scalar_type o ≡ Some t → scalar_type o ≡ Some (element_in o)
 same_element None t e = absurd (none-some t e)

@@ -45,7 +45,7 @@ fn count_numbers(parameters: &[Parameter]) -> usize
     count
 }
 
-/// Whether the first so many objects are no arrays.
+/// Whether the first `count` objects are no arrays.
 fn are_scalars(function: &Function, count: usize) -> bool
     ensures { IsTrue result ↔ AreScalars (function_of function.now) count }
 {

@@ -1,4 +1,4 @@
-//! Whether an instruction names what there is.
+//! Whether all parts that an instruction names exist.
 
 ghost use Rattle.std.specs.Prelude.{◌≡◌, ◌↔◌, ◌≤◌, ◌<◌, ◌+◌, length, slice_get, IsTrue};
 ghost use Rattle.tac_code.specs.Code.{function_of, program_of};
@@ -143,7 +143,7 @@ fn may_call(program: &TacProgram, function: &Function, number: usize) -> bool
     }
 }
 
-/// Whether so many objects from this one on are there.
+/// Whether the function has `count` objects from `first` on.
 fn has_objects(function: &Function, first: usize, count: usize) -> bool
     ensures { IsTrue result ↔ (first + count ≤ length (function_of function.now).objects) }
 {
@@ -159,7 +159,7 @@ fn has_instruction(function: &Function, number: usize) -> bool
     number < function.code.len()
 }
 
-/// Whether an instruction of this function names what there is.
+/// Whether all parts that an instruction of this function names exist.
 pub fn has_all(program: &TacProgram, function: &Function, instruction: Instruction) -> bool
     ensures { IsTrue result ↔ InstructionFits (program_of program.now) (function_of function.now) instruction }
 {

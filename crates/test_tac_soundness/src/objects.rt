@@ -20,7 +20,7 @@ fn in_words(bytes: usize) -> usize
     (bytes + 3) / 4 * 4
 }
 
-/// So many bytes more, in whole words.
+/// Adds `bytes` bytes, in whole words.
 pub fn plus_words(total: usize, bytes: usize) -> usize
     requires total { total ≤ 16777217 }
     requires bytes { bytes ≤ 16777217 }
@@ -48,7 +48,7 @@ fn elements(lengths: &[u32]) -> usize
     count
 }
 
-/// Whether an array of these lengths has an element of this number: what is divided away has no bound.
+/// Whether an array of these lengths has an element of this number: divides instead of multiplying, since the product has no bound.
 pub fn has_element_in(lengths: &[u32], number: usize) -> bool
     ensures { IsTrue result ↔ (number < elements_in lengths.now) }
 {

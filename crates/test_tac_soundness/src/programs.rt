@@ -54,7 +54,7 @@ fn has_small_data(program: &TacProgram) -> bool
     literals_size(&program.literals) + statics_size(&program.statics) < TOO_MANY
 }
 
-/// Whether a three-address program is one that `flatten` takes: its instructions name what there is, its calls and its data are
+/// Whether a three-address program is one that `flatten` takes: the parts that its instructions name exist, its calls and its data are
 /// within their bounds, its objects begin with values of their types.
 pub fn is_sound(program: &TacProgram) -> bool
     ensures { IsTrue result ↔ IsSoundProgram (program_of program.now) }

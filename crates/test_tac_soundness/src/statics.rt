@@ -42,7 +42,7 @@ pub fn have_values(statics: &[Static]) -> bool
     true
 }
 
-/// Whether each is below 2^8, which its type says.
+/// Whether each is below 2^8, as its type guarantees.
 fn are_bytes(text: &[u8]) -> bool
     ensures { IsTrue result ↔ BytesFit text.now (length text.now) }
 {

@@ -1,4 +1,4 @@
-//! A run of the interpreter over bytes in memory, told as JSON lines: what `zkc interp --trace --json` writes, for tools that call it.
+//! A run of the interpreter over bytes in memory, traced as JSON lines: the output of `zkc interp --trace --json`, for tools that call it.
 #![tactic(auto)]
 
 mod tracing;

@@ -1,4 +1,4 @@
-//! The run, and what is told of it.
+//! The run, and its trace.
 
 use cc::{StackSize, checked_program, interpret_observed};
 use machine_kept::Feed;
@@ -8,24 +8,24 @@ use std::alloc::{AllocError, Global};
 use traced_interp::{SourceLines, Trace, TraceForm};
 use typed_ast::Program;
 
-/// What is said where the port refused to read: 802.
+/// The message where the port failed to read: 802.
 const CANNOT_READ: &[u8] = b"cc: port fault 802\n";
 
-/// What is asked of a run.
+/// The request for a run.
 #[derive(Clone, Copy)]
 pub struct Asked<'a> {
     /// The name of the main file.
     pub main: &'a str,
     pub input: &'a [u8],
-    /// Whether the input may go on behind these bytes: a read there waits, and is not told that the input ended.
+    /// Whether the input may continue after these bytes: a read there waits, and does not see the end of the input.
     pub is_open: bool,
-    /// At most so many ticks.
+    /// At most this number of ticks.
     pub max: u64,
-    /// The tick from which on the run is told; what comes before the first tick belongs to tick 0.
+    /// The tick from which on the run is traced; events before the first tick belong to tick 0.
     pub from: u64,
 }
 
-/// What is told of a run.
+/// The result of a traced run.
 #[derive(Drop)]
 pub struct Told {
     /// A JSON object a line, each with its newline.
@@ -34,13 +34,13 @@ pub struct Told {
     pub message: Vec<u8>,
     /// The exit status of `zkc interp`.
     pub status: u8,
-    /// Whether the run waits for input: it reads behind an input that is open.
+    /// Whether the run waits for input: it reads past the end of an input that is open.
     pub waits: bool,
 }
 
-/// Does what the program of the set means over the input, and tells it.
+/// Executes the program of the set over the input, and traces it.
 ///
-/// Refuses as the compiler does, with the usual stack; and with 801 where memory runs out for what is told.
+/// Fails as the compiler does, with the usual stack; and with 801 where memory runs out for the trace.
 pub fn trace_lines(alloc: Global, set: &FileSet, asked: Asked<'_>) -> Result<Told, Fault> {
     let mut names = Names::new(alloc);
     match checked_program(alloc, set, asked.main, &mut names, StackSize::usual()) {
@@ -52,7 +52,7 @@ pub fn trace_lines(alloc: Global, set: &FileSet, asked: Asked<'_>) -> Result<Tol
     }
 }
 
-/// Tells the run of a program whose names are numbered in `names`.
+/// Traces the run of a program whose names are numbered in `names`.
 fn trace_checked(
     alloc: Global,
     set: &FileSet,
@@ -72,7 +72,7 @@ fn trace_checked(
     }
 }
 
-/// Tells the run of a program over a port. JSON shows no source lines, so there may be none.
+/// Traces the run of a program over a port. JSON shows no source lines, so there may be none.
 fn run_told(
     alloc: Global,
     asked: Asked<'_>,
@@ -110,7 +110,7 @@ fn run_told(
     }
 }
 
-/// What is told of a run that ended with this status and message. The port refuses to read only where the input is open and used up.
+/// The result of a run that ended with this status and message. The port fails to read only where the input is open and used up.
 fn ended(status: u8, message: Vec<u8>, lines: Vec<u8>) -> Told {
     let waits = message.as_slice() == CANNOT_READ;
     let mut message = message;

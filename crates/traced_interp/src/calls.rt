@@ -1,4 +1,4 @@
-//! The calls that are active, and what is told of each.
+//! The calls that are active, and the trace state of each.
 
 use srcset::Pos;
 use std::alloc::{AllocError, Global};
@@ -16,9 +16,9 @@ pub(crate) struct Defined {
 #[derive(Drop)]
 struct Call {
     function: usize,
-    // The line of it that was told last.
+    // The line of it that was reported last.
     told: Pos,
-    // The loops that it is in, the innermost last: what is told of each as it goes on.
+    // The loops that it is in, the innermost last: the place to report for each as it continues.
     loops: Vec<Pos>,
     defined: Defined,
 }
@@ -54,7 +54,7 @@ impl Calls {
         Ok(())
     }
 
-    /// The present call ends; answers the number of its function.
+    /// Ends the present call; returns the number of its function.
     pub fn pop(&mut self) -> Option<usize> {
         match self.list.pop() {
             Some(call) => Some(call.function),
@@ -70,7 +70,7 @@ impl Calls {
         }
     }
 
-    /// Whether this is the line of the present call that was told last.
+    /// Whether this is the line of the present call that was reported last.
     pub fn has_told(&self, at: Pos) -> bool {
         match self.list.last() {
             Some(call) => call.told == at,
@@ -78,14 +78,14 @@ impl Calls {
         }
     }
 
-    /// A line of the present call is told.
+    /// Records that a line of the present call is reported.
     pub fn tell(&mut self, at: Pos) {
         if let Some(call) = self.list.last_mut() {
             call.told = at;
         }
     }
 
-    /// A loop begins, of which this place is told as it goes on.
+    /// A loop begins, with this place to report as it continues.
     pub fn open_loop(&mut self, at: Pos) -> Result<(), AllocError> {
         if let Some(call) = self.list.last_mut() {
             call.loops.push(at)?;
@@ -100,7 +100,7 @@ impl Calls {
         }
     }
 
-    /// What is told of the innermost loop of the present call as it goes on.
+    /// The place to report for the innermost loop of the present call as it continues.
     pub fn loop_place(&self) -> Option<Pos> {
         match self.list.last() {
             Some(call) => call.loops.last().copied(),

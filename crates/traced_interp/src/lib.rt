@@ -1,4 +1,4 @@
-//! A run of the interpreter told while it goes on: each statement, each object that gets a value, each function entered and left.
+//! A run of the interpreter, traced while it executes: each statement, each object that gets a value, each function entered and left.
 #![tactic(auto)]
 
 mod calls;

@@ -1,4 +1,4 @@
-//! What the run tells the trace.
+//! The notifications from the run to the trace.
 
 use crate::telling::Trace;
 use cabs::Observer;

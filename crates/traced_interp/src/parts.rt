@@ -3,7 +3,7 @@
 use interp_store::Reference;
 use std::alloc::{AllocError, Global};
 
-/// How many elements of an array are told where all get first values.
+/// How many elements of an array are reported where all get first values.
 const MOST: usize = 16;
 
 /// The first elements of an object.

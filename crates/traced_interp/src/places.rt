@@ -1,4 +1,4 @@
-//! Where an expression stands.
+//! The place of an expression.
 
 use srcset::Pos;
 use typed_ast::{Place, Value};

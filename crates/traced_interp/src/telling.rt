@@ -1,4 +1,4 @@
-//! An observer that writes what it is told.
+//! An observer that writes the events it receives.
 
 use crate::calls::{Calls, Defined};
 use crate::lines::SourceLines;
@@ -41,10 +41,10 @@ pub struct Trace<'a, W: Write + Drop> {
     out: W,
     calls: Calls,
     pending: Option<Pending>,
-    // The tick that the run has come to, counted from 1, and that from which on it is told.
+    // The tick that the run has reached, counted from 1, and the tick from which on it is traced.
     tick: u64,
     from: u64,
-    // The line that was told last, where nothing was told behind it.
+    // The line that was reported last, where nothing was reported after it.
     last: Option<Pos>,
     is_whole: bool,
     has_memory: bool,
@@ -77,14 +77,14 @@ impl<'a, W: Write + Drop> Trace<'a, W> {
         }
     }
 
-    /// The same trace without what is told before this tick. What comes before the first tick belongs to tick 0.
+    /// The same trace without the events before this tick. Events before the first tick belong to tick 0.
     pub fn since(self, from: u64) -> Self {
         let mut trace = self;
         trace.from = from;
         trace
     }
 
-    /// Flushes the writer. Answers whether the whole trace was written, and whether there was memory for it.
+    /// Flushes the writer. Returns whether the whole trace was written, and whether there was memory for it.
     pub fn finish(self) -> Written {
         let (written, _out) = self.into_writer();
         written
@@ -106,7 +106,7 @@ impl<'a, W: Write + Drop> Trace<'a, W> {
         self.tick = self.tick.saturating_add(1);
     }
 
-    /// Whether what is to be told now is left out: it is of an earlier tick than those that are told, or the trace has ended.
+    /// Whether the next event is left out: it is of an earlier tick than those traced, or the trace has ended.
     fn leaves_out(&mut self) -> bool {
         if self.tick < self.from {
             self.last = None;
@@ -137,7 +137,7 @@ impl<'a, W: Write + Drop> Trace<'a, W> {
         }
     }
 
-    /// Tells a line, unless that was told last.
+    /// Reports a line, unless that was reported last.
     fn tell_line(&mut self, at: Pos) {
         if self.last == Some(at) {
             return;
@@ -152,14 +152,14 @@ impl<'a, W: Write + Drop> Trace<'a, W> {
         self.calls.tell(at);
     }
 
-    /// Tells a line, unless it is the last one that was told of the present call.
+    /// Reports a line, unless it is the last one that was reported of the present call.
     fn tell_place(&mut self, at: Pos) {
         if !self.calls.has_told(at) {
             self.tell_line(at);
         }
     }
 
-    /// Tells the value of an element.
+    /// Reports the value of an element.
     fn tell_value(&mut self, scene: &Scene, element: &Reference) {
         let Some(value) = scene.store.value(element) else {
             return;
@@ -221,7 +221,7 @@ impl<'a, W: Write + Drop> Trace<'a, W> {
         self.write(text);
     }
 
-    /// A statement begins. What only holds others, or stands before them, is not told; of the declarators of a line one is.
+    /// A statement begins. Those that only contain or precede others are not reported; of the declarators of a line one is.
     pub(crate) fn begin(&mut self, statement: &Statement) {
         match statement {
             Statement::Empty(_) | Statement::Block(_, _, _, _) => {}
@@ -243,14 +243,14 @@ impl<'a, W: Write + Drop> Trace<'a, W> {
         }
     }
 
-    /// A loop begins, of which this place is told as it goes on.
+    /// A loop begins, with this place to report as it continues.
     fn open_loop(&mut self, at: Pos) {
         if self.calls.open_loop(at).is_err() {
             self.refuse();
         }
     }
 
-    /// The innermost loop goes on.
+    /// The innermost loop continues.
     fn continue_loop(&mut self) {
         if let Some(at) = self.calls.loop_place() {
             self.tell_line(at);
@@ -270,7 +270,7 @@ impl<'a, W: Write + Drop> Trace<'a, W> {
         }
     }
 
-    /// The object that was to get its first value has it.
+    /// The object that was to get its first value has received it.
     pub(crate) fn tell_first(&mut self, scene: &Scene) {
         let Some(defined) = self.calls.defined() else {
             return;
@@ -305,7 +305,7 @@ impl<'a, W: Write + Drop> Trace<'a, W> {
         self.write(text);
     }
 
-    /// A byte was got, or the end of the input.
+    /// A byte was read, or the end of the input was reached.
     pub(crate) fn tell_got(&mut self, byte: Option<u8>) {
         if self.form == TraceForm::Json && !self.leaves_out() {
             let text = got(self.alloc, byte);
@@ -313,7 +313,7 @@ impl<'a, W: Write + Drop> Trace<'a, W> {
         }
     }
 
-    /// A byte is put.
+    /// A byte is written.
     pub(crate) fn tell_put(&mut self, byte: u8) {
         if self.form == TraceForm::Json && !self.leaves_out() {
             let text = put(self.alloc, byte);
@@ -321,7 +321,7 @@ impl<'a, W: Write + Drop> Trace<'a, W> {
         }
     }
 
-    /// What was to get a value has it.
+    /// The pending element has received its value.
     pub(crate) fn tell_pending(&mut self, scene: &Scene) {
         if let Some(pending) = self.pending.take() {
             self.tell_place(pending.at);
@@ -337,7 +337,7 @@ impl<'a, W: Write + Drop> Trace<'a, W> {
         }
     }
 
-    /// A statement, or the test of a loop, has come to this.
+    /// A statement, or the test of a loop, has ended with this result.
     pub(crate) fn flow_found(&mut self, frame: &FlowFrame<'_>, found: &Found) {
         let Found::Flow(flow) = found else {
             return;
@@ -358,7 +358,7 @@ fn value_left(is_main: bool, flow: Flow) -> Option<i64> {
     }
 }
 
-/// Where the test of a `do` stands, which begins at `at`.
+/// The place of the test of a `do`, which begins at `at`.
 fn test_place(at: Pos, test: &Value) -> Pos {
     match place_of(test) {
         Some(place) => place,

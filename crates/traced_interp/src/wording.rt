@@ -1,4 +1,4 @@
-//! What is written of a run: lines of text, or a JSON object a line.
+//! The output of a trace: lines of text, or a JSON object a line.
 
 use std::alloc::{AllocError, Global};
 
@@ -7,7 +7,7 @@ use std::alloc::{AllocError, Global};
 pub enum TraceForm {
     /// Lines for people.
     Text,
-    /// One JSON object a line, also for each byte that is got or put.
+    /// One JSON object a line, also for each byte that is read or written.
     Json,
 }
 
@@ -49,7 +49,7 @@ pub(crate) fn left(
     }
 }
 
-/// A statement at a line with this text begins, or goes on.
+/// A statement at a line with this text begins, or continues.
 pub(crate) fn begun(
     alloc: Global,
     form: TraceForm,
@@ -108,7 +108,7 @@ pub(crate) fn further(alloc: Global, form: TraceForm, name: &str) -> Result<Stri
     }
 }
 
-/// A byte was got, or none at the end of the input. Text tells nothing of it.
+/// A byte was read, or none at the end of the input. The text form prints nothing for it.
 pub(crate) fn got(alloc: Global, byte: Option<u8>) -> Result<String, AllocError> {
     match byte {
         Some(byte) => format!(in alloc; "{{\"event\":\"get\",\"byte\":{byte}}}\n"),
@@ -116,7 +116,7 @@ pub(crate) fn got(alloc: Global, byte: Option<u8>) -> Result<String, AllocError>
     }
 }
 
-/// A byte is put. Text tells nothing of it.
+/// A byte is written. The text form prints nothing for it.
 pub(crate) fn put(alloc: Global, byte: u8) -> Result<String, AllocError> {
     format!(in alloc; "{{\"event\":\"put\",\"byte\":{byte}}}\n")
 }
@@ -146,7 +146,7 @@ fn put_path(alloc: Global, path: &[usize], out: &mut String) -> Result<(), Alloc
     out.push(']')
 }
 
-/// Puts a string with its quotes: `"`, `\` and the characters below U+0020 are escaped (RFC 8259, section 7).
+/// Appends a string with its quotes: `"`, `\` and the characters below U+0020 are escaped (RFC 8259, section 7).
 pub fn put_string(alloc: Global, text: &str, out: &mut String) -> Result<(), AllocError> {
     out.push('"')?;
     for letter in text.chars() {

@@ -16,7 +16,7 @@ pub fn instruction_line(alloc: Global, pc: u32, word: u32) -> Result<Vec<u8>, Al
     Ok(plain.into_bytes())
 }
 
-/// Whether a listing was refused for want of memory: the line that it is written to refuses for nothing else.
+/// Whether a listing was refused because memory ran out: the line that it is written to refuses for nothing else.
 fn is_for_memory(code: u16) -> bool {
     code == Code::OutOfMemory.number() || code == Code::CannotWrite.number()
 }

@@ -25,7 +25,7 @@ pub fn machine_text(
     Ok(out)
 }
 
-/// The function in which an address lies, and how many bytes behind its start: `fact+24`; `?` where it lies in none.
+/// The function that contains an address, and the offset in bytes from its start: `fact+24`; `?` where none contains it.
 pub fn place_text(alloc: Global, map: &SymbolTable, address: u32) -> Result<String, AllocError> {
     match map.at(address) {
         Some(function) => {

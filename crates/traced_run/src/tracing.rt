@@ -1,24 +1,30 @@
-//! A run with a line for each instruction.
+//! A run that a tracer follows step by step.
 
-ghost use Rattle.std.specs.Prelude.{◌≡◌, ℕ, List, Option, None, IfOk};
+ghost use Rattle.std.specs.Prelude.{◌≡◌, ◌++◌, ◌∷◌, [], ℕ, List, Option, None, IfOk};
+ghost use Rattle.rv32.specs.Step.{Machine as Hart, machine_of};
 ghost use Rattle.sim.specs.Runs.{World};
 ghost use Rattle.sim.specs.Meets.{At, RunMeets};
 ghost use Rattle.sim.specs.Machines.{machine_now, stopped_with};
-ghost use Rattle.traced_run.specs.Traced.{TraceMeets};
+ghost use Rattle.traced_run.specs.Traced.{TraceMeets, TracesMachines};
 
-use crate::instruction::instruction_line;
-use crate::shown::place_text;
 use io_ports::Port;
 use rv32::state::State;
-use rv32::{Instr, decode};
 use sim::{Machine, Outcome};
-use srcset::write_text;
-use std::alloc::{AllocError, Global};
-use std::io::Write;
-use symbol_table::SymbolTable;
+use std::alloc::AllocError;
 
-/// The column in which what an instruction did begins.
-const WIDTH: usize = 44;
+/// Follows a run step by step, and changes nothing of it.
+pub trait Tracer {
+    // That the machines that it has seen, the first first, are these. By default nothing is known of it.
+    ghost traced: { Self → List Hart → Type 0 } = { λ _ _. Unit {0} };
+
+    /// The machine in this state is about to take a step.
+    fn begins(&mut self, state: &State) -> Result<(), AllocError>
+        ensures { IfOk result (λ _. (ms : List Hart) → traced self.old ms → traced self.new (ms ++ (machine_of state.now ∷ []))) };
+
+    /// The step of which it was notified last has led to this state, or the run has stopped at it. Returns whether the trace goes on.
+    fn ends(&mut self, state: &State) -> Result<bool, AllocError>
+        ensures { IfOk result (λ _. (ms : List Hart) → traced self.old ms → traced self.new ms) };
+}
 
 /// How a traced run ended.
 #[derive(Clone, Copy, Debug, PartialEq, Eq)]
@@ -28,32 +34,30 @@ pub enum TraceEnd {
     Unwritten,
 }
 
-/// What a step came to, and whether its line was written.
+/// The outcome of a step, and whether the trace goes on.
 #[derive(Clone, Copy)]
 struct Told {
     outcome: Outcome,
     is_written: bool,
 }
 
-/// Takes at most `max` steps, and writes a line for each: the instruction, each register whose value changed, and the address that it
-/// loaded from or stored to; with a map a line `NAME+OFFSET:` wherever another function goes on.
+/// Takes at most `max` steps, and notifies the tracer of each.
 ///
-/// The machine does what `Machine::run` does in as many steps.
-pub fn traced_run<P: Port, W: Write>(
-    alloc: Global,
+/// The machine does what `Machine::run` does in as many steps. A tracer that has seen nothing is notified of the machines of the table's run, one a step.
+pub fn traced_run<P: Port, T: Tracer>(
     machine: &mut Machine,
     port: &mut P,
     max: u64,
-    map: Option<&SymbolTable>,
-    out: &mut W,
+    tracer: &mut T,
 ) -> Result<TraceEnd, AllocError>
     ensures meets { IfOk result (λ end. stopped_with machine.old ≡ None → (o : Option (List ℕ)) (w : World) → At o w (machine_now machine.old) (P.seen port.old) →
         TraceMeets o w max end (machine_now machine.new) (P.seen port.new)) }
+    ensures traces { IfOk result (λ end. stopped_with machine.old ≡ None → (o : Option (List ℕ)) (w : World) → At o w (machine_now machine.old) (P.seen port.old) → T.traced tracer.old [] →
+        TracesMachines (T.traced tracer.new) o w max end (machine_now machine.new) (P.seen port.new)) }
 {
-    let mut start = 0;
     let mut steps = 0;
     while steps < max {
-        let told = told_step(alloc, machine, port, map, &mut start, out)?;
+        let told = told_step(machine, port, tracer)?;
         if !told.is_written {
             return Ok(TraceEnd::Unwritten);
         }
@@ -65,109 +69,22 @@ pub fn traced_run<P: Port, W: Write>(
     Ok(TraceEnd::Stopped(Outcome::Budget))
 }
 
-/// Takes a step, and writes its line. `start` is where the function of the line before starts, and becomes that of this one's.
-fn told_step<P: Port, W: Write>(
-    alloc: Global,
+/// Takes a step, and notifies the tracer of it.
+fn told_step<P: Port, T: Tracer>(
     machine: &mut Machine,
     port: &mut P,
-    map: Option<&SymbolTable>,
-    start: &mut u32,
-    out: &mut W,
+    tracer: &mut T,
 ) -> Result<Told, AllocError>
     ensures meets { IfOk result (λ told. stopped_with machine.old ≡ None → (o : Option (List ℕ)) (w : World) → At o w (machine_now machine.old) (P.seen port.old) →
         RunMeets o w 1 told.outcome (machine_now machine.new) (P.seen port.new)) }
     ensures budget { IfOk result (λ told. told.outcome ≡ Outcome.Budget → stopped_with machine.old ≡ None → stopped_with machine.new ≡ None) }
+    ensures traces { IfOk result (λ _. (ms : List Hart) → T.traced tracer.old ms → T.traced tracer.new (ms ++ (machine_now machine.old ∷ []))) }
 {
-    let mut line = Vec::new(alloc);
-    if let Some(map) = map {
-        *start = put_function(alloc, map, machine.state().pc, *start, &mut line)?;
-    }
-    let text = instruction_text(alloc, machine.state())?;
-    let touched = touched(machine.state());
-    let before = machine.state().registers;
+    tracer.begins(machine.state())?;
     let outcome = machine.run(port, 1);
-    let effects = effects(alloc, touched, &before, &machine.state().registers)?;
-    put_columns(text.as_slice(), effects.as_slice(), &mut line)?;
-    line.push(b'\n')?;
+    let is_written = tracer.ends(machine.state())?;
     Ok(Told {
         outcome,
-        is_written: write_text(out, line.as_slice()),
+        is_written,
     })
-}
-
-/// Puts where the run is, where its function is another than that which starts at `start`; answers where its function starts.
-fn put_function(
-    alloc: Global,
-    map: &SymbolTable,
-    pc: u32,
-    start: u32,
-    line: &mut Vec<u8>,
-) -> Result<u32, AllocError> {
-    let now = match map.at(pc) {
-        Some(function) => function.start,
-        None => 0,
-    };
-    if now != start && now != 0 {
-        line.extend_from_slice(place_text(alloc, map, pc)?.as_bytes())?;
-        line.extend_from_slice(b":\n")?;
-    }
-    Ok(now)
-}
-
-/// The word at the pc, where one can be fetched there.
-fn word_at(state: &State) -> Option<u32> {
-    if state.pc < 0xffff_fffc {
-        state.memory.fetch(state.pc)
-    } else {
-        None
-    }
-}
-
-/// The instruction at the pc.
-fn instruction_text(alloc: Global, state: &State) -> Result<Vec<u8>, AllocError> {
-    let pc = state.pc;
-    match word_at(state) {
-        Some(word) => instruction_line(alloc, pc, word),
-        None => Ok(format!(in alloc; "{pc:08X} ?")?.into_bytes()),
-    }
-}
-
-/// The address from which the instruction at the pc loads or to which it stores.
-fn touched(state: &State) -> Option<u32> {
-    match decode(word_at(state)?)? {
-        Instr::Load { base, offset, .. } => Some(state.read(base).wrapping_add(offset.get())),
-        Instr::Store { base, offset, .. } => Some(state.read(base).wrapping_add(offset.get())),
-        _ => None,
-    }
-}
-
-/// The address that was touched, and the registers whose value changed.
-fn effects(
-    alloc: Global,
-    touched: Option<u32>,
-    before: &[u32; 32],
-    now: &[u32; 32],
-) -> Result<Vec<u8>, AllocError> {
-    let mut line = Vec::new(alloc);
-    if let Some(address) = touched {
-        line.extend_from_slice(format!(in alloc; " [{address:08X}]")?.as_bytes())?;
-    }
-    for (number, (old, value)) in before.iter().zip(now.iter()).enumerate() {
-        if old != value && number != 0 {
-            line.extend_from_slice(format!(in alloc; " x{number}={value:08X}")?.as_bytes())?;
-        }
-    }
-    Ok(line)
-}
-
-/// Puts a text, and the effects in their column where there are some.
-fn put_columns(text: &[u8], effects: &[u8], line: &mut Vec<u8>) -> Result<(), AllocError> {
-    line.extend_from_slice(text)?;
-    if effects.is_empty() {
-        return Ok(());
-    }
-    for _ in text.len()..WIDTH {
-        line.push(b' ')?;
-    }
-    line.extend_from_slice(effects)
 }

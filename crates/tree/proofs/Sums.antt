@@ -1,4 +1,4 @@
--- Numbers up to the greatest of a word, and what they say of a list so far.
+-- Numbers up to the greatest of a word, and their meaning for a list so far.
 use Rattle.std.proofs.Common.{◌≡◌, ℕ, ◌+◌, ◌-◌, ◌^◌, ◌<◌, ◌≤◌, List, [], ◌∷◌, take, get_or, length, max, min, refl, ap, sym, ◌∙◌, arith}
 use Rattle.std.proofs.lemmas.List.Recursion.{is_sum_by, max_push}
 use Rattle.std.proofs.lemmas.List.{take_more}

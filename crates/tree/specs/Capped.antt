@@ -1,4 +1,4 @@
--- Numbers as a machine's word can say them.
+-- Numbers as a machine word can hold them.
 use Rattle.std.specs.Prelude.{ℕ, ◌-◌, ◌^◌, min}
 
 -- the number, or the greatest one of 64 bits

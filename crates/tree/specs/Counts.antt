@@ -255,7 +255,7 @@ abbrev pub unit_nodes : List ExternalTree → ℕ
 unit_nodes [] = 0
 unit_nodes (e ∷ es) = external_nodes e + unit_nodes es
 
--- ---- weight: what a call of a function may take of the stack, by its source alone
+-- ---- weight: the stack that a call of a function may take, by its source alone
 
 -- 64 bytes, those of its parameters and automatic objects, each rounded up to 4, and 16 for each node, rounded up to 16
 abbrev pub weight_of : ℕ → ℕ → ℕ

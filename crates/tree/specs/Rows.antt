@@ -1,4 +1,4 @@
--- Functions whose counts are known, and the law of parentheses. Places and numbers of names count for nothing.
+-- Functions whose counts are known, and the law of parentheses. Places and numbers of names do not matter.
 use Rattle.std.specs.Prelude.{◌≡◌, ℕ, zero, suc, ◌+◌, List, [], ◌∷◌, None, Some}
 use Rattle.srcset.specs.declared.refusal.Pos.{Pos}
 use Rattle.ctypes.specs.declared.types.IntType.TheVariants as ty
@@ -43,7 +43,7 @@ padded p = of_int p []
     (and_piece (declaration_item (declared p (plain_specifier (specifier.Word word.Char) ∷ []) (object p 2 (Some (number p 208) ∷ []) None ∷ [])))
     (and_piece (statement_item (return p (call p 0 (one_more (number p 3447) no_trees)))) no_pieces))
 
--- an expression in so many pairs of parentheses
+-- an expression in a number of pairs of parentheses
 unfoldable pub in_parens : ℕ → Tree → Tree
 in_parens zero e = e
 in_parens (suc n) e = paren (in_parens n e)
@@ -59,7 +59,7 @@ ParensAreNoNodes = (n : ℕ) (e : Tree) → nodes (in_parens n e) ≡ nodes e
 abbrev pub ParensAreDeep : Type 0
 ParensAreDeep = (n : ℕ) (e : Tree) → depth (in_parens n e) ≡ n + depth e
 
--- the counts of these functions, and the weight with so many bytes
+-- the node count of this function, and its weight for objects of `bytes` bytes
 pub record HasCounts (f : FunctionTree) (count bytes weight : ℕ) : Type 0 where
   pub counted : function_nodes f ≡ count
   pub weighed : weight_of count bytes ≡ weight

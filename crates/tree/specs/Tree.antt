@@ -61,7 +61,7 @@ pub data SpecifierTree : Type 0 where
   plain_specifier : (s : TypeSpecifier) → SpecifierTree
   enumerators_specifier : (tag : Option ℕ) (list : List EnumeratorTree) → SpecifierTree
 
--- a parameter (6.7.6.3); the first of its specifiers stands at `start`
+-- a parameter (6.7.6.3); the first of its specifiers is at `start`
 pub record ParameterTree : Type 0 where
   pub at : Pos
   pub start : Pos
@@ -69,7 +69,7 @@ pub record ParameterTree : Type 0 where
   pub name : Option ℕ
   pub sizes : List (Option Tree)
 
--- what a declaration declares (6.7.6); no parameters stand for (void)
+-- the declarator of a declaration (6.7.6); no parameters denote (void)
 pub data ItemTree : Type 0 where
   object : (at : Pos) (name : ℕ) (sizes : List (Option Tree)) (init : Option Init) → ItemTree
   function : (at : Pos) (name : ℕ) (parameters : List ParameterTree) → ItemTree
@@ -103,7 +103,7 @@ mutual
     continue_stmt : (at : Pos) → StmtTree
     return_stmt : (at : Pos) (e : Option Tree) → StmtTree
 
-  -- what a block consists of (6.8.2)
+  -- an item of a block (6.8.2)
   pub data PieceTree : Type 0 where
     declaration_item : (d : DeclarationTree) → PieceTree
     statement_item : (s : StmtTree) → PieceTree
@@ -112,7 +112,7 @@ mutual
     no_pieces : Pieces
     and_piece : (p : PieceTree) (ps : Pieces) → Pieces
 
--- a function definition (6.9.1); the first of its specifiers stands at `start`, the brace of its body at `brace`
+-- a function definition (6.9.1); the first of its specifiers is at `start`, the brace of its body at `brace`
 pub record FunctionTree : Type 0 where
   pub start : Pos
   pub specifiers : List SpecifierTree

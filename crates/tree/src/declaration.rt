@@ -55,7 +55,7 @@ pub struct Parameter {
     pub sizes: Vec<Option<Expr>>,
 }
 
-/// The declarator of a function (6.7.6.3). The place is that of its name. No parameters stand for `(void)`.
+/// The declarator of a function (6.7.6.3). The place is that of its name. No parameters denote `(void)`.
 #[derive(Drop)]
 pub struct FunctionDeclarator {
     pub pos: Pos,
@@ -63,7 +63,7 @@ pub struct FunctionDeclarator {
     pub parameters: Vec<Parameter>,
 }
 
-/// What a declaration declares beside its specifiers.
+/// A declarator of a declaration, without the specifiers.
 #[derive(Drop)]
 pub enum Item {
     Object(ObjectDeclarator),

@@ -1,7 +1,7 @@
 //! How deep a tree is: the greatest number of nodes and of pairs of parentheses on a path downwards.
 //!
-//! Each depth goes through the tree once, and its host recursion is no deeper than twice the tree. From 2^32 - 1 on
-//! a depth is this number.
+//! Each computation of a depth traverses the tree once, and its host recursion is no deeper than twice the tree. A depth
+//! saturates at 2^32 - 1.
 #![tactic(auto, using(crate::proofs::Sums::capped32_none, crate::proofs::Sums::capped32_one))]
 
 ghost use Rattle.std.specs.Prelude.{◌≡◌, ◌+◌, ℕ, max, map};
@@ -250,7 +250,7 @@ fn block_items_depth(items: &[BlockItem]) -> u32
 }
 
 impl BlockItem {
-    /// The depth of what stands in a block (6.8.2).
+    /// The depth of an item of a block (6.8.2).
     #[cycle(statement_depth)]
     pub fn depth(&self) -> u32
         ensures { result ≡ capped32 (piece_depth (piece_of self.now)) }

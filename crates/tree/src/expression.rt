@@ -16,7 +16,7 @@ pub enum Word {
     Bool,
 }
 
-/// A type specifier or qualifier that brings no list of enumerators (6.7.2, 6.7.3).
+/// A type specifier or qualifier that contains no list of enumerators (6.7.2, 6.7.3).
 #[derive(Clone, Copy, PartialEq, Eq, Debug)]
 pub enum TypeSpecifier {
     Const,

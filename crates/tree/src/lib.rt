@@ -1,7 +1,7 @@
 //! The syntax tree of a translation unit (ISO/IEC 9899:2011 6.5 to 6.9, in the profile).
 //!
-//! The types hold any tree. What is said of them about the token at which a place stands, and of lists with at least one
-//! item, holds of the trees that spell tokens (`grammar`), as those of the parser do.
+//! The types hold any tree. Their comments on the token of a place, and on lists with at least one
+//! item, apply to the trees that spell tokens (`grammar`), as those of the parser do.
 #![tactic(auto)]
 
 mod declaration;

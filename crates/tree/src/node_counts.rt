@@ -1,8 +1,8 @@
 //! How many nodes a tree has: one each for a function definition, parameter, declarator, enumerator, assertion,
 //! braced list of initialisers, statement and expression.
 //!
-//! A pair of parentheses is no node, nor is a function definition's own declarator. Each count goes through the
-//! tree once, and its host recursion is no deeper than twice the tree. From 2^64 - 1 on a count is this number.
+//! A pair of parentheses is no node, nor is a function definition's own declarator. Each count traverses the
+//! tree once, and its host recursion is no deeper than twice the tree. A count saturates at 2^64 - 1.
 #![tactic(auto, using(crate::proofs::Sums::capped_none, crate::proofs::Sums::capped_one))]
 
 ghost use Rattle.std.specs.Prelude.{◌≡◌, ◌+◌, ℕ, map};
@@ -251,7 +251,7 @@ fn block_items_nodes(items: &[BlockItem]) -> u64
 }
 
 impl BlockItem {
-    /// The nodes of what stands in a block (6.8.2).
+    /// The nodes of an item of a block (6.8.2).
     #[cycle(statement_nodes)]
     pub fn nodes(&self) -> u64
         ensures { result ≡ capped (piece_nodes (piece_of self.now)) }
@@ -306,7 +306,7 @@ fn head_nodes(start: &ForStart, test: &Option<Expr>, step: &Option<Expr>) -> u64
 // ---- units
 
 impl Function {
-    /// The nodes of a function definition (6.9.1): itself, its body, and what they consist of.
+    /// The nodes of a function definition (6.9.1): itself, its body, and their parts.
     pub fn nodes(&self) -> u64
         ensures { result ≡ capped (function_nodes (function_of self.now)) }
     {

@@ -11,7 +11,7 @@ pub enum ForStart {
     Declaration(Declaration),
 }
 
-/// What stands in the parentheses of a `for` (6.8.5.3).
+/// The parts in the parentheses of a `for` (6.8.5.3).
 #[derive(Drop)]
 pub struct ForHead {
     pub start: ForStart,
@@ -19,7 +19,7 @@ pub struct ForHead {
     pub step: Option<Expr>,
 }
 
-/// What a block consists of (6.8.2).
+/// An item of a block (6.8.2).
 #[cycle(statements)]
 #[derive(Drop)]
 pub enum BlockItem {
@@ -27,7 +27,7 @@ pub enum BlockItem {
     Statement(Stmt),
 }
 
-/// A statement (6.8). The place of each is that of its first token. The head of a `for` stands in a box, so that no other
+/// A statement (6.8). The place of each is that of its first token. The head of a `for` is in a box, so that no other
 /// statement takes as much room as that.
 #[cycle(statements)]
 #[derive(Drop)]

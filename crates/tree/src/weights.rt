@@ -1,10 +1,10 @@
-//! What a call of a function may take of the stack, by its source alone.
+//! The stack that a call of a function may take, by its source alone.
 
 ghost use Rattle.std.specs.Prelude.{◌≡◌};
 ghost use Rattle.tree.specs.Counts.{weight_of};
 
-/// The weight of a function whose definition has so many nodes, and whose parameters and automatic objects take
-/// so many bytes, each of them rounded up to a multiple of 4: `16 * ceil((64 + bytes + 16 * nodes) / 16)`.
+/// The weight of a function whose definition has `nodes` nodes, and whose parameters and automatic objects take
+/// `bytes` bytes, each of them rounded up to a multiple of 4: `16 * ceil((64 + bytes + 16 * nodes) / 16)`.
 pub fn weight(nodes: u32, bytes: u32) -> u64
     ensures { result ≡ weight_of nodes bytes }
 {

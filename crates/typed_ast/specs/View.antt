@@ -75,7 +75,7 @@ abbrev pub arguments_of : List Given → typed.Arguments
 arguments_of [] = typed.no_arguments
 arguments_of (a ∷ rest) = and_given a (arguments_of rest)
 
--- one level, with each part already seen as what it is
+-- one level, with each part already converted
 abbrev pub argument_step : Argument-F Given typed.Place typed.Value → Given
 argument_step (Argument-F.Number ty e) = number_given ty e
 argument_step (Argument-F.Array p) = array_given p

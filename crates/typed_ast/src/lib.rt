@@ -1,7 +1,6 @@
 //! The typed AST, which the checker, the interpreter and the code generator share (ISO/IEC 9899:2011 6.2.5, 6.5 to 6.9).
 //!
-//! Every conversion is written, as a type beside the operands that are converted to it. Places, string literals, objects and
-//! functions are numbered.
+//! Every conversion is explicit, as a type next to the operands that are converted to it. Places, string literals, objects and functions are numbered.
 #![tactic(auto)]
 
 mod expressions;

@@ -5,7 +5,7 @@ use crate::initialisers::Initialiser;
 use ctypes::IntType;
 use srcset::Pos;
 
-/// The expressions in the parentheses of a `for` (6.8.5.3). They stand in a box, so that no other statement takes as much room.
+/// The expressions in the parentheses of a `for` (6.8.5.3). They are boxed, so that no other statement takes as much memory.
 #[derive(Drop)]
 pub struct ForControl {
     pub start: Option<Value>,
@@ -25,13 +25,13 @@ pub enum Statement {
     Block(Pos, usize, usize, Vec<Statement>),
     If(Pos, Value, Box<Statement>),
     IfElse(Pos, Value, Box<Statement>, Box<Statement>),
-    /// The value and each case converted to the type (6.8.4.2p5); then as a block. Labels stand before their statements.
+    /// The value and each case converted to the type (6.8.4.2p5); then as a block. Labels precede their statements.
     Switch(Pos, IntType, Value, usize, usize, Vec<Statement>),
     Case(Pos, i64),
     Default(Pos),
     While(Pos, Value, Box<Statement>),
     DoWhile(Pos, Box<Statement>, Value),
-    /// What is declared, the expressions in the parentheses and the body (6.8.5.3).
+    /// The declarations, the expressions in the parentheses and the body (6.8.5.3).
     For(Pos, Vec<Statement>, Box<ForControl>, Box<Statement>),
     Break(Pos),
     Continue(Pos),
@@ -41,7 +41,7 @@ pub enum Statement {
 }
 
 impl Statement {
-    /// Where it stands in the source.
+    /// Its place in the source.
     pub fn place(&self) -> Pos {
         match self {
             Statement::Empty(at) | Statement::Evaluate(at, _) | Statement::Declare(at, _) => *at,

@@ -1,6 +1,6 @@
-//! What names designate and what is called.
+//! The objects that names designate, and callees.
 
-/// What a name or a string literal designates (6.2.4), each kind numbered apart.
+/// The object that a name or a string literal designates (6.2.4), each kind numbered apart.
 #[derive(Clone, Copy, PartialEq, Eq, Debug)]
 pub enum Storage {
     /// A string literal.
@@ -13,7 +13,7 @@ pub enum Storage {
     Parameter(usize),
 }
 
-/// What a call calls (6.5.2.2).
+/// The callee of a call (6.5.2.2).
 #[derive(Clone, Copy, PartialEq, Eq, Debug)]
 pub enum Callee {
     /// A function, by the number of its definition.

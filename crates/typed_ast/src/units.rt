@@ -17,8 +17,8 @@ pub struct Function {
     pub weight: u64,
 }
 
-/// An object with static storage (6.2.4p3): the values of its first elements, those behind them being zero. One that is only
-/// declared takes no bytes. Its name is for tools, and nothing that a program does depends on it.
+/// An object with static storage (6.2.4p3): the values of its first elements, the others being zero. One that is only declared takes no bytes. Its name is for
+/// tools, and nothing that a program does depends on it.
 #[derive(Drop)]
 pub struct Static {
     /// The number of its name.
@@ -31,7 +31,7 @@ pub struct Static {
 /// A program.
 #[derive(Drop)]
 pub struct Program {
-    /// The characters of each string literal, with the zero behind them (6.4.5p6).
+    /// The characters of each string literal, with the terminating zero (6.4.5p6).
     pub literals: Vec<Vec<u8>>,
     pub statics: Vec<Static>,
     /// The functions, in the order of their definitions.

@@ -1,4 +1,4 @@
--- The scopes in which the bodies of functions stand.
+-- The scopes of the bodies of functions.
 use Rattle.std.proofs.Common.{◌≡◌, ℕ, ◌+◌, ◌≤◌, List, [], ◌∷◌, ◌++◌, length, map, Option, None, refl, sym, ap, ◌∙◌, subst, append_assoc}
 use Rattle.std.specs.Prelude.{nat_lt}
 use Rattle.srcset.specs.declared.code.Code.TheVariants as code
@@ -40,7 +40,7 @@ same_made t d e b c g h l m i j s u o p q1 q2 q3 q4 q5 q6 q7 =
     ap (λ k. made t k b g l i s o) q1 ∙ ap (λ k. made t e k g l i s o) q2 ∙ ap (λ k. made t e c k l i s o) q3 ∙ ap (λ k. made t e c h k i s o) q4 ∙ ap (λ k. made t e c h m k s o) q5
     ∙ ap (λ k. made t e c h m j k o) q6 ∙ ap (λ k. made t e c h m j u k) q7
 
--- ---- the scope behind the declarator of a function
+-- ---- the scope after the declarator of a function
 
 abbrev Stays : Scope → Scope → Type 0
 Stays old new = (new.definitions ≡ old.definitions) × (new.tags ≡ old.tags) × (new.level ≡ old.level) × (new.literals ≡ old.literals)
@@ -99,7 +99,7 @@ body_scope_is t outer inner file ps types own at n class f e o g =
     ∙ before_others (outer.level + 1) ns types k.own file.bindings ∙ ap (λ l. l ++ file.bindings) (sym (newer_are inner.bindings names outer.bindings all)))
     (s.1 ∙ sym k.tags) (level ∙ sym k.level) s.3 refl o
 
--- ---- the scope behind a body
+-- ---- the scope after a body
 
 abbrev done : List (List ℕ) → Scope → List Label → List Initial → List Statement → AllDone
 done t s ms js xs = all_done_of (with_texts t s) ms js xs

@@ -1,4 +1,4 @@
--- What a scope knows of the definitions of its unit stays where something is declared.
+-- A declaration keeps the definitions of its unit that a scope has.
 use Rattle.std.proofs.Common.{◌≡◌, ℕ, zero, suc, ◌+◌, ◌+ℤ◌, ℤ, pos, Bool, true, false, not, length, List, [], ◌∷◌, ◌++◌, Option, Some, None, refl, sym, ap, ◌∙◌, append_assoc}
 use Rattle.srcset.specs.declared.code.Code.TheVariants as code
 use Rattle.srcset.specs.declared.refusal.Pos.{Pos}
@@ -36,7 +36,7 @@ one_name s n m l state = refl
 one_tag : (s : Scope) (n : ℕ) (c : Bool) → Keeps s (with_tag s n c)
 one_tag s n c = refl
 
--- what is behind a scope that is behind on
+-- the result after a scope that keeps the definitions
 pub behind : (a b : Scope) (v : Verdict Scope) → Keeps a b → IfFine (Keeps b) v → IfFine (Keeps a) v
 behind a b v g h = more_of (Keeps b) (Keeps a) v (λ c k. onwards a b c g k) h
 

@@ -1,4 +1,4 @@
--- The names of parameters are the same once more.
+-- The names of parameters are bound again in the same way.
 use Rattle.std.proofs.Common.{◌≡◌, ℕ, zero, suc, ◌+◌, ◌-◌, ◌<◌, ◌≤◌, List, [], ◌∷◌, ◌++◌, drop, get_or, length, map, Option, Some, None, refl, sym, ap, ◌∙◌, subst, arith, append_assoc, append-nil, length-append}
 use Rattle.std.specs.Prelude.{take}
 use Rattle.std.proofs.lemmas.List.{drop_all}
@@ -48,7 +48,7 @@ own_next own k o t h e f = ap (λ l. map object_type_of l) (next_of own k o h e)
 
 -- ---- the names in order
 
--- as far as names stand for their parameters
+-- the names before index i are bound to their parameters
 pub record Left (s0 s : Scope) (ps : List Parameter) (types : List (held_parameter.ParameterType)) (own : List (held.ObjectType)) (i place r k : ℕ) : Type 0 where
   pub placed : place ≡ i
   pub changed : s ≡ with_bindings s.bindings s0
@@ -78,7 +78,7 @@ ended s0 s ps types own i place r k h inv =
     inv.changed
     ∙ ap (λ l. with_bindings l s0) (ap (λ l. bound s0.level r k (names_of (map parameter_of l)) (map parameter_type_of (drop i types)) (map object_type_of (drop k own)) s.bindings) (sym (drop_all i ps h)) ∙ inv.so)
 
--- ---- what parameters bind, and what they leave as it was
+-- ---- the bindings of parameters, and the parts of the scope that they leave unchanged
 
 pub record Bound (r : ℕ) (s : Scope) (ps : List ParameterTree) (whole : Parameters) : Type 0 where
   pub own : List ObjectType
@@ -138,7 +138,7 @@ bound_all (p ∷ ps) r s whole e =
 pub bound_in : (s : Scope) (ps : List ParameterTree) (whole : Parameters) → parameters_in s ps ≡ fine whole → Bound 0 (inside (record s { objects = [] })) ps whole
 bound_in s ps whole e = bound_all ps 0 (inside (record s { objects = [] })) whole e
 
--- ---- they stand before what was bound before
+-- ---- they precede the earlier bindings
 
 named_onto : (level r k : ℕ) (n : Option ℕ) (o : ParameterObject) (xs bs : List Binding) → named level r k n o (xs ++ bs) ≡ named level r k n o xs ++ bs
 named_onto level r k None o xs bs = refl

@@ -1,4 +1,4 @@
--- What a scope knows of the definitions of its unit stays behind statements.
+-- Statements keep the definitions of their unit that a scope has.
 use Rattle.std.proofs.Common.{◌≡◌, Bool, true, false, ◌||◌, [], ◌∷◌, Option, Some, None, refl, sym, subst, ◌∙◌}
 use Rattle.ctypes.specs.declared.types.IntType.{IntType}
 use Rattle.std.specs.Prelude.{if◌then◌else◌}
@@ -127,7 +127,7 @@ mutual
       then_some (done_in s) (all_in s) (statement A d s x) _ (statement_keeps A d s x) (λ y g.
       then_some (all_in y.scope) (all_in s) (pieces A d y.scope ps) (typed.and_statements y) (pieces_keeps A d y.scope ps) (λ more k. onwards s y.scope more.scope g k))
 
--- ---- what is fine
+-- ---- parts that are fine
 
 of_fine : {A : Type 0} (P : A → Type 0) (v : Verdict A) (a : A) → v ≡ fine a → IfFine P v → P a
 of_fine P v a e h = subst (IfFine P) e h

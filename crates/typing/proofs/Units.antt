@@ -1,4 +1,4 @@
--- Functions and external declarations, and what has been looked at before them.
+-- Functions and external declarations, and the result before them.
 use Rattle.std.proofs.Common.{◌≡◌, ℕ, List, [], ◌∷◌, ◌++◌, map, length, arith, refl, sym, ap, ◌∙◌, subst}
 use Rattle.std.proofs.lemmas.List.{map-append}
 use Rattle.srcset.specs.NameTable.{Texts}
@@ -35,7 +35,7 @@ use Rattle.typing.proofs.BodyScopes.{body_scope_is}
 abbrev pub within : List (List ℕ) → List ParameterType → Scope → Parameters
 within t types inner = record { types = types; scope = with_texts t inner }
 
--- ---- a function whose parameters have been looked at
+-- ---- a function whose parameters have been typed
 
 abbrev typed_as : Specified → List ParameterType → FunctionType
 typed_as d types = function_type d.base types
@@ -64,7 +64,7 @@ pub with_body_told : (b : Built) (F : FunctionTree) (d : Specified) (t : List (L
     Tells r (body_read b F (typed_as d types) (with_texts t file) (with_texts t (entered (names_of F.parameters) types own file))) → Tells r (with_parameters b F d (within t types inner))
 with_body_told b F d t outer inner s1 file types own r s p o e f h = subst (λ v. Tells r v) (sym (with_fine b F d t outer inner s1 file types own _ s p o e f refl)) h
 
--- ---- a function behind those before
+-- ---- a function after those before
 
 pub built_more : (stack : ℕ) (s : Scope) (fs new_fs : List held.Function) (is new_is js : List Initial) (old : Scope) (g : held.Function) → new_fs ≡ fs ++ g ∷ [] → new_is ≡ is ++ js → one_more (built_of stack old fs is) s g js ≡ built_of stack s new_fs new_is
 built_more stack s fs new_fs is new_is js old g e f =
@@ -107,7 +107,7 @@ one_external b new x e xs = then_fine (external_typed b x) new (λ c. externals_
 pub one_external_told : (b : Built) (x : ExternalTree) (r : Refusal) → Tells r (external_typed b x) → (xs : List ExternalTree) → Tells r (externals_typed b (x ∷ xs))
 one_external_told b x r h xs = tells_then r (external_typed b x) (λ c. externals_typed c xs) h
 
--- those that are left, of which the first is looked at
+-- the rest, of which the first is typed next
 pub one_left : (b new : Built) (xs left : List External) (x : External) (whole : Verdict Built) → xs ≡ x ∷ left → external_typed b (external_of x) ≡ fine new → externals_typed b (map external_of xs) ≡ whole → externals_typed new (map external_of left) ≡ whole
 one_left b new xs left x whole e h inv = sym (one_external b new (external_of x) h (map external_of left)) ∙ sym (ap (λ l. externals_typed b (map external_of l)) e) ∙ inv
 

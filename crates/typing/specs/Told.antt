@@ -1,4 +1,4 @@
--- The fault of a constraint that stands.
+-- The fault of a violated constraint.
 use Rattle.srcset.specs.NameTable.{Texts}
 use Rattle.srcset.specs.Refusal.{IsFaultOfRefusal}
 use Rattle.srcset.specs.declared.fault.Fault.{Fault}
@@ -7,7 +7,7 @@ use Rattle.typing_spec.specs.Program.{Program}
 use Rattle.typing_spec.specs.Verdict.{Verdict}
 use Rattle.typing_expressions.specs.Refused.{Tells}
 
--- a constraint that is broken, at its place under the names of these texts; or out of memory
+-- a violated constraint, at its place under the names of these texts; or out of memory
 pub record IsFaultOfVerdict (fault : Fault) (texts : Texts) (v : Verdict Program) : Type 0 where
   pub refusal : Refusal
   pub refused : Tells refusal v

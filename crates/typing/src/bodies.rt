@@ -85,7 +85,7 @@ fn body_statements(
     }
 }
 
-/// A function of this type, whose name is in scope and whose parameters are to be. Behind it the scope is that of the unit, without
+/// A function of this type, whose name is in scope and whose parameters are not yet. After it the scope is that of the unit, without
 /// objects of a function.
 pub(crate) fn function_body(
     alloc: Global,

@@ -58,20 +58,20 @@ fn unit_typed(
     }
 }
 
-/// The typed program of a translation unit (6.9), whose names and literals have the texts of `names`, for a stack of so many bytes. What
-/// concerns the whole unit stands at the place `whole`. Each external declaration is given up as soon as it has been looked at: tree and program
+/// The typed program of a translation unit (6.9), whose names and literals have the texts of `names`, for a stack of `stack` bytes. Faults that
+/// concern the whole unit have the place `whole`. Each external declaration is freed once it has been typed: tree and program
 /// are never both whole in memory.
 ///
 /// Fails
-/// - with what a declaration breaks, as `typing_declarations::declaration_typed` does;
-/// - with 527 where a parameter of a function definition has no name (6.9.1p5), and with what its specifiers, parameters and name break;
-/// - with what a body breaks, as `typing_statements::pieces` does, and with 714 where a function weighs more than the stack has bytes;
+/// - with the violations of a declaration, as `typing_declarations::declaration_typed` does;
+/// - with 527 where a parameter of a function definition has no name (6.9.1p5), and with the violations of its specifiers, parameters and name;
+/// - with the violations of a body, as `typing_statements::pieces` does, and with 714 where a function weighs more than the stack has bytes;
 /// - with 713 where static objects and string literals take too many bytes, with 715 where there are too many functions;
 /// - with 552 at the first use of an object or a function that has no definition (6.9p3, p5);
 /// - with 551 where no function is `int main(void)` with external linkage (5.1.2.2.1);
 /// - with 801 where memory runs out.
 ///
-/// The fault is of a constraint that stands, at its place. The recursion is as deep as the tree is.
+/// The fault is of a violated constraint, at its place. The recursion is as deep as the tree is.
 pub fn check(
     alloc: Global,
     unit: Unit,

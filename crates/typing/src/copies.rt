@@ -1,4 +1,4 @@
-//! Types of functions once more.
+//! Cloning of function types.
 #![tactic(auto)]
 
 ghost use Rattle.std.specs.Prelude.{◌≡◌, map, IfErr, IfOk};
@@ -45,7 +45,7 @@ fn copied_parameters(
     Ok(copies)
 }
 
-/// The same function's type once more.
+/// A copy of the function's type.
 pub(crate) fn copied_function(
     alloc: Global,
     function: &FunctionType,

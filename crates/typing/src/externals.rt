@@ -60,7 +60,7 @@ fn external_typed(
     }
 }
 
-/// External declarations in order. Each is given up as soon as its typed form is there, so that what is typed next has its memory.
+/// External declarations in order. Each is freed once it has been typed, so that the next one can reuse its memory.
 pub(crate) fn externals_typed(
     alloc: Global,
     names: &Names,

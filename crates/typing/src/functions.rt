@@ -31,7 +31,7 @@ use typed_ast::{Function, FunctionType};
 use typing_scopes::{Scope, State};
 use typing_units::Initial;
 
-/// The name of a function is in scope, behind its parameters.
+/// Declares the name of a function, whose scope begins after its parameters.
 fn declare_function(
     alloc: Global,
     names: &Names,
@@ -61,7 +61,7 @@ fn declare_function(
     }
 }
 
-/// A function whose parameters have been looked at.
+/// A function whose parameters have been typed.
 fn with_type(
     alloc: Global,
     names: &Names,
@@ -100,7 +100,7 @@ fn with_type(
     }
 }
 
-/// A function definition, behind those before.
+/// A function definition, after those before.
 pub(crate) fn function_typed(
     alloc: Global,
     names: &Names,

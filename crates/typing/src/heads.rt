@@ -1,4 +1,4 @@
-//! What stands before the body of a function (6.9.1).
+//! The part before the body of a function (6.9.1).
 #![tactic(auto, using(decls_declarators::proofs::Verdicts::told, decls_declarators::proofs::Verdicts::provided_fine, decls_declarators::proofs::Verdicts::provided_left, decls_declarators::proofs::Verdicts::provided_right, typing_expressions::proofs::Verdicts::tells_of))]
 
 ghost use Rattle.std.specs.Prelude.{◌≡◌, List, map, IfErr, IfOk};
@@ -44,7 +44,7 @@ pub(crate) fn named_parameters(
     }
 }
 
-/// The scope goes back to what it was around parameters. It gives those objects of the function that are parameters.
+/// Restores the scope to its state around parameters. Returns those objects of the function that are parameters.
 pub(crate) fn leave_parameters(
     scope: &mut Scope,
     block: Block,

@@ -1,4 +1,4 @@
-//! The names of parameters once more, in the scope of a function's body (6.2.1p4).
+//! Binding of the names of parameters in the scope of a function's body (6.2.1p4).
 #![tactic(auto)]
 
 ghost use Rattle.std.specs.Prelude.{◌≡◌, ◌+◌, ◌∷◌, ℕ, List, drop, length, map, nat_lt, IfErr, IfOk, OnOk};
@@ -25,7 +25,7 @@ fn is_there(own: &[ObjectType], place: usize) -> bool
     place < own.len()
 }
 
-/// The type of the object with this number once more.
+/// A copy of the type of the object with this number.
 fn own_copy(alloc: Global, own: &[ObjectType], place: usize) -> Result<ObjectType, Refusal>
     ensures ok { IfOk result (λ t. map object_type_of (drop place own.now) ≡ object_type_of t ∷ map object_type_of (drop (place + 1) own.now)) }
     ensures err { IfErr result (λ r. r ≡ Memory) }
@@ -51,7 +51,7 @@ fn count_one(count: &mut usize) -> Result<(), Refusal>
     }
 }
 
-/// A name, if there is one, stands for the object with this number.
+/// Binds a name, if there is one, to the object with this number.
 fn name_number(
     scope: &mut Scope,
     name: Option<usize>,
@@ -73,7 +73,7 @@ fn name_number(
     }
 }
 
-/// A name, if there is one, stands for the reference with this number.
+/// Binds a name, if there is one, to the reference with this number.
 fn name_reference(
     scope: &mut Scope,
     name: Option<usize>,

@@ -1,4 +1,4 @@
--- The literals of the scope behind a declarator are those behind its initialiser.
+-- The literals of the scope after a declarator are those after its initialiser.
 use Rattle.std.proofs.Common.{◌≡◌, ℕ, zero, suc, List, Option, Some, None, refl, sym, ap, ◌∙◌, subst}
 use Rattle.srcset.specs.declared.refusal.Pos.{Pos}
 use Rattle.tree.specs.Tree.{Init}

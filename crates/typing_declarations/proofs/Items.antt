@@ -25,7 +25,7 @@ use Rattle.typing_declarations.specs.inside.Effects.{object_typed, without_effec
 abbrev together : typed.Effects → Scope → Verdict typed.Declared
 together e inner = fine (record { scope = inner; effects = e })
 
--- what is left behind one declarator, with its effects before
+-- the declarators left after one, with its effects before theirs
 abbrev rest_of : StorageClass → BaseType → List ItemTree → typed.Declared → Verdict typed.Declared
 rest_of c b is d = then_check (typed.items_typed d.scope c b is) (typed.before_others d.effects)
 
@@ -149,7 +149,7 @@ goes_told whole s c b is k i r before now first then_first h e g t =
     subst (λ v. Tells r v) (ap (λ z. then_check (left_of s c b z) (typed.before_others (effects_of g.0 g.1))) (sym (next_of is k i h e)) ∙ sym g.4)
     (tells_then r (typed.items_typed s c b (item_of i ∷ map item_of (drop (k + 1) is))) (typed.before_others (effects_of g.0 g.1)) (item_told r s c b (item_of i) (map item_of (drop (k + 1) is)) t))
 
--- ---- what stands before them, and what is without
+-- ---- the effects before them, and declarators without effects
 
 pub leaves_same : (v w : Verdict typed.Declared) (s : Scope) (before after : List Statement) (first later : List Initial) → v ≡ w → Leaves w s before after first later → Leaves v s before after first later
 leaves_same v w s before after first later e l = (l.0, l.1, l.2, l.3, e ∙ l.4)

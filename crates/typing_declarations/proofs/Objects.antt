@@ -1,4 +1,4 @@
--- What the declarator of an object does, of its parts.
+-- The effects of the declarator of an object, in terms of its parts.
 use Rattle.std.proofs.Common.{◌≡◌, ℕ, Bool, true, false, ◌&&◌, is_some, List, [], ◌∷◌, ◌++◌, Option, Some, None, refl, sym, ap, ◌∙◌, subst, append-nil}
 use Rattle.srcset.specs.declared.refusal.Pos.{Pos}
 use Rattle.srcset.specs.declared.refusal.Refusal.{Refusal}
@@ -51,7 +51,7 @@ of_object s at u i = initialiser s at (typed.element_of u) (typed.wanted_by u) t
 abbrev constant_of : Scope → DeclaredType → Init → Verdict (Unit {0})
 constant_of s u i = constant_parts s (typed.element_of u) (typed.wanted_by u) i
 
--- of the element and of what is wanted as the code holds them
+-- of the element and the wanted form as the code holds them
 pub constant_as : (s : Scope) (u : DeclaredType) (e : IntType) (w : Wanted) (i : Init) → e ≡ typed.element_of u → w ≡ typed.wanted_by u → constant_parts s e w i ≡ constant_parts s (typed.element_of u) (typed.wanted_by u) i
 constant_as s u e w i p q = ap (λ k. constant_parts s k w i) p ∙ ap (λ k. constant_parts s (typed.element_of u) k i) q
 
@@ -72,7 +72,7 @@ pub first_typing : (t : List (List ℕ)) (s : Scope) (at : Pos) (u : DeclaredTyp
 first_typing t s at u n i r f h =
     then_tells r (constant_of (with_texts t s) u i) tt (behind_parts (with_texts t s) at u n i) (sym (parts_same t s (typed.element_of u) (typed.wanted_by u) i) ∙ f) (tells_then r (of_object (with_texts t s) at u i) (with_first (with_texts t s) u n i) h)
 
--- ---- what is put behind
+-- ---- the effects that are appended
 
 pub nothing_done : (v : Verdict typed.Effects) (before : List Statement) (first : List Initial) → v ≡ fine typed.no_effects → Does v before before first first
 nothing_done v before first e = ([], [], sym (append-nil before), sym (append-nil first), e)

@@ -1,4 +1,4 @@
--- What the code's declarations stand for.
+-- The meaning of the code's declarations.
 use Rattle.std.specs.Prelude.{List, map}
 use Rattle.typed_ast.specs.declared.statements.Statement.{Statement}
 use Rattle.typed_ast.specs.View.{statement_of}
@@ -11,6 +11,6 @@ use Rattle.typing_spec.specs.Declarations as typed
 abbrev pub effects_of : List Statement → List Initial → typed.Effects
 effects_of xs js = record { statements = map statement_of xs; initial = map initial_of js }
 
--- what a declaration leaves: the scope behind it, and what it does
+-- the result of a declaration: the scope after it, and its effects
 abbrev pub declared_of : Scope → List Statement → List Initial → typed.Declared
 declared_of s xs js = record { scope = s; effects = effects_of xs js }

@@ -1,4 +1,4 @@
-//! What declarations do (ISO/IEC 9899:2011 6.7, 6.7.9).
+//! The effects of declarations (ISO/IEC 9899:2011 6.7, 6.7.9).
 #![tactic(auto)]
 
 mod laid_values;

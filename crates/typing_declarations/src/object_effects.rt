@@ -1,4 +1,4 @@
-//! What the declarators of objects do, as far as that is known before the scope behind them (6.7.9).
+//! The effects of the declarators of objects, as far as they are known before the scope after them (6.7.9).
 #![tactic(auto)]
 
 ghost use Rattle.std.specs.Prelude.{◌≡◌, IfErr, IfOk};
@@ -20,7 +20,7 @@ use tree::Initialiser as Init;
 use typed_ast::{DeclaredType, Initialiser, Storage};
 use typing_scopes::Scope;
 
-/// What a declarator does, with its place. The values of an initialiser for static storage are not looked at yet: they want its literals.
+/// The effect of a declarator, with its place. The values of an initialiser for static storage are not checked yet: they need its literals.
 #[derive(Drop)]
 pub(crate) enum ObjectEffect {
     Nothing,

@@ -29,7 +29,7 @@ pub(crate) fn element_of(declared: &DeclaredType) -> IntType
     }
 }
 
-/// What is initialised: an object, or an array of as many elements as its initialiser gives it.
+/// The object to initialise: an object, or an array of as many elements as its initialiser gives it.
 pub(crate) fn wanted_by<'t>(declared: &'t DeclaredType) -> Wanted<'t>
     ensures { wanted_of result ≡ typed.wanted_by (declared_type_of declared.now) }
 {

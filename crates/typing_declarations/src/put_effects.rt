@@ -1,4 +1,4 @@
-//! What declarators do stands behind what was done before.
+//! Appends the effects of declarators to those before.
 #![tactic(auto)]
 
 ghost use Rattle.std.specs.Prelude.{◌≡◌, [], ◌∷◌, ◌++◌, IfErr, OnOk};
@@ -38,7 +38,7 @@ fn push_initial(one: Initial, firsts: &mut Vec<Initial>) -> Result<(), Refusal>
     }
 }
 
-/// What a declarator does, in a scope with these literals, stands behind what was done before.
+/// Appends the effects of a declarator, in a scope with these literals, to those before.
 pub(crate) fn put_effect(
     alloc: Global,
     names: &Names,

@@ -1,4 +1,4 @@
-//! Declarations and static assertions with what they do (6.7, 6.7.10).
+//! Declarations and static assertions with their effects (6.7, 6.7.10).
 #![tactic(auto)]
 
 ghost use Rattle.std.specs.Prelude.{◌≡◌, ◌++◌, List, map, IfErr, OnOk};
@@ -45,17 +45,17 @@ fn with_items(
     )
 }
 
-/// A declaration (6.7) or a static assertion (6.7.10), in a scope whose names and literals have these texts: the scope behind it, and
-/// behind those before the statements of its automatic objects and the first values of its objects with static storage.
+/// A declaration (6.7) or a static assertion (6.7.10), in a scope whose names and literals have these texts: the scope after it, and
+/// the statements of its automatic objects and the first values of its objects with static storage, appended to those before.
 ///
 /// Fails
-/// - with what the specifiers break, 511 to 514, 515, 524, 525 and what the value of an enumerator breaks;
-/// - with what a declarator breaks, 514 to 519, 521, 526, 553, 712 and what its sizes break;
-/// - with what an initialiser breaks, 501, 520, 521, 534, 622 and what its expressions break;
-/// - with what an assertion's condition breaks, or with 523;
+/// - with a fault of the specifiers, 511 to 514, 515, 524, 525, and a fault of the value of an enumerator;
+/// - with a fault of a declarator, 514 to 519, 521, 526, 553, 712, and a fault of its sizes;
+/// - with a fault of an initialiser, 501, 520, 521, 534, 622, and a fault of its expressions;
+/// - with a fault of an assertion's condition, or with 523;
 /// - with 801 where memory runs out.
 ///
-/// After a refusal nothing is said of the scope, the statements and the first values.
+/// After a refusal the scope, the statements and the first values are unspecified.
 pub fn declaration_typed(
     alloc: Global,
     names: &Names,

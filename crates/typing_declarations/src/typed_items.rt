@@ -1,4 +1,4 @@
-//! Declarators in order with what they do (6.7, 6.7.6, 6.7.9).
+//! Declarators in order with their effects (6.7, 6.7.6, 6.7.9).
 #![tactic(auto)]
 
 ghost use Rattle.std.specs.Prelude.{◌≡◌, map, IfErr, OnOk};
@@ -24,7 +24,7 @@ use typed_ast::Statement;
 use typing_scopes::Scope;
 use typing_units::Initial;
 
-/// An object that has begun: what its initialiser does, and the scope behind it.
+/// An object that has begun: the effects of its initialiser, and the scope after it.
 fn begun_typed(
     alloc: Global,
     names: &Names,

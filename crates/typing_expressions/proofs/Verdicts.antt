@@ -1,4 +1,4 @@
--- What the verdicts of parts say of the whole.
+-- The verdicts of the parts determine that of the whole.
 use Rattle.std.specs.Prelude.{Result, IfErr}
 use Rattle.std.specs.Result.{IsErrAnd}
 use Rattle.std.proofs.lemmas.Result.{err_from_is_err_and}
@@ -58,7 +58,7 @@ tells_then (At code at) (fine a) go h = absurd h
 tells_then (At code at) (broken vs) go h = h
 tells_then (Told code at text) v go h = absurd h
 
--- a fault that stands may be told
+-- a fault that applies may be reported
 pub tells_of : {A : Type 0} (r : Refusal) (v : Verdict A) → IsOf r v → Tells r v
 tells_of Memory v h = tt
 tells_of (At code at) v h = h

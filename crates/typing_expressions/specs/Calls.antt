@@ -1,4 +1,4 @@
--- What the code's calls stand for.
+-- The meaning of the code's calls.
 use Rattle.typed_ast.specs.View as view
 use Rattle.typing_expressions.specs.declared.callees.Called.{Called}
 use Rattle.typing_spec.specs.Expressions as typed

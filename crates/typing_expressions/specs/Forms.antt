@@ -1,4 +1,4 @@
--- What the code's checked expressions stand for.
+-- The meaning of the code's checked expressions.
 use Rattle.std.specs.Prelude.{ℕ, List}
 use Rattle.typing_expressions.specs.declared.forms.Elements.{Elements}
 use Rattle.typing_expressions.specs.declared.forms.Checked as held

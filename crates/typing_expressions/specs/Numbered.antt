@@ -1,4 +1,4 @@
--- Typing where so many string literals stand before.
+-- Typing after a number of string literals.
 use Rattle.std.specs.Prelude.{ℕ, List, Option, replicate}
 use Rattle.tree.specs.Tree.{Tree, Trees, TypeTree}
 use Rattle.typing_spec.specs.Types.{ObjectType, ParameterType}
@@ -10,7 +10,7 @@ use Rattle.typing_spec.specs.Expressions as typed
 use Rattle.typing_expressions.specs.Forms.{seen}
 use Rattle.srcset.specs.declared.refusal.Pos.{Pos}
 
--- a scope with the unit's texts and so many string literals before
+-- a scope with the unit's texts, after n string literals
 abbrev pub numbered : List (List ℕ) → ℕ → Scope → Scope
 numbered texts n s = seen texts (replicate n 0) s
 

@@ -1,11 +1,11 @@
--- What a refusal says of a verdict.
+-- The relation between a refusal and a verdict.
 use Rattle.srcset.specs.declared.refusal.Refusal.{Refusal}
 use Rattle.srcset.specs.declared.refusal.Refusal.TheVariants.{Memory, At, Told}
 use Rattle.srcset.specs.declared.code.Code.{Code}
 use Rattle.srcset.specs.declared.refusal.Pos.{Pos}
 use Rattle.typing_spec.specs.Verdict.{Verdict, Stands}
 
--- the constraint that is told is broken there
+-- the constraint that the refusal reports is broken there
 abbrev pub IsOf : {A : Type 0} → Refusal → Verdict A → Type 0
 IsOf Memory v = ⊥
 IsOf (At code at) v = Stands code at v

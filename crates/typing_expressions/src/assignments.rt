@@ -18,7 +18,7 @@ use std::alloc::Global;
 use tree::{AssignOp, StepOp};
 use typed_ast::{Moment, Place, Value};
 
-/// What may be assigned to: an element that is not `const` (6.3.2.1p1).
+/// A place that may be assigned to: an element that is not `const` (6.3.2.1p1).
 #[derive(Drop)]
 pub(crate) struct Target {
     pub(crate) ty: IntType,
@@ -75,7 +75,7 @@ fn step<'s>(
     }
 }
 
-/// `++` and `--`, behind their operand or before it (6.5.2.4, 6.5.3.1).
+/// `++` and `--`, after their operand or before it (6.5.2.4, 6.5.3.1).
 #[inline(never)]
 pub fn stepped<'s>(
     alloc: Global,

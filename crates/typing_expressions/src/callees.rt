@@ -1,4 +1,4 @@
-//! What a call calls (6.5.2.2), and the built-in functions.
+//! The callee of a call (6.5.2.2), and the built-in functions.
 #![tactic(auto)]
 
 ghost use Rattle.std.specs.Prelude.{◌≡◌, ◌++◌, ◌∷◌, [], ℕ, map, reverse, IfErr, IfOk, OnOk};
@@ -25,7 +25,7 @@ pub struct Called<'s> {
     pub function: &'s FunctionType,
 }
 
-/// What a function with a definition, or without one, is called by.
+/// The callee for a function with a definition, or without one.
 fn defined_callee(scope: &Scope, name: usize) -> Callee
     ensures { callee_of result ≡ typed.by_definition name (typed.place_from 0 scope.now.definitions name) }
 {
@@ -35,7 +35,7 @@ fn defined_callee(scope: &Scope, name: usize) -> Callee
     }
 }
 
-/// What a call of the function with this name calls.
+/// The callee of a call of the function with this name.
 fn callee(names: &Names, scope: &Scope, name: usize) -> Callee
     ensures { (n : ℕ) → callee_of result ≡ typed.callee_of (numbered names.now n scope.now) name }
 {

@@ -1,4 +1,4 @@
-//! What an expression is, with its typed form.
+//! The kind of an expression, with its typed form.
 #![tactic(auto)]
 
 ghost use Rattle.std.specs.Prelude.{◌≡◌, IfErr, IfOk, OnOk};
@@ -25,13 +25,13 @@ pub struct Elements<'s> {
     pub lengths: &'s [u32],
 }
 
-/// What an expression is, and its place.
+/// The kind of an expression, and its place.
 #[derive(Drop)]
 pub enum Checked<'s> {
     Value(Pos, IntType, Value),
     /// An element, and whether it is `const`.
     Object(Pos, IntType, bool, Place),
-    /// An array of so many such elements.
+    /// An array of this number of such elements.
     Array(Pos, u32, Elements<'s>, Place),
     /// An array of unknown size.
     Unsized(Pos, Elements<'s>, Place),
@@ -101,8 +101,8 @@ pub(crate) fn read(alloc: Global, ty: IntType, place: Place) -> Result<Worth, Re
     })
 }
 
-/// The value of an expression (6.3.2.1p2): of `void` this code stands at this place. An array or a function has none in this
-/// profile.
+/// The value of an expression (6.3.2.1p2): a `void` expression is refused with this code at this place. An array or a function has
+/// no value in this profile.
 #[inline(never)]
 pub fn valued(alloc: Global, code: Code, at: Pos, x: Checked) -> Result<Worth, Refusal>
     ensures ok { IfOk result (λ w. typed.worth code at (checked_of x.entry) ≡ fine (worth_of w)) }

@@ -22,7 +22,7 @@ use typed_ast::{Place, Storage};
 /// The most bytes of an object, of an element of an array, and of an array in a type name (5.2.4.1).
 pub const OBJECT_LIMIT: u64 = 1_048_576;
 
-/// How many characters a literal has; its text has a zero behind them.
+/// How many characters a literal has; its text has a terminating zero.
 fn characters(names: &Names, name: usize) -> usize
     ensures { result ≡ length (or_empty (slice_get names.now name)) - 1 }
 {
@@ -32,7 +32,7 @@ fn characters(names: &Names, name: usize) -> usize
     }
 }
 
-/// An array of `char`, of so many characters and a zero.
+/// An array of `char`, of `length` characters, the terminating zero included.
 fn array<'s>(pos: Pos, number: usize, length: u32) -> Checked<'s>
     ensures { checked_of result ≡ typed.array pos (complete (array_of length (record { element = ty.Char; constant = false; lengths = [] }))) (program_typed.named pos (program_typed.literal number)) }
 {
@@ -75,7 +75,7 @@ fn next_number(literals: &mut usize) -> Result<usize, Refusal>
     Ok(number)
 }
 
-/// A string literal (6.4.5p6) behind so many. It is 801 where they are as many as a `usize` can tell.
+/// A string literal (6.4.5p6) after `literals` others. Fails with 801 where their number is the maximum of `usize`.
 #[inline(never)]
 pub fn next_literal<'s>(
     names: &Names,

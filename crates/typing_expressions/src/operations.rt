@@ -178,7 +178,7 @@ fn void_choice<'s>(
     Ok(Checked::Nothing(pos, Value::Chosen(None, test, a, b)))
 }
 
-/// An arm beside one that is `void`.
+/// An arm whose other arm is `void`.
 fn choice_beside_nothing<'s>(
     alloc: Global,
     pos: Pos,

@@ -1,4 +1,4 @@
--- The first of equal names is the newest of them read from behind.
+-- The first of equal names is the newest of them in reverse order.
 use Rattle.std.proofs.Common.{◌≡◌, ℕ, ◌+◌, ◌-◌, ◌<◌, List, [], ◌∷◌, length, Some, None, refl, ap, ◌∙◌, arith, rules, nat_eq, true, false, cond}
 use Rattle.typing_spec.specs.Scope.{place_from}
 use Rattle.typing_scopes.specs.NewestNames.{place_of, before, newest_of}

@@ -91,7 +91,7 @@ pub option_seen : (r : Option (Bor Binding)) → option_binding r ≡ seen_bindi
 option_seen None = refl
 option_seen (Some b) = refl
 
--- what is read at a place
+-- the element read at a place
 below : (k n : ℕ) → true ≡ ltb k n → k < n
 below k n h = grind arith
 

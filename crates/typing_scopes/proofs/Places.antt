@@ -1,4 +1,4 @@
--- Where names stand.
+-- The places of names.
 use Rattle.std.proofs.Common.{◌≡◌, ℕ, zero, suc, ◌+◌, ◌-◌, ◌<◌, ◌≤◌, List, [], ◌∷◌, ◌++◌, length, Some, refl, sym, ap, ◌∙◌, arith, get_or, nat_eq, true, false, cond, length-append, set, length-set, get_or-set_same, get_or-set_other, eq-eqb, subst, ◌≢◌, drop}
 use Rattle.std.specs.Prelude.{reverse}
 use Rattle.std.proofs.lemmas.Grind.{common_steps}
@@ -6,7 +6,7 @@ use Rattle.std.proofs.lemmas.List.{length-reverse, reverse-append}
 use Rattle.typing_scopes.specs.declared.newest_names.Entry.{Entry}
 use Rattle.typing_scopes.specs.NewestNames.{names_of, place_of, before, Hides}
 
--- one more zero behind changes no place
+-- one more zero at the end changes no place
 pub one_zero_more : (xs : List ℕ) (n : ℕ) → get_or (xs ++ 0 ∷ []) n 0 ≡ get_or xs n 0
 one_zero_more [] zero = refl
 one_zero_more [] (suc n) = refl
@@ -39,7 +39,7 @@ more_room m k (e ∷ es) le h = (h.0, omega (arith, h.1, le), more_room m k es l
 same_place : (xs : List ℕ) (b : Entry) (bs : List ℕ) (n : ℕ) → b.name < length xs → b.hides ≡ place_of bs b.name → b.name ≡ n → get_or (set xs b.name b.hides) n 0 ≡ place_of bs n
 same_place xs b bs n lt hides q = ap (λ m. get_or (set xs b.name b.hides) m 0) (sym q) ∙ rw get_or-set_same (hides ∙ ap (λ m. place_of bs m) q)
 
--- what the newest places are once the newest name is gone
+-- the newest places once the newest name is removed
 unhidden : (xs : List ℕ) (b : Entry) (bs : List ℕ) → b.name < length xs → b.hides ≡ place_of bs b.name → ((n : ℕ) → get_or xs n 0 ≡ place_of (b.name ∷ bs) n)
     → (n : ℕ) → get_or (set xs b.name b.hides) n 0 ≡ place_of bs n
 unhidden xs b bs lt hides all n =

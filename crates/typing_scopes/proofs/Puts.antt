@@ -1,4 +1,4 @@
--- One element in the place of another, or behind all.
+-- One element in the place of another, or after all.
 use Rattle.std.proofs.Common.{◌≡◌, ℕ, zero, suc, ◌<◌, ◌≤◌, List, [], ◌∷◌, ◌++◌, length, map, refl, ap, ◌∙◌, arith, set}
 use Rattle.std.proofs.lemmas.List.{map-set, map-append, length-map}
 use Rattle.typing_scopes.specs.declared.bindings.StaticObject.{StaticObject}

@@ -1,4 +1,4 @@
--- The built-in functions that the code's values stand for.
+-- The models of the code's built-in functions.
 use Rattle.std.specs.Prelude.{false, [], ◌∷◌, Option, Some, None}
 use Rattle.ctypes.specs.declared.types.IntType.TheVariants as ty
 use Rattle.typing_spec.specs.Types as type

@@ -18,7 +18,7 @@ before (suc k) = Some k
 abbrev pub newest_of : List ℕ → ℕ → Option ℕ
 newest_of ms n = before (place_of ms n)
 
--- each entry tells the place of the one that it hides
+-- each entry holds the place of the one that it hides
 abbrev pub Hides : ℕ → List Entry → Type 0
 Hides count [] = Unit {0}
 Hides count (e ∷ es) = (e.hides ≡ place_of (names_of es) e.name) × (e.name < count) × Hides count es

@@ -1,4 +1,4 @@
--- The scopes that the code's values stand for.
+-- The models of the code's scopes.
 use Rattle.std.specs.Prelude.{ℕ, ◌-◌, List, map, reverse, drop, length, Option, Some, None}
 use Rattle.std.specs.Borrow.{Bor}
 use Rattle.typing_scopes.specs.declared.bindings.Meaning.{Meaning}
@@ -40,7 +40,7 @@ tag_of t = record { name = t.name; level = t.level; complete = t.complete }
 abbrev pub static_of : StaticObject → typed.StaticObject
 static_of s = record { type = object_type_of s.object_type; defined = s.defined }
 
--- what a look-up gives, apart from the reference
+-- the result of a look-up, apart from the reference
 abbrev pub option_binding : Option (Bor Binding) → Option typed.Binding
 option_binding None = None
 option_binding (Some b) = Some (binding_of b.now)
@@ -74,7 +74,7 @@ with_texts texts s = record s { texts = texts }
 abbrev pub block_of : typed.Scope → Block
 block_of s = record { names = length s.bindings; tags = length s.tags; level = s.level }
 
--- without the newest name, the newest tag; with the oldest so many names, tags
+-- without the newest name, the newest tag; with the oldest n names, tags
 abbrev pub one_name_less : typed.Scope → typed.Scope
 one_name_less s = record s { bindings = drop 1 s.bindings }
 

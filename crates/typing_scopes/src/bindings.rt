@@ -1,8 +1,8 @@
-//! What names and tags stand for (6.2.1 to 6.2.4).
+//! The meanings of names and tags (6.2.1 to 6.2.4).
 
 use typed_ast::{DeclaredType, FunctionType, ObjectType, Storage};
 
-/// What an ordinary identifier stands for.
+/// The meaning of an ordinary identifier.
 #[derive(Drop)]
 pub enum Meaning {
     Object(Storage, DeclaredType),

@@ -46,7 +46,7 @@ pub fn built_in(names: &Names, name: usize) -> Option<BuiltIn>
 }
 
 impl BuiltIn {
-    /// What a call of it calls.
+    /// The target of a call of it.
     pub fn callee(self) -> Callee
         ensures { callee_of result ≡ (built_in_of self).callee }
     {

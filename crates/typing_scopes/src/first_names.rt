@@ -1,4 +1,4 @@
-//! Where the first of several equal names stands, in constant time.
+//! The place of the first of several equal names, in constant time.
 
 ghost use Rattle.std.specs.Prelude.{◌≡◌, IfOk};
 ghost use Rattle.typing_spec.specs.Scope as typed;
@@ -7,10 +7,10 @@ use crate::newest_names::NewestNames;
 use std::alloc::{AllocError, Global};
 use std::marker::Model;
 
-/// Names in the order in which they came, which no further name joins.
+/// Names in their order, to which no further name is added.
 #[derive(Drop)]
 pub(crate) struct FirstNames {
-    // The last one came first, so that the newest is the first.
+    // The last one was added first, so that the newest is the first.
     backwards: NewestNames,
 }
 

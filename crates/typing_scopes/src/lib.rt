@@ -1,4 +1,4 @@
-//! Scopes: what names and tags stand for (ISO/IEC 9899:2011 6.2.1 to 6.2.4).
+//! Scopes: the meanings of names and tags (ISO/IEC 9899:2011 6.2.1 to 6.2.4).
 #![tactic(auto)]
 
 mod bindings;

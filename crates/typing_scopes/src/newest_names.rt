@@ -1,4 +1,4 @@
-//! Where the newest of several equal names stands, in constant time.
+//! The place of the newest of several equal names, in constant time.
 
 ghost use Rattle.std.specs.Prelude.{◌≡◌, ◌+◌, ◌<◌, ◌≤◌, ℕ, List, [], ◌∷◌, OnOk, OnErr, length, get_or, drop, reverse};
 ghost use Rattle.typing_scopes.specs.NewestNames.{place_of, newest_of, names_of, Hides};
@@ -13,9 +13,9 @@ pub(crate) struct Entry {
     hides: usize,
 }
 
-/// Names in the order in which they came, equal ones too. Contracts see the list with the newest first.
+/// Names in the order in which they were added, equal ones too. Contracts see the list with the newest first.
 ///
-/// It takes room for the greatest number of a name.
+/// It allocates room for the greatest number of a name.
 #[derive(Drop)]
 pub(crate) struct NewestNames {
     entries: Vec<Entry>,
@@ -86,7 +86,7 @@ impl NewestNames {
         Ok(())
     }
 
-    /// The newest name goes.
+    /// Removes the newest name.
     pub(crate) fn leave(&mut self)
         ensures { self.new ≡ drop 1 self.old }
     {

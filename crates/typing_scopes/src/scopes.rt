@@ -1,4 +1,4 @@
-//! Scopes: what each name stands for (6.2.1 to 6.2.4), and what the program so far has declared.
+//! Scopes: the meaning of each name (6.2.1 to 6.2.4), and the declarations of the program so far.
 
 ghost use Rattle.std.specs.Prelude.{◌≡◌, List, [], ◌∷◌, ◌++◌, map, OnOk, OnErr, IfOk, IfErr, drop, length};
 ghost use Rattle.typing_spec.specs.Scope as typed;
@@ -25,9 +25,9 @@ pub struct Block {
     level: usize,
 }
 
-/// The names and tags in scope, and what the program so far has declared.
+/// The names and tags in scope, and the declarations of the program so far.
 ///
-/// Names and tags are found in constant time, and leaving a block costs what it declared.
+/// A look-up of a name or tag takes constant time; leaving a block takes time in proportion to its declarations.
 #[derive(Drop)]
 pub struct Scope {
     definitions: FirstNames,
@@ -191,7 +191,7 @@ impl Scope {
         }
     }
 
-    /// Another function begins with these objects, or goes on. It gives those of the one before.
+    /// Another function begins with these objects, or continues. Returns those of the one before.
     pub fn change_objects(&mut self, objects: Vec<ObjectType>) -> Vec<ObjectType>
         ensures new { self.new ≡ with_objects (map object_type_of objects.items) self.old }
         ensures old { map object_type_of result.items ≡ self.old.objects }
@@ -199,7 +199,7 @@ impl Scope {
         replace(&mut self.objects, objects)
     }
 
-    /// Other objects with static storage. It gives those so far.
+    /// Replaces the objects with static storage. Returns those so far.
     pub fn change_statics(&mut self, statics: Vec<StaticObject>) -> Vec<StaticObject>
         ensures new { self.new ≡ with_statics (map static_of statics.items) self.old }
         ensures old { map static_of result.items ≡ self.old.statics }
@@ -260,7 +260,7 @@ impl Scope {
             }
         }
     }
-    /// A block begins. It is 801 where it is as deep as a `usize` can tell.
+    /// Enters a block. It is 801 where the depth exceeds a `usize`.
     pub fn inside(&mut self) -> Result<Block, Refusal>
         ensures ok { IfOk result (λ b. (b ≡ block_of self.old) × (self.new ≡ typed.inside self.old)) }
         ensures err { OnErr result (self.new ≡ self.old) }
@@ -278,7 +278,7 @@ impl Scope {
         Ok(block)
     }
 
-    /// The newest name goes.
+    /// Removes the most recently declared name.
     fn drop_name(&mut self)
         ensures { self.new ≡ one_name_less self.old }
     {
@@ -286,7 +286,7 @@ impl Scope {
         self.bindings.pop();
     }
 
-    /// The newest tag goes.
+    /// Removes the most recently declared tag.
     fn drop_tag(&mut self)
         ensures { self.new ≡ one_tag_less self.old }
     {
@@ -294,7 +294,7 @@ impl Scope {
         self.tags.pop();
     }
 
-    /// The names go that came after the first so many.
+    /// Removes the names after the first `count`.
     fn leave_names(&mut self, count: usize)
         ensures { self.new ≡ names_left count self.old }
     {
@@ -303,7 +303,7 @@ impl Scope {
         }
     }
 
-    /// The tags go that came after the first so many.
+    /// Removes the tags after the first `count`.
     fn leave_tags(&mut self, count: usize)
         ensures { self.new ≡ tags_left count self.old }
     {
@@ -312,7 +312,7 @@ impl Scope {
         }
     }
 
-    /// A block ends: its names and tags go, what was declared stays. It costs what the block declared.
+    /// Leaves a block: removes its names and tags, keeps its objects and literals. It costs as much as the block has declarations.
     pub fn outside(&mut self, block: Block)
         ensures { (outer : typed.Scope) (names : List typed.Binding) (tags : List typed.Tag) → block ≡ block_of outer → self.old.bindings ≡ names ++ outer.bindings → self.old.tags ≡ tags ++ outer.tags → self.new ≡ typed.outside outer self.old }
     {

@@ -1,4 +1,4 @@
--- Declarations, constants and initialisers: sources of the profile and what the rules say of them, each fault with its line.
+-- Declarations, constants and initialisers: sources of the profile and the verdict of the rules on them, each fault with its line.
 use Rattle.std.proofs.Common.{◌≡◌, ℕ, refl, [], ◌∷◌, Some, None}
 use Rattle.std.specs.Prelude.{◌++◌, codes}
 use Rattle.srcset.specs.declared.refusal.Pos.{Pos}

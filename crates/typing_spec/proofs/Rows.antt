@@ -1,4 +1,4 @@
--- Expressions, statements and units: sources of the profile and what the rules say of them, each fault with its line; 0 is that
+-- Expressions, statements and units: sources of the profile and the verdict of the rules on them, each fault with its line; 0 is that
 -- of the whole unit.
 use Rattle.std.proofs.Common.{◌≡◌, ℕ, refl, [], ◌∷◌, Some, None}
 use Rattle.std.specs.Prelude.{◌++◌, codes}

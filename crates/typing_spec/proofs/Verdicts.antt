@@ -1,4 +1,4 @@
--- What is broken in a part stands in the whole.
+-- A constraint that a part violates is violated in the whole.
 use Rattle.std.proofs.Common.{inl, inr}
 use Rattle.srcset.specs.declared.code.Code.{Code}
 use Rattle.srcset.specs.declared.refusal.Pos.{Pos}

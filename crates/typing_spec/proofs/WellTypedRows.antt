@@ -1,4 +1,4 @@
--- Trees that are no typed program, each beside one that differs in the one place alone.
+-- Trees that are no typed program, each next to one that differs from it in a single place.
 use Rattle.std.proofs.Common.{◌≡◌, ℕ, List, [], ◌∷◌, pos, refl, Some, None, Option, Bool, true, false}
 use Rattle.srcset.specs.declared.refusal.Pos.{Pos}
 use Rattle.ctypes.specs.declared.types.IntType.{IntType}
@@ -58,7 +58,7 @@ parameter_without_object = refl
 parameter_with_an_array : with_function (number ty.Int ∷ []) (object ty.Int (2 ∷ []) ∷ []) 1 0 typed.empty ≡ false
 parameter_with_an_array = refl
 
--- a declarator stands for none of them
+-- a declarator declares none of them
 object_declared_again : with_function (number ty.Int ∷ []) (object ty.Int [] ∷ []) 0 1 (typed.declare 0) ≡ false
 object_declared_again = refl
 
@@ -120,7 +120,7 @@ void_call_not_used = refl
 void_call_used : called (typed.function 1) None true typed.no_arguments ≡ false
 void_call_used = refl
 
--- ---- what is tested is a number
+-- ---- a controlling expression is a number
 void_tested : with_function [] [] 0 0 (typed.branch (typed.discarded one) typed.empty) ≡ false
 void_tested = refl
 

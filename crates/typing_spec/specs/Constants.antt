@@ -1,4 +1,4 @@
--- Constant expressions (ISO/IEC 9899:2011 6.6): what may stand in one, and the value of one.
+-- Constant expressions (ISO/IEC 9899:2011 6.6): which operators and operands one may contain, and its value.
 use Rattle.std.specs.Prelude.{ℤ, pos, Bool, true, false, Option, Some, None, Result, Ok, Err}
 use Rattle.srcset.specs.declared.refusal.Pos.{Pos}
 use Rattle.srcset.specs.declared.code.Code.TheVariants as code
@@ -42,7 +42,7 @@ measurable (binary at op a b) = each (no_comma at op) (each (measurable a) (meas
 measurable (conditional at c a b) = each (measurable c) (each (measurable a) (measurable b))
 measurable (assign at op a b) = unfit_at at
 
--- 6.6p6: of names only enumerators; an undeclared name is another matter
+-- 6.6p6: of names only enumerators; an undeclared name has another fault
 abbrev pub enumerator_alone : Pos → Meaning → Verdict (Unit {0})
 enumerator_alone at (an_object what t) = unfit_at at
 enumerator_alone at (an_array_parameter n t) = unfit_at at
@@ -53,7 +53,7 @@ abbrev pub constant_name : Pos → Option Binding → Verdict (Unit {0})
 constant_name at None = fine tt
 constant_name at (Some b) = enumerator_alone at b.meaning
 
--- what a constant expression may hold; names of objects, string literals and subscripts stand under sizeof alone
+-- the permitted form of a constant expression; names of objects, string literals and subscripts appear under sizeof alone
 abbrev pub constant_form : Scope → Tree → Verdict (Unit {0})
 constant_form s hole = fine tt
 constant_form s (identifier at n) = constant_name at (lookup s n)
@@ -86,7 +86,7 @@ abbrev pub place_position : Place → Pos
 place_position (typed.named at what) = at
 place_position (typed.element at a i) = at
 
--- what only one of two is evaluated for
+-- the verdict that a truth value selects: only one of the two is evaluated
 abbrev pub by_truth : Bool → Verdict ℤ → Verdict ℤ → Verdict ℤ
 by_truth true a b = a
 by_truth false a b = b

@@ -69,7 +69,7 @@ built_in_at_file s n = if nat_eq s.level 0 then built_in s n else None
 abbrev pub fresh_enumerator : Scope → Pos → ℕ → Verdict (Unit {0})
 fresh_enumerator s at n = each (fresh s at n) (as_built_in at (agreed (an_enumerator (pos 0)) no_linkage mentioned) (built_in_at_file s n))
 
--- each is in scope behind itself (6.2.1p7)
+-- the scope of each begins after it (6.2.1p7)
 abbrev pub enumerators : Scope → ℤ → List EnumeratorTree → Verdict Scope
 enumerators s next [] = fine s
 enumerators s next (e ∷ es) =
@@ -93,7 +93,7 @@ with_lists s at (static_specifier ∷ ss) = with_lists s at ss
 with_lists s at (plain_specifier t ∷ ss) = with_lists s at ss
 with_lists s at (enumerators_specifier tag list ∷ ss) = then_check (enumerated s at tag list) (λ inner. with_lists inner at ss)
 
--- what specifiers say, the first of them at this place
+-- the meaning of specifiers, the first of them at this place
 pub record Specified : Type 0 where
   pub class : StorageClass
   pub base : BaseType
@@ -109,7 +109,7 @@ specified s at ss =
 
 -- ---- an object's declarator
 
--- one that has begun: its name is in scope, its initialiser is still to come
+-- one that has begun: its name is in scope, its initialiser follows
 pub record Begun : Type 0 where
   pub at : Pos
   pub name : ℕ
@@ -123,7 +123,7 @@ abbrev pub has_init : Option Init → Bool
 has_init None = false
 has_init (Some i) = true
 
--- the storage of the name that was declared last
+-- the storage of the most recently declared name
 abbrev pub storage_in : Meaning → Storage
 storage_in (an_object what t) = what
 storage_in (an_array_parameter n t) = typed.parameter n
@@ -199,7 +199,7 @@ length_from s at t init_hole = breaks code.BadInitialiserForm at
 length_from s at t (one_init e) = text_or_form s (has_characters t.element t.lengths) at e
 length_from s at t (braced_init p parts) = text_or_count s (has_characters t.element t.lengths) p (text_alone parts) (count_of parts)
 
--- a name's declared type meets its type so far
+-- the meaning with the composite of the declared type and the type so far
 abbrev pub retyped_meaning : Pos → DeclaredType → Meaning → Verdict Meaning
 retyped_meaning at t (an_object what u) = compatible at (object_with what (composite u t))
 retyped_meaning at t m = fine m
@@ -228,11 +228,11 @@ finished_with b (complete t) (Some i) = fine (past_init b.scope i)
 finished_with b (unknown_size t) None = left_unknown b.scope.level b.class b.at b.scope
 finished_with b (unknown_size t) (Some i) = then_check (length_from b.scope b.at t i) (sized (past_init b.scope i) b.at b.name t)
 
--- the scope behind the declarator and its initialiser, which is looked at only for a size that it gives
+-- the scope after the declarator and its initialiser, which is examined only for a size that it gives
 abbrev pub finished : Begun → Verdict Scope
 finished b = finished_with b b.type b.init
 
--- ---- what a declarator does: a statement of the block, or the first values of an object with static storage
+-- ---- the effect of a declarator: a statement of the block, or the first values of an object with static storage
 
 pub record Initial : Type 0 where
   pub static : ℕ
@@ -253,7 +253,7 @@ abbrev pub element_of : DeclaredType → IntType
 element_of (complete t) = t.element
 element_of (unknown_size t) = t.element
 
--- the lengths of an array as far as values are laid out in it; how many parts the outermost has matters not
+-- the lengths of an array as far as values are laid out in it; the number of parts of the outermost does not matter
 abbrev pub lengths_of : DeclaredType → List ℕ
 lengths_of (complete t) = t.lengths
 lengths_of (unknown_size t) = 1 ∷ t.lengths
@@ -288,14 +288,14 @@ function_at zero s class b at n ps =
     then_check (parameters_in s ps) (λ p. file_function (behind_parameters s p.scope) at n class (function_type b p.types) mentioned)
 function_at (suc level) s class b at n ps = breaks code.SyntaxError at
 
--- the scope behind declarators, whose initialisers are looked at only for sizes
+-- the scope after declarators, whose initialisers are examined only for sizes
 abbrev pub items_declared : Scope → StorageClass → BaseType → List ItemTree → Verdict Scope
 items_declared s class b [] = fine s
 items_declared s class b (object at n sizes init ∷ is) =
     then_check (begun s class b at n sizes init) (λ o. then_check (finished o) (λ inner. items_declared inner class b is))
 items_declared s class b (function at n ps ∷ is) = then_check (function_at s.level s class b at n ps) (λ inner. items_declared inner class b is)
 
--- what a declaration leaves: the scope behind it, and what it does
+-- the result of a declaration: the scope after it, and its effects
 pub record Declared : Type 0 where
   pub scope : Scope
   pub effects : Effects
@@ -330,13 +330,13 @@ specified_for s at ss items = then_check (specified s at ss) (λ d. provided (re
 abbrev pub asserted : Scope → Pos → Tree → Verdict Scope
 asserted s at e = then_check (constant_value s e) (λ c. provided (refuse_if (not (truth c.v)) code.StaticAssertionFailed at) (fine (past s e)))
 
--- the scope behind a declaration, whose initialisers are looked at only for sizes
+-- the scope after a declaration, whose initialisers are examined only for sizes
 abbrev pub scope_after : Scope → DeclarationTree → Verdict Scope
 scope_after s (declared at ss items) =
     then_check (specified_for s at ss items) (λ d. items_declared d.scope d.class d.base items)
 scope_after s (assertion at e text) = asserted s at e
 
--- a declaration: the scope behind it, and what it does
+-- a declaration: the scope after it, and its effects
 abbrev pub declaration_typed : Scope → DeclarationTree → Verdict Declared
 declaration_typed s (declared at ss items) =
     then_check (specified_for s at ss items) (λ d. items_typed d.scope d.class d.base items)

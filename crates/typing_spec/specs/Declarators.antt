@@ -67,7 +67,7 @@ of_sizes at t k no_sizes = fine (complete (object_type t k []))
 of_sizes at t k (outermost (Some n) ns) = within_limit at (object_type t k (n ∷ ns)) (complete (object_type t k (n ∷ ns)))
 of_sizes at t k (outermost None ns) = within_limit at (object_type t k ns) (unknown_size (object_type t k ns))
 
--- void is incomplete for good (6.2.5p19): no object and no array has it
+-- void is always incomplete (6.2.5p19): no object and no array has it
 abbrev pub void_object : Pos → Sizes → Verdict DeclaredType
 void_object at no_sizes = breaks code.IncompleteObject at
 void_object at (outermost n ns) = breaks code.BadArrayType at
@@ -82,7 +82,7 @@ declared_type s at b sizes = then_check (sizes_in s at sizes) (with_base at b.ty
 
 -- ---- parameters (6.7.6.3)
 
--- what a parameter is in its function: a number, which may be const, or a reference to elements (p7); its outermost size is not kept
+-- the object of a parameter in its function: a number, which may be const, or a reference to elements (p7); its outermost size is not kept
 pub data ParameterObject : Type 0 where
   a_number : (t : ObjectType) → ParameterObject
   a_reference : (element : ObjectType) → ParameterObject
@@ -115,7 +115,7 @@ is_fresh level at (Some b) = refuse_if (nat_eq b.level level) code.NameDeclaredT
 abbrev pub fresh : Scope → Pos → ℕ → Verdict (Unit {0})
 fresh s at n = is_fresh s.level at (lookup s n)
 
--- the parameter's name, if it has one, stands for it: a number is the next object of the function, a reference the next of its kind
+-- the parameter's name, if it has one, denotes it: a number is the next object of the function, a reference the next of its kind
 abbrev pub with_parameter : Scope → ℕ → Option ℕ → ParameterObject → Scope
 with_parameter s references None p = s
 with_parameter s references (Some n) (a_number t) = with_name s n (an_object (typed.automatic (length s.objects)) (complete t)) no_linkage defined
@@ -133,7 +133,7 @@ abbrev pub fresh_if_named : Scope → Pos → Option ℕ → Verdict (Unit {0})
 fresh_if_named s at None = fine tt
 fresh_if_named s at (Some n) = fresh s at n
 
--- the types of the parameters, and the scope in which they stand
+-- the types of the parameters, and the scope that declares them
 pub record Parameters : Type 0 where
   pub types : List ParameterType
   pub scope : Scope
@@ -141,7 +141,7 @@ pub record Parameters : Type 0 where
 abbrev pub and_parameter : ParameterType → Parameters → Verdict Parameters
 and_parameter t ps = fine (record ps { types = t ∷ ps.types })
 
--- in order, each in the scope of those before it; so many of them are references
+-- in order, each in the scope of those before it; `references` of the earlier ones are references
 abbrev pub parameters_from : ℕ → Scope → List ParameterTree → Verdict Parameters
 parameters_from references s [] = fine (record { types = []; scope = s })
 parameters_from references s (p ∷ ps) =
@@ -157,6 +157,6 @@ parameters_in s ps = parameters_from 0 (inside (record s { objects = [] })) ps
 abbrev pub function_type : BaseType → List ParameterType → FunctionType
 function_type b ps = record { result = b.type; constant = b.constant; parameters = ps }
 
--- behind a declarator the names of the parameters are gone
+-- after a declarator the names of the parameters are out of scope
 abbrev pub behind_parameters : Scope → Scope → Scope
 behind_parameters s inner = record s { literals = inner.literals }

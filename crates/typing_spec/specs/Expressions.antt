@@ -27,7 +27,7 @@ use Rattle.typing_spec.specs.Constants.{constant_form, folded}
 abbrev pub object_limit : ℕ
 object_limit = 1048576
 
--- what an expression is, and its place: a value; an element, which may be const; an array; an array parameter with the type of its
+-- the kind of an expression, and its place: a value; an element, which may be const; an array; an array parameter with the type of its
 -- elements; nothing, as a void expression (6.3.2.2); a function designator (6.3.2.1p4)
 pub data Checked : Type 0 where
   value : (at : Pos) (t : IntType) (e : Value) → Checked
@@ -45,7 +45,7 @@ pub record Worth : Type 0 where
 abbrev pub worth_of : IntType → Value → Verdict Worth
 worth_of t e = fine (record { type = t; e = e })
 
--- the value of an expression (6.3.2.1p2): of nothing this code stands at this place; an array or a function has none in this profile
+-- the value of an expression (6.3.2.1p2): a void expression has this code as its fault; an array or a function has none in this profile
 abbrev pub worth : Code → Pos → Checked → Verdict Worth
 worth c at (value p t e) = worth_of t e
 worth c at (object p t k place) = worth_of t (typed.read t place)
@@ -185,7 +185,7 @@ result_at at (Some t) e = value at t e
 abbrev pub call_of : Pos → Called → Arguments → Verdict Checked
 call_of at f args = fine (result_at at f.type.result (typed.call at f.callee f.type.result true args))
 
--- ---- 6.5.3, 6.5.16: what may be assigned to
+-- ---- 6.5.3, 6.5.16: modifiable lvalues
 
 pub record Target : Type 0 where
   pub type : IntType
@@ -364,7 +364,7 @@ array_type at (Some t) k ns = with_lengths at t k ns
 abbrev pub type_of : Pos → BaseType → List ℕ → Verdict (Option ObjectType)
 type_of at b ns = array_type at b.type b.constant ns
 
--- where a hole is, which no list of tokens leaves
+-- the place of a hole, which no list of tokens leaves
 abbrev pub nowhere : Pos
 nowhere = record { file = 0; line = 0 }
 
@@ -405,7 +405,7 @@ abbrev mutual
   lengths_in s at (one_more e es) =
       both (then_check (constant_form s e) (λ u. then_check (typing s e) (size_in at))) (lengths_in (past s e) at es) and_size
 
--- the type and value of a constant expression (6.6): what may not stand in one comes first, then what else is broken in it, then
+-- the type and value of a constant expression (6.6): forms that may not appear in one come first, then its other violations, then
 -- the first operation evaluated that has no value
 abbrev pub constant_value : Scope → Tree → Verdict Constant
 constant_value s e = then_check (constant_form s e) (λ u. then_check (typing s e) (λ x. then_check (integer x) constant_in))

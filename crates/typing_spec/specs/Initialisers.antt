@@ -15,7 +15,7 @@ use Rattle.typing_spec.specs.Scope.{Scope, literal_of, strings, with_literals}
 use Rattle.typing_spec.specs.Constants.{constant_form, folded}
 use Rattle.typing_spec.specs.Expressions.{Worth, typing, worth, position, nowhere}
 
--- what is initialised: a number, or an array of so many elements (any number, where its size is unknown) that have these lengths
+-- the type to initialise: a number, or an array of `room` elements (any number, where its size is unknown) that have these lengths
 pub data Wanted : Type 0 where
   one_number : Wanted
   an_array : (room : Option ℕ) (lengths : List ℕ) → Wanted
@@ -59,11 +59,11 @@ past_init s i = with_literals s (strings_of i)
 abbrev pub of_number : IntType → Worth → Verdict Initialiser
 of_number t w = fine (typed.one_value t w.e)
 
--- 6.7.9p11: as in an assignment; a void expression is told at its own place
+-- 6.7.9p11: as in an assignment; a void expression is reported at its own place
 abbrev pub number_from : Scope → IntType → Tree → Verdict Initialiser
 number_from s t e = then_check (typing s e) (λ x. then_check (worth code.VoidAssigned (position x) x) (of_number t))
 
--- 6.7.9p14: the characters, of which the zero may find no room
+-- 6.7.9p14: the characters; there may be no room for the zero
 abbrev pub text_from : Scope → Pos → Option ℕ → ℕ → Verdict Initialiser
 text_from s at room n = provided (refuse_if (exceeds (length (literal_of s n)) room) code.TooManyInitialisers at) (fine (typed.text (length s.literals)))
 
@@ -87,7 +87,7 @@ number_in_braces s p t (and_init (one_init e) no_inits) = then_check (number_fro
 number_in_braces s p t (and_init (one_init e) (and_init i is)) = both (number_from s t e) (breaks code.TooManyInitialisers p) (λ x d. fine d)
 number_in_braces s p t parts = breaks code.BadInitialiserForm p
 
--- the string literal that stands alone in braces
+-- the string literal that is alone in braces
 abbrev pub text_alone : Inits → Option Tree
 text_alone (and_init (one_init (string own n)) no_inits) = Some (string own n)
 text_alone parts = None
@@ -145,7 +145,7 @@ is_text (string own n) = true
 is_text (paren e) = is_text e
 is_text e = false
 
--- a string literal may stand for an array of characters
+-- a string literal may initialise an array of characters
 abbrev pub takes_text : IntType → Wanted → Bool
 takes_text t one_number = false
 takes_text t (an_array room lengths) = has_characters t lengths
@@ -173,7 +173,7 @@ abbrev mutual
   all_constant s t w no_inits = fine tt
   all_constant s t w (and_init i is) = each (constant_parts s t w i) (all_constant s t w is)
 
--- the values of so many elements: those given, and zeros
+-- n zeros, the values of the elements after those given
 abbrev pub zeros : ℕ → List ℤ
 zeros zero = []
 zeros (suc n) = pos 0 ∷ zeros n
@@ -188,7 +188,7 @@ characters t (c ∷ cs) = converted t (pos c) ∷ characters t cs
 abbrev pub and_values : List ℤ → List ℤ → Verdict (List ℤ)
 and_values vs ws = fine (vs ++ ws)
 
--- the values of the elements in their order: of the parts of a list, each with as many as a part has; in `s` stand its literals
+-- the values of the elements in their order: of the parts of a list, each with as many as a part has; `s` contains their literals
 abbrev mutual
   pub values : Scope → IntType → List ℕ → Initialiser → Verdict (List ℤ)
   values s t lengths (typed.one_value u e) = then_check (folded e) (λ v. fine (converted t v ∷ []))

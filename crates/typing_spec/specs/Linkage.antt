@@ -82,7 +82,7 @@ abbrev pub compatible : Pos → Option Meaning → Verdict Meaning
 compatible at None = breaks code.RedeclaredWithAnotherType at
 compatible at (Some m) = fine m
 
--- what a name stands for once it is declared again
+-- the meaning of a name once it is declared again
 pub record Agreed : Type 0 where
   pub meaning : Meaning
   pub linkage : Linkage
@@ -118,7 +118,7 @@ as_built_in at new (Some b) =
     each (refuse_if (not (is_of_type b.type new.meaning)) code.RedeclaredWithAnotherType at)
     (each (refuse_if (is_internal new.linkage) code.LinkageConflict at) (refuse_if (is_defined new.state) code.BuiltInDefined at))
 
--- ---- the scope behind a declaration at file scope
+-- ---- the scope after a declaration at file scope
 
 abbrev pub put_static : List StaticObject → ℕ → StaticObject → List StaticObject
 put_static [] n x = x ∷ []

@@ -1,4 +1,4 @@
--- What a typed program keeps for the layers above: the types of places and values, and how many nodes a function has.
+-- The parts of a typed program for the layers above: the types of places and values, and the number of nodes of a function.
 use Rattle.std.specs.Prelude.{ℕ, zero, suc, ◌+◌, false, List, [], ◌∷◌, length, Option, Some, None, slice_get}
 use Rattle.ctypes.specs.declared.types.IntType.{IntType}
 use Rattle.ctypes.specs.declared.types.IntType.TheVariants as ty

@@ -1,7 +1,7 @@
--- The typed program: what the phases of translation leave for the abstract machine (ISO/IEC 9899:2011 5.1.2.3, 6.5 to 6.9).
+-- The typed program: the input of the abstract machine after the phases of translation (ISO/IEC 9899:2011 5.1.2.3, 6.5 to 6.9).
 --
 -- Every conversion is written, as the type in the node to which the operands are converted; an explicit cast is a node of its
--- own. Parentheses are gone, and sizeof, enumerators and character constants are constants.
+-- own. Parentheses are removed, and sizeof, enumerators and character constants are constants.
 use Rattle.std.specs.Prelude.{ℕ, ℤ, Bool, List, Option}
 use Rattle.srcset.specs.declared.refusal.Pos.{Pos}
 use Rattle.ctypes.specs.declared.types.IntType.{IntType}
@@ -10,7 +10,7 @@ use Rattle.tree.specs.declared.expression.PrefixOp.{PrefixOp}
 use Rattle.tree.specs.declared.expression.StepOp.{StepOp}
 use Rattle.typing_spec.specs.Types.{ObjectType, FunctionType}
 
--- what a name or a string literal designates (6.2.4): a string literal, an object with static storage, an object of the present
+-- the designation of a name or a string literal (6.2.4): a string literal, an object with static storage, an object of the present
 -- call (its parameters that are numbers first), or the array that an array parameter refers to, each numbered apart
 pub data Storage : Type 0 where
   literal : (n : ℕ) → Storage
@@ -18,7 +18,7 @@ pub data Storage : Type 0 where
   automatic : (n : ℕ) → Storage
   parameter : (n : ℕ) → Storage
 
--- what is called: a function by the number of its definition, or a built-in; nothing evaluated calls a function that has no
+-- the target of a call: a function by the number of its definition, or a built-in; nothing evaluated calls a function that has no
 -- definition
 pub data Callee : Type 0 where
   function : (f : ℕ) → Callee
@@ -97,7 +97,7 @@ mutual
     block : (first count : ℕ) (all : Statements) → Statement
     branch : (e : Value) (a : Statement) → Statement
     branches : (e : Value) (a b : Statement) → Statement
-    -- the controlling expression and each case converted to ty (6.8.4.2p5); labels stand before their statements
+    -- the controlling expression and each case converted to ty (6.8.4.2p5); labels precede their statements
     switch : (ty : IntType) (e : Value) (first count : ℕ) (all : Statements) → Statement
     case : (v : ℤ) → Statement
     default : Statement
@@ -124,14 +124,14 @@ pub record Function : Type 0 where
   pub nodes : ℕ
   pub weight : ℕ
 
--- an object with static storage (6.2.4p3): the values of its elements in order, those behind them being zero; one that is only
+-- an object with static storage (6.2.4p3): the values of its elements in order, those after them being zero; one that is only
 -- declared takes no bytes, and nothing evaluated designates it
 pub record Static : Type 0 where
   pub type : ObjectType
   pub defined : Bool
   pub values : List ℤ
 
--- a program: the characters of each string literal with the zero behind them (6.4.5p6), the objects with static storage, the
+-- a program: the characters of each string literal with the zero after them (6.4.5p6), the objects with static storage, the
 -- functions in the order of their definitions, and the number of main
 pub record Program : Type 0 where
   pub literals : List (List ℕ)

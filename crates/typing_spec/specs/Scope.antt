@@ -1,4 +1,4 @@
--- Scopes: what each name stands for (ISO/IEC 9899:2011 6.2.1 to 6.2.4), and what the program so far has declared.
+-- Scopes: the meaning of each name (ISO/IEC 9899:2011 6.2.1 to 6.2.4), and the declarations of the program so far.
 use Rattle.std.specs.Prelude.{ℕ, ◌+◌, ◌-◌, Bool, false, ℤ, List, [], ◌∷◌, ◌++◌, Option, Some, None, length, take, nat_eq, slice_get, codes, if◌then◌else◌}
 use Rattle.std.specs.Str.{bytes_eq}
 use Rattle.ctypes.specs.declared.types.IntType.TheVariants as ty
@@ -6,7 +6,7 @@ use Rattle.tree.specs.Tree.{Tree, Trees, TypeTree, hole, identifier, constant, s
 use Rattle.typing_spec.specs.Types.{ObjectType, DeclaredType, FunctionType, number}
 use Rattle.typing_spec.specs.Program.{Storage, Callee, function, get_byte, put_byte, exit, missing}
 
--- what an ordinary identifier stands for: an object, an array parameter by its number among those and the type of its elements, a
+-- the meaning of an ordinary identifier: an object, an array parameter by its number among those and the type of its elements, a
 -- function, or an enumerator with its value
 pub data Meaning : Type 0 where
   an_object : (what : Storage) (type : DeclaredType) → Meaning
@@ -47,7 +47,7 @@ pub record Tag : Type 0 where
 
 -- the names and tags in scope, the newest first, and how deep the block is; the numbers of the texts of the string literals so
 -- far; the objects with static storage so far, and those of the present function. The texts are those of the unit's names, and
--- of its literals with the zero byte behind them, by their numbers, the definitions the names of the functions that the unit defines anywhere, in their order
+-- of its literals with the zero byte after them, by their numbers, the definitions the names of the functions that the unit defines anywhere, in their order
 pub record Scope : Type 0 where
   pub texts : List (List ℕ)
   pub definitions : List ℕ
@@ -91,7 +91,7 @@ with_name s n meaning linkage state =
 abbrev pub with_tag : Scope → ℕ → Bool → Scope
 with_tag s n complete = record s { tags = record { name = n; level = s.level; complete = complete } ∷ s.tags }
 
--- a block begins, and ends: its names and tags go, what was declared stays (6.2.1p4)
+-- a block begins, and ends: its names and tags leave scope, its objects and literals stay (6.2.1p4)
 abbrev pub inside : Scope → Scope
 inside s = record s { level = s.level + 1 }
 
@@ -107,7 +107,7 @@ or_empty (Some text) = text
 abbrev pub text_of : Scope → ℕ → List ℕ
 text_of s n = or_empty (slice_get s.texts n)
 
--- 6.4.5p6: the characters of a literal, behind which a zero stands
+-- 6.4.5p6: the characters of a literal, without the zero that follows them
 abbrev pub literal_of : Scope → ℕ → List ℕ
 literal_of s n = let text = text_of s n in take (length text - 1) text
 
@@ -141,7 +141,7 @@ abbrev pub built_in_or : Callee → Option BuiltIn → Callee
 built_in_or f None = f
 built_in_or f (Some b) = b.callee
 
--- what a call of the function with this name calls
+-- the target of a call of the function with this name
 abbrev pub callee_of : Scope → ℕ → Callee
 callee_of s n = built_in_or (by_definition n (place_from 0 s.definitions n)) (built_in s n)
 
@@ -174,7 +174,7 @@ abbrev mutual
   pub strings_of_type : TypeTree → List ℕ
   strings_of_type (type_name at specifiers sizes) = strings_in sizes
 
--- the scope behind an expression, and behind the name of a type
+-- the scope after an expression, and after the name of a type
 abbrev pub with_literals : Scope → List ℕ → Scope
 with_literals s more = record s { literals = s.literals ++ more }
 

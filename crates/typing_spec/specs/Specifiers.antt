@@ -17,7 +17,7 @@ pub record BaseType : Type 0 where
   pub type : Option IntType
   pub constant : Bool
 
--- ---- what stands in a list of specifiers
+-- ---- the elements of a list of specifiers
 
 abbrev pub words_of : List TypeSpecifier → List Word
 words_of [] = []
@@ -52,12 +52,12 @@ place_of_word word.Bool = 7
 abbrev pub same_word : Word → Word → Bool
 same_word a b = nat_eq (place_of_word a) (place_of_word b)
 
--- how often a word stands in a list
+-- how often a word occurs in a list
 abbrev pub times : Word → List Word → ℕ
 times w [] = 0
 times w (v ∷ vs) = if same_word w v then suc (times w vs) else times w vs
 
--- each of these words stands as often in one list as in the other
+-- each of these words occurs as often in one list as in the other
 abbrev pub as_often : List Word → List Word → List Word → Bool
 as_often [] a b = true
 as_often (w ∷ ws) a b = nat_eq (times w a) (times w b) && as_often ws a b
@@ -103,7 +103,7 @@ abbrev pub type_among : List WordSet → List Word → Option (Option IntType)
 type_among [] ws = None
 type_among (row ∷ rows) ws = if same_words row.words ws then Some row.type else type_among rows ws
 
--- words and so many enumerated types: words alone, or one enumerated type alone, which is int in this profile (6.7.2.2p4)
+-- words and a number of enumerated types: words alone, or one enumerated type alone, which is int in this profile (6.7.2.2p4)
 abbrev pub named_type : ℕ → List Word → Option (Option IntType)
 named_type zero ws = type_among sets ws
 named_type (suc zero) [] = Some (Some ty.Int)
@@ -115,7 +115,7 @@ base_or_fault at constant (Some t) = fine (record { type = t; constant = constan
 
 -- ---- tags (6.7.2.3)
 
--- `enum tag` without a list may stand only behind the end of the list (6.7.2.3p3)
+-- `enum tag` without a list may appear only after the end of the list (6.7.2.3p3)
 abbrev pub is_complete : Option Tag → Bool
 is_complete None = false
 is_complete (Some t) = t.complete
@@ -128,6 +128,6 @@ abbrev pub count : List ℕ → ℕ
 count [] = 0
 count (n ∷ ns) = suc (count ns)
 
--- the type of specifiers that bring no list of enumerators, the first of them at this place
+-- the type of specifiers that contain no list of enumerators, the first of them at this place
 abbrev pub base_type : Scope → Pos → List TypeSpecifier → Verdict BaseType
 base_type s at ss = provided (tags_known s at (tags_of ss)) (base_or_fault at (is_const ss) (named_type (count (tags_of ss)) (words_of ss)))

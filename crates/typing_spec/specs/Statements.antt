@@ -13,7 +13,7 @@ use Rattle.typing_spec.specs.Expressions.{Worth, typing, valued, effect, constan
 use Rattle.typing_spec.specs.Linkage.{StorageClass}
 use Rattle.typing_spec.specs.Declarations.{Initial, Effects, no_effects, declaration_typed, classes_of, lists_in}
 
--- what a statement stands in: the result of its function, none for void; whether it stands in a loop, and in a switch
+-- the context of a statement: the result of its function, none for void; whether it is in a loop, and in a switch
 pub record Around : Type 0 where
   pub result : Option IntType
   pub in_loop : Bool
@@ -24,7 +24,7 @@ pub record Label : Type 0 where
   pub at : Pos
   pub value : Option ℤ
 
--- a statement: the labels before it, what it is, the scope behind it, and the values of the static objects in it
+-- a statement: the labels before it, its typed form, the scope after it, and the values of the static objects in it
 pub record Done : Type 0 where
   pub labels : List Label
   pub statement : Statement
@@ -56,7 +56,7 @@ abbrev pub label_statement : Option ℤ → Statement
 label_statement None = typed.default
 label_statement (Some v) = typed.case v
 
--- labels stand before their statement
+-- labels precede their statement
 abbrev pub labelled : List Label → Statements → Statements
 labelled [] more = more
 labelled (l ∷ ls) more = typed.and_statement (label_statement l.value) (labelled ls more)
@@ -73,7 +73,7 @@ and_statements d more =
 abbrev pub and_declaration : Effects → AllDone → Verdict AllDone
 and_declaration e more = fine (record more { statements = followed_by e.statements more.statements; initial = e.initial ++ more.initial })
 
--- the block of the scope s, whose items have been looked at: its names go
+-- the block of the scope s, whose items have been typed: its names leave scope
 abbrev pub block_of : Scope → AllDone → Verdict Done
 block_of s all =
     done_with (outside s all.scope) all.initial (typed.block (length s.objects) (length all.scope.objects - length s.objects) all.statements)
@@ -100,7 +100,7 @@ switch_of s t c all =
     provided (no_label_twice [] all.labels)
     (done_with (outside s all.scope) all.initial (typed.switch t c.e (length s.objects) (length all.scope.objects - length s.objects) all.statements))
 
--- 6.8.1p2: a label stands in a switch; in this profile directly in its block
+-- 6.8.1p2: a label is in a switch; in this profile directly in its block
 abbrev pub misplaced : Around → Pos → Verdict Done
 misplaced around at = if around.in_switch then breaks code.LeftOutLabel at else breaks code.LabelOutsideSwitch at
 
@@ -138,7 +138,7 @@ abbrev pub past_option : Scope → Option Tree → Scope
 past_option s None = s
 past_option s (Some e) = past s e
 
--- the first part: what it declares, what it evaluates, and the scope behind it
+-- the first part: its declarations, the expression that it evaluates, and the scope after it
 pub record Start : Type 0 where
   pub effects : Effects
   pub first : Option Value
@@ -181,7 +181,7 @@ returned None at s (Some e) = both (typing s e) (breaks code.ReturnMismatch at) 
 returned (Some t) at s (Some e) = then_check (valued code.VoidAssigned at (typing s e)) (λ w. done (past s e) (typed.return_value t w.e))
 
 abbrev mutual
-  -- `direct` is the promoted type of the switch in whose block the statement stands itself
+  -- `direct` is the promoted type of the switch in whose block the statement itself is
   pub statement : Around → (direct : Option IntType) → Scope → StmtTree → Verdict Done
   statement around direct s stmt_hole = breaks code.SyntaxError nowhere
   -- 6.8.1
@@ -220,7 +220,7 @@ abbrev mutual
   statement around direct s (continue_stmt at) = jump around.in_loop at s typed.continue
   statement around direct s (return_stmt at e) = returned around.result at s e
 
-  -- the items of a block, each in the scope behind those before it
+  -- the items of a block, each in the scope after those before it
   pub pieces : Around → (direct : Option IntType) → Scope → Pieces → Verdict AllDone
   pieces around direct s no_pieces = fine (record { labels = []; statements = typed.no_statements; scope = s; initial = [] })
   pieces around direct s (and_piece (declaration_item d) ps) =

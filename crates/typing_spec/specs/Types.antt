@@ -103,11 +103,11 @@ same_function f g = same_result f.result g.result && (same_truth f.constant g.co
 
 -- ---- the composite type (6.2.7p3), where the types are compatible: a known size is kept
 
--- an array of so many such objects
+-- an array of `n` such objects
 abbrev pub array_of : ℕ → ObjectType → ObjectType
 array_of n t = record { element = t.element; constant = t.constant; lengths = n ∷ t.lengths }
 
--- the elements of an array, which a number has not
+-- the elements of an array; a number has none
 abbrev pub inner_type : IntType → Bool → List ℕ → Option ObjectType
 inner_type t c [] = None
 inner_type t c (n ∷ lengths) = Some (record { element = t; constant = c; lengths = lengths })

@@ -62,7 +62,7 @@ bytes_of_references (elements t ∷ ps) = in_words (size_of_parameter (elements 
 abbrev pub weight : FunctionTree → List ParameterType → List ObjectType → ℕ
 weight f ps objects = weight_of (function_nodes f) (bytes_of_references ps + bytes_of_objects objects)
 
--- the bytes of the stack, which no function may weigh more than; and what has been looked at so far: the scope, the functions in order, and the
+-- the bytes of the stack, the limit of each function's weight; and the result so far: the scope, the functions in order, and the
 -- first values of static objects
 pub record Built : Type 0 where
   pub stack : ℕ
@@ -70,7 +70,7 @@ pub record Built : Type 0 where
   pub functions : List Function
   pub initial : List Initial
 
--- the body is a block, whose objects come behind the parameters that are numbers
+-- the body is a block, whose objects follow the parameters that are numbers
 abbrev pub numbers_in : List ParameterType → ℕ
 numbers_in [] = 0
 numbers_in (number t ∷ ps) = numbers_in ps + 1
@@ -185,13 +185,13 @@ abbrev pub program_of : Built → ℕ → Program
 program_of b main =
     record { literals = literals_of b.scope b.scope.literals; statics = statics_from 0 b.scope.statics b.initial; functions = b.functions; main = main }
 
--- what concerns the whole unit stands at the place `whole`
+-- violations that concern the whole unit have the place `whole`
 abbrev pub whole_program : Pos → Built → Verdict Program
 whole_program whole b =
     provided (each (within_limits whole b) (all_defined b.scope [] (uses_in_functions b.functions)))
     (then_check (main_or_fault whole (main_from b.scope 0 b.functions)) (λ main. fine (program_of b main)))
 
--- the typed program of a unit whose names and literals have these texts, for a stack of so many bytes, or the constraints that are broken
+-- the typed program of a unit whose names and literals have these texts, for a stack of `stack` bytes, or the violated constraints
 abbrev pub unit_typed : (stack : ℕ) → List (List ℕ) → Pos → List ExternalTree → Verdict Program
 unit_typed stack texts whole es =
     then_check (externals_typed (record { stack = stack; scope = file_scope texts (definitions_in es); functions = []; initial = [] }) es) (whole_program whole)

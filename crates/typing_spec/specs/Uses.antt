@@ -1,4 +1,4 @@
--- Which objects and functions a typed program uses (ISO/IEC 9899:2011 6.9p3, p5): what is evaluated, in the order of the source.
+-- The objects and functions that a typed program uses (ISO/IEC 9899:2011 6.9p3, p5): those evaluated, in the order of the source.
 use Rattle.std.specs.Prelude.{ℕ, Bool, true, false, not, ◌&&◌, ◌||◌, List, [], ◌∷◌, ◌++◌, Option, Some, None, nat_eq, slice_get}
 use Rattle.srcset.specs.declared.refusal.Pos.{Pos}
 use Rattle.srcset.specs.declared.code.Code.TheVariants as code
@@ -102,7 +102,7 @@ abbrev pub uses_in_functions : List Function → List Use
 uses_in_functions [] = []
 uses_in_functions (f ∷ fs) = uses_in_statement f.body ++ uses_in_functions fs
 
--- ---- what is used has a definition
+-- ---- each object and function used has a definition
 
 abbrev pub is_undefined_object : Option StaticObject → Bool
 is_undefined_object None = false
@@ -122,7 +122,7 @@ abbrev pub is_used_in : List Use → Used → Bool
 is_used_in [] what = false
 is_used_in (u ∷ us) what = same_use u.what what || is_used_in us what
 
--- each first use of what has no definition is a violation
+-- each first use of an object or function without a definition is a violation
 abbrev pub all_defined : Scope → (before : List Use) → List Use → Verdict (Unit {0})
 all_defined s before [] = fine tt
 all_defined s before (u ∷ us) =

@@ -1,9 +1,9 @@
--- What a rule says of a part of a program: what the part means, or which constraints are broken.
+-- The verdict of a rule on a part of a program: the part's meaning, or the violated constraints.
 use Rattle.std.specs.Prelude.{◌≡◌, Bool, true, false, ◌⊎◌}
 use Rattle.srcset.specs.declared.code.Code.{Code}
 use Rattle.srcset.specs.declared.refusal.Pos.{Pos}
 
--- broken constraints, each with its code and its place
+-- violated constraints, each with its code and its place
 pub data Violations : Type 0 where
   none : Violations
   one : (code : Code) (at : Pos) → Violations
@@ -20,17 +20,17 @@ abbrev pub violations : {A : Type 0} → Verdict A → Violations
 violations (fine a) = none
 violations (broken vs) = vs
 
--- a rule that reads what a part means says nothing where the part is broken
+-- a rule that reads the meaning of a part adds nothing where the part is broken
 abbrev pub then_check : {A B : Type 0} → Verdict A → (A → Verdict B) → Verdict B
 then_check (fine a) go = go a
 then_check (broken vs) go = broken vs
 
--- two parts that do not depend on each other: what is broken in either stands
+-- two parts that do not depend on each other: the violations of both count
 abbrev pub both : {A B C : Type 0} → Verdict A → Verdict B → (A → B → Verdict C) → Verdict C
 both (fine a) second go = then_check second (go a)
 both (broken vs) second go = broken (some vs (violations second))
 
--- the constraint is broken where the test is true
+-- the constraint is violated where the test is true
 abbrev pub refuse_if : Bool → Code → Pos → Verdict (Unit {0})
 refuse_if true code at = breaks code at
 refuse_if false code at = fine tt
@@ -47,17 +47,17 @@ Among code at none = ⊥
 Among code at (one c p) = (c ≡ code) × (p ≡ at)
 Among code at (some left right) = Among code at left ⊎ Among code at right
 
--- this constraint is broken at this place
+-- this constraint is violated at this place
 abbrev pub Stands : {A : Type 0} → Code → Pos → Verdict A → Type 0
 Stands code at (fine a) = ⊥
 Stands code at (broken vs) = Among code at vs
 
--- the part is fine, and this holds of what it means
+-- the part is fine, and this holds of its meaning
 abbrev pub OnFine : {A : Type 0} → (A → Type 0) → Verdict A → Type 0
 OnFine P (fine a) = P a
 OnFine P (broken vs) = ⊥
 
--- where the part is fine, this holds of what it means
+-- where the part is fine, this holds of its meaning
 abbrev pub IfFine : {A : Type 0} → (A → Type 0) → Verdict A → Type 0
 IfFine P (fine a) = P a
 IfFine P (broken vs) = Unit {0}

@@ -1,5 +1,5 @@
--- A typed program keeps the types that its nodes name (ISO/IEC 9899:2011 6.5 to 6.9): what the abstract machine and the code
--- generator rely on.
+-- A typed program respects the types that its nodes name (ISO/IEC 9899:2011 6.5 to 6.9): the assumption of the abstract machine and of the code
+-- generator.
 use Rattle.std.specs.Prelude.{ℕ, ℤ, Bool, true, false, not, ◌+◌, ◌&&◌, ◌||◌, nat_le, nat_lt, nat_eq, List, [], ◌∷◌, length, Option, Some, None, slice_get}
 use Rattle.ctypes.specs.declared.types.IntType.{IntType}
 use Rattle.ctypes.specs.declared.types.IntType.TheVariants as ty
@@ -49,7 +49,7 @@ abbrev pub params_of : Option FunctionType → List ParameterType
 params_of None = []
 params_of (Some g) = g.parameters
 
--- 6.5.2.2p2, 6.9p3: nothing evaluated calls what has no definition; the value of a void call is not used (6.3.2.2)
+-- 6.5.2.2p2, 6.9p3: nothing evaluated calls a function without a definition; the value of a void call is not used (6.3.2.2)
 abbrev pub call_fits : Option IntType → (used : Bool) → Option FunctionType → Bool
 call_fits t used None = false
 call_fits t used (Some g) = same_result t g.result && (not used || some_number t)
@@ -86,7 +86,7 @@ abbrev mutual
 abbrev pub number_is_typed : Program → Function → Value → Bool
 number_is_typed p f e = value_is_typed p f e && some_number (type_of_value e)
 
--- 6.7.9p14: characters, of which the zero may find no room
+-- 6.7.9p14: characters; there may be no room for the zero
 abbrev pub text_fits : IntType → List ℕ → Option (List ℕ) → Bool
 text_fits t (n ∷ []) (Some text) = is_character t && nat_le (length text) (n + 1)
 text_fits t lengths text = false
@@ -152,7 +152,7 @@ parameters_are_first (elements t ∷ ps) objects = parameters_are_first ps objec
 parameters_are_first (number t ∷ ps) [] = false
 parameters_are_first (number t ∷ ps) (o ∷ objects) = same_type t o.element && (nat_eq (length o.lengths) 0 && parameters_are_first ps objects)
 
--- a body's objects are those behind its parameters; its nodes are no more than its tree's, and it weighs no more than the greatest stack
+-- a body's objects are those after its parameters; its nodes are no more than its tree's, and it weighs no more than the greatest stack
 abbrev pub function_is_typed : Program → Function → Bool
 function_is_typed p f = nat_le (typed_nodes f) f.nodes && (nat_le f.weight weight_limit && (parameters_are_first f.type.parameters f.objects
     && statement_is_typed p f (numbers_in f.type.parameters) (length f.objects) f.body))

@@ -1,4 +1,4 @@
--- What the items of a block say of it.
+-- The verdict on a block, from those on its items.
 use Rattle.std.proofs.Common.{◌≡◌, ℕ, ◌+◌, ◌-◌, ◌<◌, ◌≤◌, ℤ, List, [], ◌∷◌, ◌++◌, length, drop, get_or, map, Option, Some, None, refl, sym, ap, ◌∙◌, subst, append_assoc, append-nil, rules, Global, Ok, Err, IfOk, IfErr, OnOk}
 use Rattle.std.specs.Prelude.{Box, Vec, Result}
 use Rattle.std.proofs.lemmas.List.{map-append, drop_all}
@@ -279,7 +279,7 @@ declared_tells A d s x r h ps = tells_then r (declaration_typed s x) (λ z. then
 
 -- ---- the items of a block in order
 
--- as far as the items have been looked at
+-- the invariant: the items up to an index have been typed
 pub record Reading (A : typed.Around) (d : Option IntType) (t : List (List ℕ)) (s0 s : Scope) (whole rest : Pieces) (labels new_labels : List Label) (before after : List Initial) (all new_all : List Statement) : Type 0 where
   pub ms : List Label
   pub js : List Initial

@@ -1,4 +1,4 @@
--- What the parts of a `for` say of it.
+-- The verdict on a `for`, from those on its parts.
 use Rattle.std.proofs.Common.{◌≡◌, ℕ, List, [], ◌∷◌, ◌++◌, map, Option, Some, None, refl, sym, ap, ◌∙◌, subst, append_assoc, append-nil, rules, Global}
 use Rattle.std.specs.Prelude.{Box, Vec}
 use Rattle.std.proofs.lemmas.List.{map-append}

@@ -1,4 +1,4 @@
--- Names and tags of a scope stay, behind newer ones, where something is declared.
+-- A declaration keeps the names and tags of a scope, after newer ones.
 use Rattle.std.proofs.Common.{◌≡◌, ℕ, zero, suc, ◌+◌, ◌+ℤ◌, ℤ, pos, Bool, true, false, not, length, List, [], ◌∷◌, ◌++◌, Option, Some, None, refl, sym, ap, ◌∙◌, append_assoc}
 use Rattle.srcset.specs.declared.code.Code.TheVariants as code
 use Rattle.srcset.specs.declared.refusal.Pos.{Pos}
@@ -16,7 +16,7 @@ use Rattle.typing_spec.specs.Linkage.{StorageClass, no_class, by_extern, by_stat
 use Rattle.typing_spec.specs.Declarations as typed
 use Rattle.typing_spec.specs.Declarations.{Begun, Specified, Declared, Effects}
 
--- newer names and tags stand before those of the old scope
+-- newer names and tags precede those of the old scope
 pub record Grows (old new : Scope) : Type 0 where
   pub names : List Binding
   pub tags : List Tag
@@ -64,7 +64,7 @@ pub more_of : {A : Type 0} (P Q : A → Type 0) (v : Verdict A) → ((a : A) →
 more_of P Q (fine a) f h = f a h
 more_of P Q (broken vs) f h = tt
 
--- what is behind a scope that is further on
+-- a scope that grows from a later scope
 pub further : (a b : Scope) (v : Verdict Scope) → Grows a b → IfFine (Grows b) v → IfFine (Grows a) v
 further a b v g h = more_of (Grows b) (Grows a) v (λ c k. onwards a b c g k) h
 

@@ -33,7 +33,7 @@ same_is (Some v) None = refl
 abbrev Known : List (Option ℤ) → List typed.Label → Type 0
 Known keys before = (v : Option ℤ) → is_among v before ≡ list_any (key_eq v) keys
 
--- as far as the labels have been looked at
+-- the invariant: the labels up to an index have been checked
 pub record Read (all rest : List typed.Label) (keys : List (Option ℤ)) : Type 0 where
   pub before : List typed.Label
   pub known : Known keys before

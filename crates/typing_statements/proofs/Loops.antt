@@ -1,4 +1,4 @@
--- What the first part of a `for` may not declare.
+-- The declarations that the first part of a `for` may not contain.
 use Rattle.std.proofs.Common.{◌≡◌, ℕ, ◌+◌, Bool, true, false, not, ◌||◌, nat_eq, List, [], ◌∷◌, map, refl, sym, ap, ◌∙◌, arith}
 use Rattle.std.specs.List.{list_any}
 use Rattle.tree.specs.declared.declaration.Item.{Item}

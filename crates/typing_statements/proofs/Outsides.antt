@@ -1,4 +1,4 @@
--- What is left of a scope where a block ends; the code's items of blocks.
+-- The rest of a scope where a block ends; the code's items of blocks.
 use Rattle.std.proofs.Common.{◌≡◌, ℕ, List, [], ◌++◌, map, Option, Some, None, refl, sym, ap, ◌∙◌, subst, append-nil, rules, Global, Ok, Err, IfErr, OnOk}
 use Rattle.std.specs.Prelude.{Box, Result}
 use Rattle.srcset.specs.declared.refusal.Refusal.{Refusal}

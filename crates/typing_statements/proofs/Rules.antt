@@ -1,4 +1,4 @@
--- What the parts of a statement say of it.
+-- The verdict on a statement, from those on its parts.
 use Rattle.std.proofs.Common.{◌≡◌, ℕ, ◌-◌, ℤ, List, [], ◌∷◌, ◌++◌, length, map, Option, Some, None, refl, sym, ap, ◌∙◌, subst, append_assoc, append-nil, rules, Global, IfOk, IfErr}
 use Rattle.std.specs.Prelude.{Box, Result}
 use Rattle.srcset.specs.declared.code.Code.TheVariants as code
@@ -47,7 +47,7 @@ sees_while at e a = search (rules, the_lemmas)
 sees_do_while : (at : Pos) (a : Box Statement Global) (e : Value) → statement_of (S.DoWhile at a e) ≡ program.do_while (statement_of a.value) (value_of e)
 sees_do_while at a e = search (rules, the_lemmas)
 
--- ---- first values, one part behind another
+-- ---- first values, one part after another
 
 joined : (before mid after js ks : List Initial) → mid ≡ before ++ js → after ≡ mid ++ ks → after ≡ before ++ (js ++ ks)
 joined before mid after js ks e f = f ∙ ap (λ l. l ++ ks) e ∙ append_assoc before js ks

@@ -1,4 +1,4 @@
--- Behind statements names and tags stay, behind newer ones.
+-- Statements keep names and tags, after newer ones.
 use Rattle.std.proofs.Common.{◌≡◌, Bool, true, false, ◌||◌, [], ◌∷◌, Option, Some, None, refl, sym, subst}
 use Rattle.ctypes.specs.declared.types.IntType.{IntType}
 use Rattle.std.specs.Prelude.{if◌then◌else◌}
@@ -129,7 +129,7 @@ started_more s (declaration_start x) =
     part (started_in s) (typed.fit_for_loop x) (then_check (declaration_typed s x) _)
     (then_some (λ (y : Declared). Grows s y.scope) (started_in s) (declaration_typed s x) _ (declaration_more s x) (λ y g. g))
 
--- ---- what is fine
+-- ---- parts that are fine
 
 of_fine : {A : Type 0} (P : A → Type 0) (v : Verdict A) (a : A) → v ≡ fine a → IfFine P v → P a
 of_fine P v a e h = subst (IfFine P) e h

@@ -1,4 +1,4 @@
--- The trees of the code's statements, and what their rules give.
+-- The trees of the code's statements, and the verdicts of their rules.
 use Rattle.std.proofs.Common.{◌≡◌, ℕ, List, [], ◌∷◌, ◌++◌, map, Option, Some, None, refl, sym, ap, ◌∙◌, subst, append-nil, rules, Global, Ok, Err, IfOk, IfErr}
 use Rattle.std.specs.Prelude.{Box, Vec, Result}
 use Rattle.srcset.specs.declared.refusal.Pos.{Pos}

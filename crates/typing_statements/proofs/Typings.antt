@@ -1,4 +1,4 @@
--- What is typed behind the string literals of a scope.
+-- The typing of an expression whose string literals follow those of a scope.
 use Rattle.std.proofs.Common.{◌≡◌, ℕ, List, length, sym, ap, ◌∙◌, subst}
 use Rattle.std.specs.Prelude.{replicate}
 use Rattle.std.proofs.lemmas.List.{length-replicate}

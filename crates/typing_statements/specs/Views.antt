@@ -1,4 +1,4 @@
--- What the code's types of statements stand for.
+-- The models of the code's types of statements.
 use Rattle.std.specs.Prelude.{◌≡◌, ◌++◌, List, [], map, Option}
 use Rattle.typed_ast.specs.declared.statements.Statement.{Statement}
 use Rattle.typed_ast.specs.declared.expressions.Value.{Value}
@@ -18,7 +18,7 @@ around_of a = record { result = a.result; in_loop = a.in_loop; in_switch = a.in_
 abbrev pub label_of : Label → typed.Label
 label_of l = record { at = l.pos; value = l.value }
 
--- a statement with the labels before it, the scope behind it and the first values of the static objects in it
+-- a statement with the labels before it, the scope after it and the first values of the static objects in it
 abbrev pub done_of : Scope → List Label → List Initial → Statement → typed.Done
 done_of s ms js x = record { labels = map label_of ms; statement = statement_of x; scope = s; initial = map initial_of js }
 
@@ -30,10 +30,10 @@ all_done_of s ms js xs = record { labels = map label_of ms; statements = stateme
 abbrev pub start_of : Scope → List Statement → List Initial → Option Value → typed.Start
 start_of s xs js v = record { effects = effects_of xs js; first = option_value v; scope = s }
 
--- a statement without labels, its first values put behind those before
+-- a statement without labels, its first values appended to those before
 abbrev pub Unlabelled : Verdict typed.Done → (before after : List Initial) → Scope → Statement → Type 0
 Unlabelled v before after s x = (js : List Initial) × (after ≡ before ++ js) × (v ≡ fine (done_of s [] js x))
 
--- a statement, its labels and its first values put behind those before
+-- a statement, its labels and its first values appended to those before
 abbrev pub Labelled : Verdict typed.Done → (labels new_labels : List Label) → (before after : List Initial) → Scope → Statement → Type 0
 Labelled v labels new_labels before after s x = (ms : List Label) × (js : List Initial) × (new_labels ≡ labels ++ ms) × (after ≡ before ++ js) × (v ≡ fine (done_of s ms js x))

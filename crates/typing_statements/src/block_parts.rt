@@ -22,7 +22,7 @@ use typing_declarations::declaration_typed;
 use typing_scopes::Scope;
 use typing_units::Initial;
 
-/// How many objects the present function has behind the first so many.
+/// How many objects the present function has after the first `first` ones.
 pub(crate) fn objects_since(scope: &Scope, first: usize) -> usize
     ensures { result ≡ length scope.now.objects - first }
 {

@@ -22,7 +22,7 @@ use typed_ast::Value;
 use typing_expressions::{Checked, Worth, effect, valued};
 use typing_scopes::Scope;
 
-/// What an expression is, in the scope as it is.
+/// Types an expression in the scope, which stays as it is.
 #[inline(never)]
 fn typed_in<'s>(
     alloc: Global,
@@ -40,7 +40,7 @@ fn typed_in<'s>(
     }
 }
 
-/// The value of an expression; of one of type `void` this code stands at this place.
+/// The value of an expression; for one of type `void` reports this code at this place.
 #[inline(never)]
 fn worth_in(
     alloc: Global,
@@ -59,7 +59,7 @@ fn worth_in(
     }
 }
 
-/// The value of an expression, behind which its literals stand.
+/// The value of an expression, whose literals are appended to the scope's.
 #[inline(never)]
 pub(crate) fn worth_past(
     alloc: Global,
@@ -94,7 +94,7 @@ fn effect_of(alloc: Global, names: &Names, scope: &Scope, e: &Expr) -> Result<Va
     }
 }
 
-/// An expression for its side effects, behind which its literals stand.
+/// An expression for its side effects, whose literals are appended to the scope's.
 #[inline(never)]
 pub(crate) fn effect_past(
     alloc: Global,
@@ -115,7 +115,7 @@ pub(crate) fn effect_past(
     }
 }
 
-/// The first part or the step of a `for`, behind which its literals stand (6.8.5.3).
+/// The first part or the step of a `for`, whose literals are appended to the scope's (6.8.5.3).
 #[inline(never)]
 pub(crate) fn effect_in(
     alloc: Global,
@@ -135,7 +135,7 @@ pub(crate) fn effect_in(
     }
 }
 
-/// The test of a `for`, behind which its literals stand.
+/// The test of a `for`, whose literals are appended to the scope's.
 #[inline(never)]
 pub(crate) fn test_in(
     alloc: Global,

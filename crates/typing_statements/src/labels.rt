@@ -32,7 +32,7 @@ pub struct Label {
     pub value: Option<i64>,
 }
 
-/// No two cases have one value, and no two labels are `default` (6.8.4.2p3). Else 540 stands at the second of two.
+/// No two cases have one value, and no two labels are `default` (6.8.4.2p3). Else reports 540 at the second of two.
 #[inline(never)]
 pub(crate) fn no_label_twice(alloc: Global, labels: &[Label]) -> Result<(), Refusal>
     ensures ok { OnOk result (typed.no_label_twice [] (map label_of labels.now) ≡ fine tt) }
@@ -67,7 +67,7 @@ pub(crate) fn case_value(
     }
 }
 
-/// A label that stands not directly in the block of a switch: 623 in a switch, 541 elsewhere (6.8.1p2).
+/// A label that is not directly in the block of a switch: 623 in a switch, 541 elsewhere (6.8.1p2).
 #[inline(never)]
 pub(crate) fn misplaced(around: Around, pos: Pos) -> Refusal
     ensures { IsOf result (typed.misplaced (around_of around) pos) }
@@ -78,7 +78,7 @@ pub(crate) fn misplaced(around: Around, pos: Pos) -> Refusal
     broken(Code::LabelOutsideSwitch, pos)
 }
 
-/// A label as a statement, which stands before that which it labels.
+/// A label as a statement, which precedes the statement that it labels.
 fn label_statement(label: &Label) -> Statement
     ensures { result ≡ label_statement label.now }
 {
@@ -88,7 +88,7 @@ fn label_statement(label: &Label) -> Statement
     }
 }
 
-/// Behind the labels of a block those of one of its statements; behind the statements these labels and the statement.
+/// Appends the labels of a statement to those of its block, and these labels and the statement to the block's statements.
 #[inline(never)]
 pub(crate) fn push_labelled(
     labels: &mut Vec<Label>,
@@ -113,7 +113,7 @@ pub(crate) fn push_labelled(
     }
 }
 
-/// The value of a case, behind which its literals stand.
+/// The value of a case, whose literals are appended to the scope's.
 #[inline(never)]
 pub(crate) fn case_past(
     alloc: Global,

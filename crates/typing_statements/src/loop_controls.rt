@@ -1,4 +1,4 @@
-//! What controls a `for` (6.8.5.3).
+//! The controlling parts of a `for` (6.8.5.3).
 #![tactic(auto, using(decls_declarators::proofs::Verdicts::told))]
 
 ghost use Rattle.std.specs.Prelude.{◌≡◌, ◌++◌, List, map, IfErr, IfOk};
@@ -33,7 +33,7 @@ pub(crate) struct Control {
     pub(crate) step: Option<Value>,
 }
 
-/// The test and the step, behind which their literals stand.
+/// The test and the step, whose literals are appended to the scope's.
 #[inline(never)]
 pub(crate) fn controlled(
     alloc: Global,
@@ -56,7 +56,7 @@ pub(crate) fn controlled(
     }
 }
 
-/// The first part: what it declares goes behind other statements and first values; what it evaluates is given.
+/// The first part: its declarations are appended to the statements and first values; its expression is returned.
 #[inline(never)]
 pub(crate) fn started(
     alloc: Global,
@@ -87,7 +87,7 @@ pub(crate) fn started(
     }
 }
 
-/// A `for` of its parts. Refused where memory runs out.
+/// A `for` of its parts. Fails where memory runs out.
 #[inline(never)]
 pub(crate) fn for_statement(
     alloc: Global,

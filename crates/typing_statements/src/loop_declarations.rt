@@ -1,4 +1,4 @@
-//! What the first part of a `for` may declare (6.8.5p3).
+//! The declarations that the first part of a `for` may contain (6.8.5p3).
 #![tactic(auto, using(crate::proofs::Loops::unfit_is))]
 
 ghost use Rattle.std.specs.Prelude.{◌≡◌, map, IfErr, OnOk};
@@ -52,7 +52,7 @@ fn is_unfit(specifiers: &[Specifier], items: &[Item]) -> bool
     has_kept_out(specifiers) || has_function(items)
 }
 
-/// Only objects that are not static may be declared; an assertion declares nothing. Else 544 stands at the declaration.
+/// Only objects that are not static may be declared; an assertion declares nothing. Else reports 544 at the declaration.
 pub(crate) fn fit_for_loop(declaration: &Declaration) -> Result<(), Refusal>
     ensures ok { OnOk result (typed.fit_for_loop (declaration_of declaration.now) ≡ fine tt) }
     ensures err { IfErr result (λ r. IsOf r (typed.fit_for_loop (declaration_of declaration.now))) }

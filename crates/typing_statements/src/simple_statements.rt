@@ -40,7 +40,7 @@ pub(crate) fn expression_typed(
     }
 }
 
-/// `break` stands in a loop or in a switch (6.8.6.3p1). Else 542 stands at it.
+/// `break` must be in a loop or in a switch (6.8.6.3p1). Else reports 542 at it.
 #[inline(never)]
 pub(crate) fn break_typed(around: Around, pos: Pos) -> Result<Statement, Refusal>
     ensures ok { (d : Option IntType) (s : scope_typed.Scope) → IfOk result (λ x. typed.statement (around_of around) d s (tree.break_stmt pos) ≡ fine (done_of s [] [] x)) }
@@ -52,7 +52,7 @@ pub(crate) fn break_typed(around: Around, pos: Pos) -> Result<Statement, Refusal
     Err(broken(Code::JumpOutside, pos))
 }
 
-/// `continue` stands in a loop (6.8.6.2p1). Else 542 stands at it.
+/// `continue` must be in a loop (6.8.6.2p1). Else reports 542 at it.
 #[inline(never)]
 pub(crate) fn continue_typed(around: Around, pos: Pos) -> Result<Statement, Refusal>
     ensures ok { (d : Option IntType) (s : scope_typed.Scope) → IfOk result (λ x. typed.statement (around_of around) d s (tree.continue_stmt pos) ≡ fine (done_of s [] [] x)) }
@@ -64,7 +64,7 @@ pub(crate) fn continue_typed(around: Around, pos: Pos) -> Result<Statement, Refu
     Err(broken(Code::JumpOutside, pos))
 }
 
-/// `return` has a value where the function has one, and there alone (6.8.6.4p1). Else 543 stands at it.
+/// `return` has a value where the function has one, and only there (6.8.6.4p1). Else reports 543 at it.
 #[inline(never)]
 pub(crate) fn return_typed(
     alloc: Global,

@@ -35,7 +35,7 @@ use typing_expressions::{Worth, broken};
 use typing_scopes::Scope;
 use typing_units::Initial;
 
-/// A statement that stands not in the block of a switch itself.
+/// A statement that is not itself in the block of a switch.
 #[cycle(statements)]
 #[inline(never)]
 fn inner_statement(
@@ -86,7 +86,7 @@ fn if_typed(
     }
 }
 
-/// What stands before an `else`.
+/// The part before an `else`.
 #[derive(Drop)]
 pub(crate) struct Head {
     pub(crate) test: Worth,
@@ -420,8 +420,8 @@ fn default_typed(
     statement(alloc, names, around, Some(ty), a, scope, labels, initial)
 }
 
-/// A statement, whose labels and first values go behind those before. `direct` is the promoted type of the switch in whose block it
-/// stands itself.
+/// A statement, whose labels and first values are appended to those before. `direct` is the promoted type of the switch in whose block
+/// it itself is.
 #[cycle(statements)]
 #[inline(never)]
 fn statement(
@@ -487,7 +487,7 @@ fn statement(
     }
 }
 
-/// A statement among the items of a block: its labels stand before it.
+/// A statement among the items of a block: its labels precede it.
 #[cycle(statements)]
 #[inline(never)]
 fn statement_item(
@@ -542,15 +542,15 @@ fn piece(
     }
 }
 
-/// The items of a block, each in the scope behind those before it. Their statements, labels and first values go behind those before.
+/// The items of a block, each in the scope after those before it. Their statements, labels and first values are appended to those before.
 ///
 /// Fails
 /// - with 539 where a controlling expression is void, and with 540 at a label of a value that another has;
-/// - with 541 at a label outside a switch, and with 623 at one that stands not in the switch's block itself;
+/// - with 541 at a label outside a switch, and with 623 at one that is not in the switch's block itself;
 /// - with 542 at a jump out of nothing, with 543 at a `return` that does not match its function, and with 544 at a bad first part of a `for`;
-/// - with what declarations and expressions break, and with 801 where memory runs out.
+/// - with the violations of declarations and expressions, and with 801 where memory runs out.
 ///
-/// Its recursion is as deep as the tree is. After a refusal nothing is said of the scope and of the vectors.
+/// Its recursion is as deep as the tree is. After an error the scope and the vectors are unspecified.
 #[cycle(statements)]
 #[inline(never)]
 pub fn pieces(

@@ -1,4 +1,4 @@
-//! What statements stand in.
+//! The context of statements.
 #![tactic(auto)]
 
 ghost use Rattle.std.specs.Prelude.{◌≡◌};
@@ -7,7 +7,7 @@ ghost use Rattle.typing_statements.specs.Views.{around_of};
 
 use ctypes::IntType;
 
-/// What a statement stands in (6.8): the result of its function, none for `void`; whether it stands in a loop, and in a switch.
+/// The context of a statement (6.8): the result of its function, none for `void`; whether it is in a loop, and in a switch.
 #[derive(Clone, Copy)]
 pub struct Around {
     pub result: Option<IntType>,

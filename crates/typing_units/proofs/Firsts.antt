@@ -1,4 +1,4 @@
--- The first use of what has no definition.
+-- The first use of an object or function without a definition.
 use Rattle.std.proofs.Common.{◌≡◌, ℕ, ◌+◌, ◌<◌, Bool, true, false, not, ◌&&◌, ◌||◌, nat_eq, List, [], ◌∷◌, ◌++◌, take, get_or, length, Option, Some, None, refl, ap, sym, ◌∙◌, subst, append_assoc, append-nil, inl, arith}
 use Rattle.std.proofs.lemmas.List.{take_more}
 use Rattle.srcset.specs.declared.refusal.Pos.{Pos}

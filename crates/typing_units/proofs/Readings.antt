@@ -21,7 +21,7 @@ use Rattle.typing_units.specs.inside.Parts.{is_number}
 pub next_of : {X : Type 0} (xs : List X) (i : ℕ) (x : X) → i < length xs → x ≡ get_or xs i x → drop i xs ≡ x ∷ drop (i + 1) xs
 next_of xs i x h e = drop_more xs i x h ∙ ap (λ y. y ∷ drop (i + 1) xs) (sym e)
 
--- ---- names of parameters: what is left leads to the whole
+-- ---- names of parameters: the result on the rest determines the result on the whole
 
 pub record Naming (all rest : List ParameterTree) : Type 0 where
   pub ok : all_named rest ≡ fine tt → all_named all ≡ fine tt

@@ -1,4 +1,4 @@
--- What the code's parts of a unit stand for.
+-- The models of the code's parts of a unit.
 use Rattle.std.specs.Prelude.{ℕ, List, map}
 use Rattle.typed_ast.specs.declared.units.Function.{Function}
 use Rattle.typed_ast.specs.View.{function_of}
@@ -16,6 +16,6 @@ initial_of i = record { static = i.static_number; values = i.values.items }
 abbrev pub unit_scope : List (List ℕ) → List ℕ → List StaticObject → Scope → Scope
 unit_scope texts literals statics s = record s { texts = texts; literals = literals; statics = map static_of statics }
 
--- what has been looked at, where the stack has so many bytes
+-- the result so far, where the stack has `stack` bytes
 abbrev pub built_of : (stack : ℕ) → Scope → List Function → List Initial → typed.Built
 built_of stack s functions initial = record { stack = stack; scope = s; functions = map function_of functions; initial = map initial_of initial }

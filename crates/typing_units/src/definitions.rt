@@ -1,4 +1,4 @@
-//! What a unit defines (6.9).
+//! The definitions of a unit (6.9).
 #![tactic(auto)]
 
 ghost use Rattle.std.specs.Prelude.{◌≡◌, ◌++◌, ◌∷◌, [], map, OnOk, IfOk, IfErr};
@@ -10,7 +10,7 @@ use srcset::Refusal;
 use std::alloc::Global;
 use tree::External;
 
-/// The name of what an external declaration defines.
+/// Appends the name that an external declaration defines, if any.
 fn with_definition(names: &mut Vec<usize>, external: &External) -> Result<(), Refusal>
     ensures ok { OnOk result (names.new.items ≡ names.old.items ++ typed.definitions_in (external_of external.now ∷ [])) }
     ensures err { IfErr result (λ r. r ≡ Memory) }

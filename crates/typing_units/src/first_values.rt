@@ -15,7 +15,7 @@ use std::alloc::Global;
 use typed_ast::Static;
 use typing_scopes::StaticObject;
 
-/// What an initialiser gives an object with static storage.
+/// The values that an initialiser gives an object with static storage.
 #[derive(Drop)]
 pub struct Initial {
     /// The number of the object.

@@ -28,7 +28,7 @@ fn named(parameter: &Parameter) -> Result<(), Refusal>
     }
 }
 
-/// Each parameter of a definition has a name (6.9.1p5). Else 527 stands at the first that has none.
+/// Each parameter of a definition has a name (6.9.1p5). Else reports 527 at the first that has none.
 pub fn all_named(parameters: &[Parameter]) -> Result<(), Refusal>
     ensures ok { OnOk result (typed.all_named (map parameter_of parameters.now) ≡ fine tt) }
     ensures err { IfErr result (λ r. IsOf r (typed.all_named (map parameter_of parameters.now))) }
@@ -72,7 +72,7 @@ fn block(at: Pos, first: usize, count: usize, statements: Vec<Statement>) -> Sta
 }
 
 /// A function of this type, whose definition has these objects and whose body these statements. Where it weighs more than the bytes of the
-/// stack, 714 stands at its name.
+/// stack, reports 714 at its name.
 pub fn function_of(
     function: &tree::Function,
     function_type: FunctionType,

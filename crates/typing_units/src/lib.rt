@@ -1,5 +1,5 @@
-//! What concerns whole translation units (ISO/IEC 9899:2011 6.9): sizes and weights, the limits of a program, what is used and
-//! defined, `main`, first values, the typed program.
+//! Rules on whole translation units (ISO/IEC 9899:2011 6.9): sizes and weights, the limits of a program, uses and
+//! definitions, `main`, first values, the typed program.
 #![tactic(auto)]
 
 mod definitions;

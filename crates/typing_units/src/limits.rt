@@ -57,7 +57,7 @@ pub fn static_bytes(names: &Names, literals: &[usize], statics: &[StaticObject])
     )
 }
 
-/// A unit is within the limits, else 713 or 715 stands at this place.
+/// A unit is within the limits, else reports 713 or 715 at this place.
 pub fn within_limits(
     names: &Names,
     whole: Pos,

@@ -13,7 +13,7 @@ use crate::sizes::{in_words, narrowed, sum};
 use srcset::{Names, Refusal};
 use std::alloc::Global;
 
-/// The characters of a literal, behind which its text has a zero.
+/// The characters of a literal, without the zero that ends its text.
 fn characters<'n>(names: &'n Names, name: usize) -> &'n [u8]
     ensures { (s : Scope) → result.now ≡ literal_of (with_texts names.now s) name }
 {

@@ -1,4 +1,4 @@
-//! The typed program of a unit (6.9), once each external declaration has been looked at.
+//! The typed program of a unit (6.9), once each external declaration has been typed.
 #![tactic(auto)]
 
 ghost use Rattle.std.specs.Prelude.{◌≡◌, ℕ, IfOk, IfErr};
@@ -51,8 +51,8 @@ pub fn program_of(
     })
 }
 
-/// The program of a unit with these string literals and objects with static storage, whose names are those of a scope. What
-/// concerns the whole unit stands at the place `whole`.
+/// The program of a unit with these string literals and objects with static storage, whose names are those of a scope. Faults
+/// that concern the whole unit have the place `whole`.
 ///
 /// Fails
 /// - with 713 where its static objects and string literals take too many bytes, with 715 where it has too many functions;
@@ -86,7 +86,7 @@ pub fn whole_program(
     }
 }
 
-/// The program of a unit, whose external declarations have been looked at. It fails as `whole_program` does.
+/// The program of a unit, whose external declarations have been typed. It fails as `whole_program` does.
 pub fn unit_program(
     alloc: Global,
     names: &Names,

@@ -36,7 +36,7 @@ fn product(a: u32, b: u32) -> u32
     a.saturating_mul(b)
 }
 
-/// Bytes rounded up to a multiple of 4. Where there are 2^32 - 1 or more, or come to be, it is this number.
+/// Bytes rounded up to a multiple of 4. The result saturates at 2^32 - 1.
 pub fn in_words(bytes: u32) -> u32
     ensures { (x : ℕ) → bytes ≡ capped32 x → result ≡ capped32 (typed.in_words x) }
 {

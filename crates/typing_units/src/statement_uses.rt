@@ -1,4 +1,4 @@
-//! The first use of what has no definition in a statement (6.9p3, p5).
+//! The first use in a statement of an object or function without a definition (6.9p3, p5).
 #![tactic(auto)]
 
 ghost use Rattle.std.specs.Prelude.{◌≡◌, ◌++◌, map};
@@ -23,7 +23,7 @@ fn in_statements(statics: &[StaticObject], statements: &[Statement]) -> Option<P
     found
 }
 
-/// What stands before the body of a `for`.
+/// The parts before the body of a `for`.
 #[cycle(uses_of_statements)]
 fn in_head(
     statics: &[StaticObject],

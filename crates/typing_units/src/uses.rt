@@ -1,4 +1,4 @@
-//! What is used has a definition (6.9p3, p5).
+//! Each object and function used has a definition (6.9p3, p5).
 #![tactic(auto)]
 
 ghost use Rattle.std.specs.Prelude.{◌≡◌, [], map, OnOk, IfErr};
@@ -27,7 +27,7 @@ fn in_functions(statics: &[StaticObject], functions: &[Function]) -> Option<Pos>
     found
 }
 
-/// Each object with static storage and each function that functions use has a definition. Else 552 stands at the first use, in
+/// Each object with static storage and each function that functions use has a definition. Else reports 552 at the first use, in
 /// the order of the source, of one that has none.
 pub fn all_defined(statics: &[StaticObject], functions: &[Function]) -> Result<(), Refusal>
     ensures ok { (s : scope_typed.Scope) → OnOk result (typed.all_defined (with_statics (map static_of statics.now) s) [] (typed.uses_in_functions (map function_of functions.now)) ≡ fine tt) }

@@ -1,4 +1,4 @@
-//! The first use of what has no definition in an expression or an initialiser (6.9p3, p5).
+//! The first use in an expression or an initialiser of an object or function without a definition (6.9p3, p5).
 #![tactic(auto, using(crate::proofs::Firsts::found_first, crate::proofs::Firsts::found_later))]
 
 ghost use Rattle.std.specs.Prelude.{◌≡◌, ◌++◌, List, map, slice_get};
@@ -12,7 +12,7 @@ use srcset::Pos;
 use typed_ast::{Argument, Callee, Initialiser, Place, Storage, Value};
 use typing_scopes::StaticObject;
 
-/// The first of two places, of what was found in two parts.
+/// The first of two places, found in two parts.
 pub(crate) fn earlier(first: Option<Pos>, later: Option<Pos>) -> Option<Pos>
     ensures { (os : List scope_typed.StaticObject) (xs ys : List typed.Use) → first ≡ undefined_in os xs → later ≡ undefined_in os ys → result ≡ undefined_in os (xs ++ ys) }
 {

@@ -1,4 +1,4 @@
-//! The weight of a function: what a call of it may take of the stack, by its source alone.
+//! The weight of a function: the stack that a call of it may take, by its source alone.
 #![tactic(auto)]
 
 ghost use Rattle.std.specs.Prelude.{◌≡◌, ◌^◌, ℕ, min, map, nat_lt, OnOk, IfErr};
@@ -27,7 +27,7 @@ pub fn weight(function: &Function, parameters: &[ParameterType], objects: &[Obje
     weight.min(PAST_ALL)
 }
 
-/// A weight is no more than the bytes of the stack, else 714 stands there.
+/// A weight is no more than the bytes of the stack, else reports 714 there.
 pub fn within_weight(pos: Pos, weight: u64, stack: u32) -> Result<(), Refusal>
     ensures ok { (x : ℕ) → weight ≡ min x (2 ^ 32) → OnOk result (refuse_if (nat_lt stack x) code.WeightLimit pos ≡ fine tt) }
     ensures err { (x : ℕ) → weight ≡ min x (2 ^ 32) → IfErr result (λ r. IsOf r (refuse_if (nat_lt stack x) code.WeightLimit pos)) }

@@ -19,16 +19,18 @@ use Rattle.csem.specs.Meaning.{enter, leave, value_at_end, value_left, body_of, 
 use Rattle.verify_logic.specs.declared.abstract_values.Interval.{Interval}
 use Rattle.verify_logic.specs.declared.abstract_values.AbsValue.{AbsValue}
 use Rattle.verify_logic.specs.declared.abstract_values.ArrayArgument.{ArrayArgument}
-use Rattle.verify_logic.specs.States.{Frame, In, TreeIs, ObjectsAre, Summary, lengths_in, IsSound, AreSound, ValueIs, Entails, Implies, Reaches, Ends}
+use Rattle.verify_logic.specs.declared.abstract_values.Fact.{Fact}
+use Rattle.verify_logic.specs.States.{Known, Frame, In, TreeIs, ObjectsAre, FactsAre, Summary, lengths_in, IsSound, AreSound, ValueIs, Entails, Implies, Reaches, Ends}
 use Rattle.verify_logic.specs.Statements.{Ways, Leaves, Executes}
-use Rattle.verify_logic.specs.Calls.{Entered, FunctionEnds, Begins, EachIn}
+use Rattle.verify_logic.specs.Calls.{Entered, FunctionEnds, Begins, EachIn, with_own}
 use Rattle.verify_logic.specs.Whole.{UndefinedOnlyAt, IsDefined, IsDefinedBut}
 use Rattle.verify_logic.proofs.Runs.{then_ends}
+use Rattle.verify_logic.proofs.Facts.{facts_front}
 use Rattle.verify_logic.proofs.Calls.{both_are, as_long, new_objects, ticks_end, body_rule}
 use Rattle.verify_logic.proofs.Whole.{never_undefined, static_is, literal_is, one_more_object, sound_more, one_more_sound}
-use Rattle.verify_expressions.specs.Views.{shapes_in, summary_of}
+use Rattle.verify_expressions.specs.Views.{known_of, shapes_in, summary_of}
 use Rattle.verify_expressions.specs.declared.scope.Summary as code
-use Rattle.verify.specs.Says.{AreFresh, Fresh, EntersMain, IsSoundWork, OnlyReturns, frame_in, texts_of, Adds, FirstAre}
+use Rattle.verify.specs.Says.{AreFresh, Fresh, EntersMain, IsSoundWork, OnlyReturns, frame_in, texts_of, Adds, FirstAre, TreeFacts}
 use Rattle.verify.specs.declared.first_objects.FirstObjects.{FirstObjects}
 use Rattle.verify.specs.declared.work.Work.{Work}
 
@@ -46,7 +48,7 @@ entered_fresh [] (k ∷ ks) e h = absurd (cc e)
 entered_fresh (t ∷ objects) [] e h = absurd (cc e)
 entered_fresh (t ∷ objects) (k ∷ ks) e h = (h.0, entered_fresh objects ks (let q : suc (length ks) ≡ suc (length objects) = e in omega (arith, q)) h.1)
 
-pub main_body : (p : Program) (wk : Work) (outer : List (Vec ℕ Global)) (g : Function) (first : List AbsValue) (count : ℕ) (entry : List AbsValue) (w : Ways) → IsSoundWork p wk → slice_get p.functions p.main ≡ Some g → Begins p (shapes_in outer) first → count ≡ length g.objects →
+pub main_body : (p : Program) (wk : Work) (outer : List (Vec ℕ Global)) (g : Function) (first : Known) (count : ℕ) (entry : Known) (w : Ways) → IsSoundWork p wk → slice_get p.functions p.main ≡ Some g → Begins p (shapes_in outer) first → count ≡ length g.objects →
     EntersMain first count entry → Executes (frame_in p wk outer [] g) g.body (Some entry) w → IsDefinedBut p wk.listed.items
 main_body p wk outer g first count entry w sound eg hb ec en h n input bytes =
     let listed : List Pos = wk.listed.items in
@@ -54,11 +56,12 @@ main_body p wk outer g first count entry w sound eg hb ec en h n input bytes =
     let s : State = start n p input in
     let s1 : State = enter p.main g [] s in
     let P : Option Function → Type 0 = λ o. UndefinedOnlyAt listed (ending_of (then_do (call_defined p (calling p n) o p.main [] s) end_with)) in
-    let K : List AbsValue → Type 0 = λ known. Reaches fr (Some known) s1 in
-    let c0 : Reaches fr (Some (first ++ en.own)) s1 = record {
-      based = as_long first (shapes_in outer) (first_store p) hb;
+    let K : Known → Type 0 = λ known. Reaches fr (Some known) s1 in
+    let c0 : Reaches fr (Some (with_own first en.own)) s1 = record {
+      based = as_long first.objects (shapes_in outer) (first_store p) hb.objects;
       referred = tt;
-      objects_are = both_are first (shapes_in outer) (first_store p) en.own (map lengths_in g.objects) _ hb (new_objects g.objects en.own (entered_fresh g.objects en.own (en.fresh.0 ∙ ec) en.fresh.1));
+      facts_are = facts_front first.facts (first_store p) _ hb.facts;
+      objects_are = both_are first.objects (shapes_in outer) (first_store p) en.own (map lengths_in g.objects) _ hb.objects (new_objects g.objects en.own (entered_fresh g.objects en.own (en.fresh.0 ∙ ec) en.fresh.1));
       bytes = bytes;
       sound = sound;
     } in
@@ -158,8 +161,8 @@ no_statics (t ∷ before) = ap (λ rest. t ∷ rest) (no_statics before)
 pub only_returns : (w : Ways) → w.normal ≡ None → w.broken ≡ None → w.continued ≡ None → OnlyReturns w
 only_returns w a b c = record { normal = a; broken = b; continued = c }
 
-never : {A : Type 0} (fr : Frame) (o : Option (List AbsValue)) (s : State) → o ≡ None → Reaches fr o s → A
-never fr o s e h = let P : Option (List AbsValue) → Type 0 = λ o. Reaches fr o s in absurd (let q : ⊥ = subst P e h in q)
+never : {A : Type 0} (fr : Frame) (o : Option Known) (s : State) → o ≡ None → Reaches fr o s → A
+never fr o s e h = let P : Option Known → Type 0 = λ o. Reaches fr o s in absurd (let q : ⊥ = subst P e h in q)
 
 pub returns_end : (p : Program) (f : ℕ) (w : Ways) → OnlyReturns w → FunctionEnds p f w w.value w.returned
 returns_end p f w h = record {
@@ -169,7 +172,7 @@ returns_end p f w h = record {
   returned = λ fr v s m c. (m, c);
 }
 
-pub all_end : (p : Program) (f : ℕ) (b : Bool) (w : Ways) (end value : AbsValue) (two three o : Option (List AbsValue)) → b ≡ nat_eq f p.main → ValueIs end (value_at_end b) → Entails w.value value → Entails end value → Implies w.normal two → Implies w.broken two →
+pub all_end : (p : Program) (f : ℕ) (b : Bool) (w : Ways) (end value : AbsValue) (two three o : Option Known) → b ≡ nat_eq f p.main → ValueIs end (value_at_end b) → Entails w.value value → Entails end value → Implies w.normal two → Implies w.broken two →
     Implies two three → Implies w.continued three → Implies three o → Implies w.returned o → FunctionEnds p f w value o
 all_end p f b w end value two three o eb m ev ee n2 b2 t3 c3 o3 r3 =
     let P : Bool → Type 0 = λ b. ValueIs value (value_at_end b) in
@@ -182,10 +185,10 @@ all_end p f b w end value two three o eb m ev ee n2 b2 t3 c3 o3 r3 =
 
 -- ---- summaries
 
-pub summary_sound : (p : Program) (wk : Work) (outer : List (Vec ℕ Global)) (ps : List ArrayArgument) (g : Function) (f : ℕ) (entry given : List AbsValue) (w : Ways) (value : AbsValue) (left : Option (List AbsValue)) → IsSoundWork p wk → slice_get p.functions f ≡ Some g →
+pub summary_sound : (p : Program) (wk : Work) (outer : List (Vec ℕ Global)) (ps : List ArrayArgument) (g : Function) (f : ℕ) (entry given : Known) (w : Ways) (value : AbsValue) (left : Option Known) → IsSoundWork p wk → slice_get p.functions f ≡ Some g →
     entry ≡ given → Executes (frame_in p wk outer ps g) g.body (Some entry) w → FunctionEnds p f w value left → IsSound p wk.listed.items (record { function = f; outer = shapes_in outer; arrays = ps; entry = given; value = value; left = left })
 summary_sound p wk outer ps g f entry given w value left sound eg e h ends =
-    let Q : List AbsValue → Type 0 = λ known. IsSound p wk.listed.items (record { function = f; outer = shapes_in outer; arrays = ps; entry = known; value = value; left = left }) in
+    let Q : Known → Type 0 = λ known. IsSound p wk.listed.items (record { function = f; outer = shapes_in outer; arrays = ps; entry = known; value = value; left = left }) in
     subst Q e (body_rule (frame_in p wk outer ps g) f g entry w value left refl sound eg h ends)
 
 -- ---- more places
@@ -211,10 +214,21 @@ learnt_more p al xs ys x e h g = let P : List code.Summary → Type 0 = λ ys. A
 
 -- ---- objects before the run, one by one
 
-pub adds_object : (before after : FirstObjects) (k : AbsValue) (lengths : Vec ℕ Global) (l : List ℕ) (t : Tree) → after.known.items ≡ before.known.items ++ k ∷ [] → after.outer.items ≡ before.outer.items ++ lengths ∷ [] → lengths.items ≡ l → TreeIs k l t → Adds before t after
-adds_object before after k lengths l t ek eo el m = record {
-  adds = λ store h. record { are = more_known before.known.items after.known.items before.outer.items after.outer.items store (store ++ t ∷ []) k lengths l t h.are ek eo el m refl };
+pub adds_object : (before after : FirstObjects) (k : AbsValue) (lengths : Vec ℕ Global) (l : List ℕ) (t : Tree) (x : ℕ) (facts : List Fact) → after.known.objects.items ≡ before.known.objects.items ++ k ∷ [] → after.outer.items ≡ before.outer.items ++ lengths ∷ [] → lengths.items ≡ l → TreeIs k l t →
+    x ≡ length before.outer.items → after.known.facts.items ≡ facts → TreeFacts t x before.known.facts.items facts → Adds before t after
+adds_object before after k lengths l t x facts ek eo el m ex ef tf = record {
+  adds = λ store h.
+      let F : List Fact → Type 0 = λ facts. FactsAre facts (store ++ t ∷ []) in
+      let long : length store ≡ x = as_long before.known.objects.items (shapes_in before.outer.items) store h.are ∙ shapes_long before.outer.items ∙ sym ex in
+      record {
+        are = more_known before.known.objects.items after.known.objects.items before.outer.items after.outer.items store (store ++ t ∷ []) k lengths l t h.are ek eo el m refl;
+        facts = subst F (sym ef) (tf.is store long h.facts);
+      };
 }
+  where
+    shapes_long : (outer : List (Vec ℕ Global)) → length (shapes_in outer) ≡ length outer
+    shapes_long [] = refl
+    shapes_long (l ∷ outer) = ap suc (shapes_long outer)
 
 pub text_known : (texts : List (Vec ℕ Global)) (n : ℕ) (d : Vec ℕ Global) (text : List ℕ) (a b : FirstObjects) → n < length texts → text ≡ (get_or texts n d).items → Adds a (literal_object text) b → FirstAre a (map literal_object (texts_of (take n texts))) →
     FirstAre b (map literal_object (texts_of (take (n + 1) texts)))
@@ -237,8 +251,8 @@ begin_statics before a h = let P : Store → Type 0 = λ store. FirstAre a store
 pub statics_there : (a : FirstObjects) (before : Store) (xs ys : List held.Static) → xs ≡ ys → FirstAre a (before ++ map static_object (map static_of xs)) → FirstAre a (before ++ map static_object (map static_of ys))
 statics_there a before xs ys e h = let P : List held.Static → Type 0 = λ xs. FirstAre a (before ++ map static_object (map static_of xs)) in subst P e h
 
-pub begins_there : (a : FirstObjects) (p : code_program.Program) (xs : List (Vec ℕ Global)) → xs ≡ p.literals.items → FirstAre a (map literal_object (texts_of xs) ++ map static_object (program_of p).statics) → Begins (program_of p) (shapes_in a.outer.items) a.known.items
-begins_there a p xs e h = let P : List (Vec ℕ Global) → Type 0 = λ xs. FirstAre a (map literal_object (texts_of xs) ++ map static_object (program_of p).statics) in let k : FirstAre a (first_store (program_of p)) = subst P e h in k.are
+pub begins_there : (a : FirstObjects) (p : code_program.Program) (xs : List (Vec ℕ Global)) → xs ≡ p.literals.items → FirstAre a (map literal_object (texts_of xs) ++ map static_object (program_of p).statics) → Begins (program_of p) (shapes_in a.outer.items) (known_of a.known)
+begins_there a p xs e h = let P : List (Vec ℕ Global) → Type 0 = λ xs. FirstAre a (map literal_object (texts_of xs) ++ map static_object (program_of p).statics) in let k : FirstAre a (first_store (program_of p)) = subst P e h in record { objects = k.are; facts = k.facts }
 
 pub all_statics : (before : Store) (objects : List held.Static) (n : ℕ) (a : FirstObjects) → length objects ≤ n → FirstAre a (before ++ map static_object (map static_of (take n objects))) → FirstAre a (before ++ map static_object (map static_of objects))
 all_statics before objects n a le h = let P : List held.Static → Type 0 = λ objects. FirstAre a (before ++ map static_object (map static_of objects)) in subst P (take_all n objects le) h
@@ -251,13 +265,13 @@ pub static_at : (before : Store) (objects : List held.Static) (n : ℕ) (x : hel
     FirstAre b (before ++ map static_object (map static_of (take (n + 1) objects)))
 static_at before objects n x a b lt ex h g = let P : held.Static → Type 0 = λ y. Adds a (static_object (static_of y)) b in static_known before objects n x a b lt (subst P ex h) g
 
-pub main_body_at : (p : Program) (wk : Work) (outer outer2 : List (Vec ℕ Global)) (ps : List ArrayArgument) (g : Function) (first : List AbsValue) (count : ℕ) (entry : List AbsValue) (w : Ways) → outer ≡ outer2 → ps ≡ [] → IsSoundWork p wk → slice_get p.functions p.main ≡ Some g → Begins p (shapes_in outer2) first →
+pub main_body_at : (p : Program) (wk : Work) (outer outer2 : List (Vec ℕ Global)) (ps : List ArrayArgument) (g : Function) (first : Known) (count : ℕ) (entry : Known) (w : Ways) → outer ≡ outer2 → ps ≡ [] → IsSoundWork p wk → slice_get p.functions p.main ≡ Some g → Begins p (shapes_in outer2) first →
     count ≡ length g.objects → EntersMain first count entry → Executes (frame_in p wk outer ps g) g.body (Some entry) w → IsDefinedBut p wk.listed.items
 main_body_at p wk outer outer2 ps g first count entry w eo ep sound eg hb ec en h = let P : List (Vec ℕ Global) → Type 0 = λ outer. Executes (frame_in p wk outer ps g) g.body (Some entry) w in
     let Q : List ArrayArgument → Type 0 = λ ps. Executes (frame_in p wk outer2 ps g) g.body (Some entry) w in
     main_body p wk outer2 g first count entry w sound eg hb ec en (subst Q ep (subst P eo h))
 
-pub summary_at : (p : Program) (wk : Work) (outer outer2 : List (Vec ℕ Global)) (ps ps2 : List ArrayArgument) (g : Function) (f : ℕ) (entry given : List AbsValue) (w : Ways) (value : AbsValue) (left : Option (List AbsValue)) → outer ≡ outer2 → ps ≡ ps2 → IsSoundWork p wk → slice_get p.functions f ≡ Some g →
+pub summary_at : (p : Program) (wk : Work) (outer outer2 : List (Vec ℕ Global)) (ps ps2 : List ArrayArgument) (g : Function) (f : ℕ) (entry given : Known) (w : Ways) (value : AbsValue) (left : Option Known) → outer ≡ outer2 → ps ≡ ps2 → IsSoundWork p wk → slice_get p.functions f ≡ Some g →
     entry ≡ given → Executes (frame_in p wk outer ps g) g.body (Some entry) w → FunctionEnds p f w value left → IsSound p wk.listed.items (record { function = f; outer = shapes_in outer2; arrays = ps2; entry = given; value = value; left = left })
 summary_at p wk outer outer2 ps ps2 g f entry given w value left eo ep sound eg e h ends = let P : List (Vec ℕ Global) → Type 0 = λ outer. Executes (frame_in p wk outer ps g) g.body (Some entry) w in
     let Q : List ArrayArgument → Type 0 = λ ps. Executes (frame_in p wk outer2 ps g) g.body (Some entry) w in

@@ -6,10 +6,12 @@ use Rattle.typing_spec.specs.Program.{Function, Program}
 use Rattle.csem.specs.Store.{Tree, Store}
 use Rattle.verify_logic.specs.declared.abstract_values.AbsValue.{AbsValue}
 use Rattle.verify_logic.specs.declared.abstract_values.ArrayArgument.{ArrayArgument}
-use Rattle.verify_logic.specs.States.{Frame, Summary, IsSound, AreSound, ObjectsAre}
+use Rattle.verify_logic.specs.declared.abstract_values.Fact.{Fact}
+use Rattle.verify_logic.specs.States.{Frame, Summary, IsSound, AreSound, ObjectsAre, FactsAre, Known}
+use Rattle.verify_logic.specs.Calls.{with_own}
 use Rattle.verify_logic.specs.Statements.{Ways}
 use Rattle.verify_logic.specs.Whole.{IsDefined, IsDefinedBut}
-use Rattle.verify_expressions.specs.Views.{shapes_in, state_of, summary_of}
+use Rattle.verify_expressions.specs.Views.{known_of, shapes_in, state_of, summary_of}
 use Rattle.verify_expressions.specs.declared.stop.Wanted.{Wanted}
 use Rattle.verify.specs.declared.first_objects.FirstObjects.{FirstObjects}
 use Rattle.verify.specs.declared.verdict.Verdict.{Verdict}
@@ -28,7 +30,12 @@ abbrev pub texts_of : List (Vec ℕ Global) → List (List ℕ)
 texts_of texts = map (λ text. text.items) texts
 
 pub record FirstAre (f : FirstObjects) (store : Store) : Type 0 where
-  pub are : ObjectsAre f.known.items (shapes_in f.outer.items) store
+  pub are : ObjectsAre f.known.objects.items (shapes_in f.outer.items) store
+  pub facts : FactsAre f.known.facts.items store
+
+-- where t is object x and the last one, these facts say more of it
+pub record TreeFacts (t : Tree) (x : ℕ) (facts facts2 : List Fact) : Type 0 where
+  pub is : (store : Store) → length store ≡ x → FactsAre facts store → FactsAre facts2 (store ++ t ∷ [])
 
 -- so many objects without values
 abbrev pub AreFresh : List AbsValue → Type 0
@@ -39,10 +46,10 @@ abbrev pub Fresh : ℕ → List AbsValue → Type 0
 Fresh count ks = (length ks ≡ count) × AreFresh ks
 
 -- the objects before the run, then those of main
-pub record EntersMain (first : List AbsValue) (count : ℕ) (entry : List AbsValue) : Type 0 where
+pub record EntersMain (first : Known) (count : ℕ) (entry : Known) : Type 0 where
   pub own : List AbsValue
   pub fresh : Fresh count own
-  pub all : entry ≡ first ++ own
+  pub all : entry ≡ with_own first own
 
 -- what was shown of calls so far is so
 abbrev pub IsSoundWork : Program → Work → Type 0
@@ -68,7 +75,7 @@ pub record Adds (before : FirstObjects) (t : Tree) (after : FirstObjects) : Type
 
 -- what was shown of a call
 abbrev pub summary_by : Wanted → BodyEnd → Summary
-summary_by w end = record { function = w.function; outer = shapes_in w.outer.items; arrays = w.arrays.items; entry = w.entry.items; value = end.value; left = state_of end.state }
+summary_by w end = record { function = w.function; outer = shapes_in w.outer.items; arrays = w.arrays.items; entry = known_of w.entry; value = end.value; left = state_of end.state }
 
 abbrev pub Shows : Program → Work → Wanted → BodyEnd → Type 0
 Shows p work w end = IsSound p work.listed.items (summary_by w end)

@@ -7,7 +7,7 @@ ghost use Rattle.verify_logic.specs.States.{ValueIs};
 ghost use Rattle.verify_logic.specs.Statements.{Executes};
 ghost use Rattle.verify_logic.specs.Calls.{Begins, FunctionEnds};
 ghost use Rattle.verify_logic.specs.Whole.{IsDefinedBut};
-ghost use Rattle.verify_expressions.specs.Views.{shapes_in, state_of};
+ghost use Rattle.verify_expressions.specs.Views.{known_of, shapes_in, state_of};
 ghost use Rattle.verify_statements.specs.Ways.{ways_of};
 ghost use Rattle.verify.specs.Says.{EntersMain, Fresh, IsSoundWork, OnlyReturns, Shows, frame_in};
 
@@ -15,7 +15,9 @@ use crate::first_objects::{FirstObjects, objects_at_start};
 use crate::work::Work;
 use std::alloc::Global;
 use typed_ast::{Function, Program};
-use verify_expressions::{AbsState, Memory, Scope, Stop, Wanted, enter_body, is_reached, joined};
+use verify_expressions::{
+    AbsState, Known, Memory, Scope, Stop, Wanted, copied_known, enter_body, is_reached, joined,
+};
 use verify_intervals::{either, initialised, single, uninitialised};
 use verify_logic::{AbsValue, ArrayArgument};
 use verify_statements::{Left, statement};
@@ -42,9 +44,9 @@ fn body_executed<'a>(
     outer: &'a [Vec<u32>],
     arrays: &'a [ArrayArgument],
     function: &'a Function,
-    entry: Vec<AbsValue>,
+    entry: Known,
 ) -> Result<Left, Stop>
-    ensures { IfOk result (λ r. Executes (frame_in (program_of program.now) work.now outer.now arrays.now (function_of function.now)) (function_of function.now).body (Some entry.items) (ways_of r)) }
+    ensures { IfOk result (λ r. Executes (frame_in (program_of program.now) work.now outer.now arrays.now (function_of function.now)) (function_of function.now).body (Some (known_of entry)) (ways_of r)) }
 {
     enter_body(memory);
     let scope = Scope {
@@ -75,12 +77,15 @@ fn appended(first: Vec<AbsValue>, rest: &[AbsValue]) -> Result<Vec<AbsValue>, St
 }
 
 /// The values of all objects as main is entered.
-fn entered(alloc: Global, known: Vec<AbsValue>, count: usize) -> Result<Vec<AbsValue>, Stop>
-    ensures { IfOk result (λ r. EntersMain known.items count r.items) }
+fn entered(alloc: Global, known: Known, count: usize) -> Result<Known, Stop>
+    ensures { IfOk result (λ r. EntersMain (known_of known) count (known_of r)) }
 {
     let own = fresh(alloc, count)?;
-    let entry = appended(known, &own)?;
-    Ok(entry)
+    let objects = appended(known.objects, &own)?;
+    Ok(Known {
+        objects,
+        facts: known.facts,
+    })
 }
 
 fn object_count(function: &Function) -> usize
@@ -104,7 +109,7 @@ fn function_shown(
 ) -> Result<(), Stop>
     requires sound { IsSoundWork (program_of program.now) work.now }
     requires main { slice_get (program_of program.now).functions (program_of program.now).main ≡ Some (function_of function.now) }
-    requires begins { Begins (program_of program.now) (shapes_in before.outer.items) before.known.items }
+    requires begins { Begins (program_of program.now) (shapes_in before.outer.items) (known_of before.known) }
     ensures { IfOk result (λ u. IsDefinedBut (program_of program.now) work.now.listed.items) }
 {
     let outer = before.outer;
@@ -190,20 +195,10 @@ fn body_end(alloc: Global, program: &Program, f: usize, w: Left) -> Result<BodyE
     }
 }
 
-fn copied_values(alloc: Global, xs: &[AbsValue]) -> Result<Vec<AbsValue>, Stop>
-    ensures { IfOk result (λ r. r.items ≡ xs.now) }
+fn wanted_entry(alloc: Global, wanted: &Wanted) -> Result<Known, Stop>
+    ensures { IfOk result (λ r. known_of r ≡ known_of wanted.now.entry) }
 {
-    let mut out = Vec::new(alloc);
-    match out.extend_from_slice(xs) {
-        Ok(()) => Ok(out),
-        Err(_) => Err(Stop::Memory),
-    }
-}
-
-fn wanted_entry(alloc: Global, wanted: &Wanted) -> Result<Vec<AbsValue>, Stop>
-    ensures { IfOk result (λ r. r.items ≡ wanted.now.entry.items) }
-{
-    copied_values(alloc, &wanted.entry)
+    copied_known(alloc, &wanted.entry)
 }
 
 fn wanted_shown(

@@ -1,26 +1,29 @@
 //! The objects before the run (6.2.4p3, 6.4.5p6, 6.7.9p10).
 
-ghost use Rattle.std.specs.Prelude.{◌≡◌, ◌≤◌, ◌++◌, ◌∷◌, [], length, map, pos, IfOk, IfSome, IsTrue};
+ghost use Rattle.std.specs.Prelude.{◌≡◌, ◌≤◌, ◌++◌, ◌∷◌, [], drop, length, map, pos, IfOk, IfSome, IsTrue};
 ghost use Rattle.typing_spec.specs.Types.{elements_in};
 ghost use Rattle.typed_ast.specs.View.{program_of, static_of};
-ghost use Rattle.csem.specs.Store.{literal_object, static_object};
+ghost use Rattle.csem.specs.Store.{first_or_zero, laid_out, literal_object, static_object};
 ghost use Rattle.verify_logic.specs.States.{In, ObjectsAre, TreeIs};
 ghost use Rattle.verify_logic.specs.Calls.{Begins, EachIn};
-ghost use Rattle.verify_expressions.specs.Views.{shapes_in};
-ghost use Rattle.verify.specs.Says.{Adds, FirstAre, texts_of};
+ghost use Rattle.verify_expressions.specs.Views.{known_of, shapes_in};
+ghost use Rattle.verify.specs.Says.{Adds, FirstAre, TreeFacts, texts_of};
 
 use std::alloc::Global;
 use typed_ast::{Program, Static};
-use verify_expressions::Stop;
+use verify_expressions::{FOLLOWED_ELEMENTS, Known, Stop};
 use verify_intervals::{greater, initialised, lesser};
-use verify_logic::{AbsValue, Interval};
+use verify_logic::{AbsValue, Fact, Interval};
 
 /// The lengths of objects, and what is known of them.
 #[derive(Drop)]
 pub struct FirstObjects {
     pub outer: Vec<Vec<u32>>,
-    pub known: Vec<AbsValue>,
+    pub known: Known,
 }
+
+/// Of how many elements something is known one by one before the run.
+const MOST_FIRST_FACTS: usize = 512;
 
 fn holds(i: Interval, v: i64) -> bool
     ensures { IsTrue result → In i v }
@@ -204,20 +207,177 @@ fn copied_lengths(alloc: Global, lengths: &[u32]) -> Result<Vec<u32>, Stop>
     }
 }
 
-/// One more object.
-fn added(before: FirstObjects, lengths: Vec<u32>, k: AbsValue) -> Result<FirstObjects, Stop>
-    ensures known { IfOk result (λ r. r.known.items ≡ before.known.items ++ k ∷ []) }
-    ensures outer { IfOk result (λ r. r.outer.items ≡ before.outer.items ++ lengths ∷ []) }
+// ---- single elements
+
+fn may_follow(facts: &[Fact], count: usize) -> bool {
+    let most = MOST_FIRST_FACTS.saturating_sub(facts.len());
+    count <= most
+}
+
+fn are_few(count: usize) -> bool {
+    match u32::try_from(count) {
+        Err(_) => false,
+        Ok(n) => n <= FOLLOWED_ELEMENTS,
+    }
+}
+
+fn with_fact(mut facts: Vec<Fact>, f: Fact) -> Result<Vec<Fact>, Stop>
+    ensures { IfOk result (λ r. r.items ≡ facts.items ++ f ∷ []) }
 {
-    let mut outer = before.outer;
+    let Ok(()) = facts.push(f) else {
+        return Err(Stop::Memory);
+    };
+    Ok(facts)
+}
+
+fn byte_interval(c: u8) -> Interval
+    ensures { result ≡ record { low = pos c; high = pos c } }
+{
+    let v = i64::from(c);
+    Interval { low: v, high: v }
+}
+
+/// Each character of a short string literal, object `x`.
+fn with_text(facts: Vec<Fact>, x: usize, text: &[u8]) -> Result<Vec<Fact>, Stop>
+    ensures { IfOk result (λ r. TreeFacts (literal_object text.now) x facts.items r.items) }
+{
+    let followed = are_few(text.len()) && may_follow(&facts, text.len());
+    if !followed {
+        return Ok(facts);
+    }
+    let mut out = facts;
+    for j in 0..text.len() {
+        let Ok(index) = u32::try_from(j) else {
+            return Ok(out);
+        };
+        let interval = byte_interval(text[j]);
+        let next = with_fact(
+            out,
+            Fact {
+                object: x,
+                index,
+                interval,
+            },
+        )?;
+        out = next;
+    }
+    Ok(out)
+}
+
+/// The value of an element, which is 0 where none is given (6.7.9p21).
+fn value_or_zero(values: &[i64], j: usize) -> i64
+    ensures { result ≡ first_or_zero (drop j values.now) }
+{
+    if j < values.len() { values[j] } else { 0 }
+}
+
+fn value_interval(values: &[i64], j: usize) -> Interval
+    ensures low { result.low ≡ first_or_zero (drop j values.now) }
+    ensures high { result.high ≡ first_or_zero (drop j values.now) }
+{
+    let v = value_or_zero(values, j);
+    Interval { low: v, high: v }
+}
+
+/// Each element of an array of one row, object `x`.
+fn with_values(facts: Vec<Fact>, x: usize, n: u32, values: &[i64]) -> Result<Vec<Fact>, Stop>
+    ensures { IfOk result (λ r. TreeFacts (laid_out (n ∷ []) values.now) x facts.items r.items) }
+{
+    let mut out = facts;
+    for index in 0..n {
+        let Ok(j) = usize::try_from(index) else {
+            return Ok(out);
+        };
+        let interval = value_interval(values, j);
+        let next = with_fact(
+            out,
+            Fact {
+                object: x,
+                index,
+                interval,
+            },
+        )?;
+        out = next;
+    }
+    Ok(out)
+}
+
+/// The length of an array of one row.
+fn row_length(lengths: &[u32]) -> Option<u32>
+    ensures { IfSome result (λ n. lengths.now ≡ n ∷ []) }
+{
+    let Some((n, more)) = lengths.split_first() else {
+        return None;
+    };
+    if more.is_empty() { Some(*n) } else { None }
+}
+
+fn is_followed(facts: &[Fact], n: u32, values: &[i64]) -> bool {
+    let count = match usize::try_from(n) {
+        Err(_) => 0,
+        Ok(count) => count,
+    };
+    n <= FOLLOWED_ELEMENTS && !values.is_empty() && may_follow(facts, count)
+}
+
+/// Each element of an object with static storage, object `x`, if that is a short array of one row with a first value.
+fn with_elements(
+    facts: Vec<Fact>,
+    x: usize,
+    lengths: &[u32],
+    values: &[i64],
+) -> Result<Vec<Fact>, Stop>
+    ensures { IfOk result (λ r. TreeFacts (laid_out lengths.now values.now) x facts.items r.items) }
+{
+    let Some(n) = row_length(lengths) else {
+        return Ok(facts);
+    };
+    let followed = is_followed(&facts, n, values);
+    if !followed {
+        return Ok(facts);
+    }
+    let out = with_values(facts, x, n, values)?;
+    Ok(out)
+}
+
+fn with_object(facts: Vec<Fact>, x: usize, object: &Static) -> Result<Vec<Fact>, Stop>
+    ensures { IfOk result (λ r. TreeFacts (static_object (static_of object.now)) x facts.items r.items) }
+{
+    let out = with_elements(facts, x, &object.object_type.lengths, &object.values)?;
+    Ok(out)
+}
+
+// ---- one more object
+
+fn added(
+    outer: Vec<Vec<u32>>,
+    objects: Vec<AbsValue>,
+    facts: Vec<Fact>,
+    lengths: Vec<u32>,
+    k: AbsValue,
+) -> Result<FirstObjects, Stop>
+    ensures objects { IfOk result (λ r. r.known.objects.items ≡ objects.items ++ k ∷ []) }
+    ensures facts { IfOk result (λ r. r.known.facts.items ≡ facts.items) }
+    ensures outer { IfOk result (λ r. r.outer.items ≡ outer.items ++ lengths ∷ []) }
+{
+    let mut outer = outer;
     let Ok(()) = outer.push(lengths) else {
         return Err(Stop::Memory);
     };
-    let mut known = before.known;
-    let Ok(()) = known.push(k) else {
+    let mut objects = objects;
+    let Ok(()) = objects.push(k) else {
         return Err(Stop::Memory);
     };
-    Ok(FirstObjects { outer, known })
+    Ok(FirstObjects {
+        outer,
+        known: Known { objects, facts },
+    })
+}
+
+fn count_of(outer: &Vec<Vec<u32>>) -> usize
+    ensures { result ≡ length outer.now.items }
+{
+    outer.len()
 }
 
 /// One more string literal.
@@ -228,7 +388,11 @@ fn with_literal(alloc: Global, before: FirstObjects, text: &[u8]) -> Result<Firs
     let Some(k) = text_value(text) else {
         return Err(Stop::Unfollowed(None));
     };
-    let all = added(before, lengths, k)?;
+    let outer = before.outer;
+    let known = before.known;
+    let x = count_of(&outer);
+    let facts = with_text(known.facts, x, text)?;
+    let all = added(outer, known.objects, facts, lengths, k)?;
     Ok(all)
 }
 
@@ -240,7 +404,11 @@ fn with_static(alloc: Global, before: FirstObjects, object: &Static) -> Result<F
     let Some(k) = static_value(object) else {
         return Err(Stop::Unfollowed(None));
     };
-    let all = added(before, lengths, k)?;
+    let outer = before.outer;
+    let known = before.known;
+    let x = count_of(&outer);
+    let facts = with_object(known.facts, x, object)?;
+    let all = added(outer, known.objects, facts, lengths, k)?;
     Ok(all)
 }
 
@@ -249,7 +417,10 @@ fn none(alloc: Global) -> FirstObjects
 {
     FirstObjects {
         outer: Vec::new(alloc),
-        known: Vec::new(alloc),
+        known: Known {
+            objects: Vec::new(alloc),
+            facts: Vec::new(alloc),
+        },
     }
 }
 
@@ -289,7 +460,7 @@ fn statics_of(alloc: Global, texts: &[Vec<u8>], program: &Program) -> Result<Fir
 ///
 /// Errors: memory ran out, or the analysis does not follow.
 pub fn objects_at_start(alloc: Global, program: &Program) -> Result<FirstObjects, Stop>
-    ensures { IfOk result (λ r. Begins (program_of program.now) (shapes_in r.outer.items) r.known.items) }
+    ensures { IfOk result (λ r. Begins (program_of program.now) (shapes_in r.outer.items) (known_of r.known)) }
 {
     let all = statics_of(alloc, &program.literals, program)?;
     Ok(all)

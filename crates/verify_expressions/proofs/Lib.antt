@@ -1,3 +1,4 @@
 pub mod Work
 pub mod Steps
 pub mod Summaries
+pub mod Elements

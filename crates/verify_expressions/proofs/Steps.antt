@@ -34,16 +34,15 @@ use Rattle.std.specs.declared.alloc.Global.{Global}
 use Rattle.verify_logic.specs.declared.abstract_values.Interval.{Interval}
 use Rattle.verify_logic.specs.declared.abstract_values.AbsValue.{AbsValue}
 use Rattle.verify_logic.specs.declared.abstract_values.ArrayArgument.{ArrayArgument}
-use Rattle.verify_logic.specs.States.{Frame, In, just, Below, range_of, shape_of, shapes_of, Along, EachPart, Refers, Contents, Replaces, Writes, Implies, Entails, TreeIs, ObjectIs, Reaches}
+use Rattle.verify_logic.specs.States.{Known, Frame, In, just, Below, range_of, shape_of, shapes_of, Along, EachPart, Refers, Contents, Replaces, Reads, Writes, Implies, Entails, TreeIs, ObjectIs, Reaches}
 use Rattle.verify_logic.specs.Judgements.{Evaluates, Tests, Operates, OperatesAt, Signs, SignsAt, GivesOr, MayRead, Subscripts, Converts}
-use Rattle.verify_logic.specs.Places.{NonZero, Splits, Designates, Finds, FindsAt, Passes, got, step_interval}
+use Rattle.verify_logic.specs.Places.{OneRow, Subscribes, NonZero, Splits, Designates, Finds, FindsAt, Passes, got, step_interval}
 use Rattle.verify_logic.proofs.Runs.{gives_or}
 use Rattle.verify_logic.proofs.Rules.{named_rule, finds_at, element_rule, read_rule, compound_rule, stepped_rule, both_rule, one_rule, get_byte_rule, put_byte_rule, exit_rule, number_rule, array_rule, no_arguments_rule, value_tests}
 use Rattle.verify_logic.specs.declared.operands.Operand.{Operand}
 use Rattle.verify_logic.specs.declared.operands.Operand.TheVariants.{Object}
 use Rattle.verify_logic.specs.declared.operands.Relation.{Relation}
 use Rattle.verify_logic.specs.Relations.{Tells, Narrows, Looks, Restricts, RestrictsBoth, Learns}
-use Rattle.verify_logic.proofs.Objects.{put_is, tree_entails}
 use Rattle.verify_logic.proofs.Splits.{nonzero_same}
 use Rattle.verify_logic.proofs.Compares.{set_restricts, learns_straight, learns_swapped, compare_fits}
 use Rattle.verify_expressions.specs.declared.state.AbsState.{AbsState}
@@ -107,17 +106,17 @@ automatic_named fr base n what r w e h = let P : stored.Storage → Type 0 = λ 
 pub parameter_named : (fr : Frame) (what : stored.Storage) (n : ℕ) (r : Option ArrayArgument) → what ≡ kind.Parameter n → IfSome r (λ a. Designates fr (typed.parameter n) a.object a.depth) → IfSome r (λ a. Designates fr (storage_of what) a.object a.depth)
 parameter_named fr what n r e h = let P : stored.Storage → Type 0 = λ what. IfSome r (λ a. Designates fr (storage_of what) a.object a.depth) in subst P (sym e) h
 
-pub named_finds : (fr : Frame) (at : Pos) (what : typed.Storage) (x depth : ℕ) (o : Option (List AbsValue)) → Designates fr what x depth → Finds fr (typed.named at what) o x (drop depth (shape_of fr x)) o
+pub named_finds : (fr : Frame) (at : Pos) (what : typed.Storage) (x depth : ℕ) (o : Option Known) → Designates fr what x depth → Finds fr (typed.named at what) o x (drop depth (shape_of fr x)) None o
 named_finds fr at what x depth o h = finds_at fr (typed.named at what) x (drop depth (shape_of fr x)) o (named_rule fr at what x depth (drop depth (shape_of fr x)) refl h)
 
-pub element_finds : (fr : Frame) (at : Pos) (array : Place) (index : Value) (o : Option (List AbsValue)) (x depth n : ℕ) (o2 : Option (List AbsValue)) (i : Interval) (o3 : Option (List AbsValue)) (k : AbsValue) →
-    drop depth (shape_of fr x) ≡ n ∷ drop (depth + 1) (shape_of fr x) → Finds fr array o x (drop depth (shape_of fr x)) o2 → Evaluates fr index o2 i o3 → Contents o3 x k → Subscripts fr at i n →
-    Finds fr (typed.element at array index) o x (drop (depth + 1) (shape_of fr x)) o3
-element_finds fr at array index o x depth n o2 i o3 k e f h g q = let P : List ℕ → Type 0 = λ rest. Finds fr array o x rest o2 in
-    element_rule fr at array index o x n (drop (depth + 1) (shape_of fr x)) o2 i o3 k (subst P e f) h g q
+pub element_finds : (fr : Frame) (at : Pos) (array : Place) (index : Value) (o : Option Known) (x depth n : ℕ) (sub : Option Interval) (o2 : Option Known) (i : Interval) (o3 : Option Known) (k : AbsValue) (sub2 : Option Interval) →
+    drop depth (shape_of fr x) ≡ n ∷ drop (depth + 1) (shape_of fr x) → Finds fr array o x (drop depth (shape_of fr x)) sub o2 → Evaluates fr index o2 i o3 → Contents o3 x k → Subscripts fr at i n → Subscribes sub2 i (shape_of fr x) →
+    Finds fr (typed.element at array index) o x (drop (depth + 1) (shape_of fr x)) sub2 o3
+element_finds fr at array index o x depth n sub o2 i o3 k sub2 e f h g q u = let P : List ℕ → Type 0 = λ rest. Finds fr array o x rest sub o2 in
+    element_rule fr at array index o x n (drop (depth + 1) (shape_of fr x)) sub o2 i o3 k sub2 (subst P e f) h g q u
 
-pub finds_rest : (fr : Frame) (a : Place) (o : Option (List AbsValue)) (x depth : ℕ) (o2 : Option (List AbsValue)) → drop depth (shape_of fr x) ≡ [] → Finds fr a o x (drop depth (shape_of fr x)) o2 → Finds fr a o x [] o2
-finds_rest fr a o x depth o2 e h = let P : List ℕ → Type 0 = λ rest. Finds fr a o x rest o2 in subst P e h
+pub finds_rest : (fr : Frame) (a : Place) (o : Option Known) (x depth : ℕ) (sub : Option Interval) (o2 : Option Known) → drop depth (shape_of fr x) ≡ [] → Finds fr a o x (drop depth (shape_of fr x)) sub o2 → Finds fr a o x [] sub o2
+finds_rest fr a o x depth sub o2 e h = let P : List ℕ → Type 0 = λ rest. Finds fr a o x rest sub o2 in subst P e h
 
 pub scalar_finds : (fr : Frame) (at : Pos) (what : typed.Storage) (x : ℕ) → shape_of fr x ≡ [] → Designates fr what x 0 → FindsAt fr (typed.named at what) x []
 scalar_finds fr at what x e h = named_rule fr at what x 0 [] e h
@@ -142,53 +141,53 @@ in_just r v e = let P : Interval → Type 0 = λ r. In r v in subst P (sym e) (o
 pub in_single : (r : Interval) (v u : ℤ) → u ≡ v → r ≡ just u → In r v
 in_single r v u e d = let P : ℤ → Type 0 = λ v. In r v in subst P e (in_just r u d)
 
-pub both_value : (fr : Frame) (a b : Value) (o on off : Option (List AbsValue)) (j r : Interval) (o2 out : Option (List AbsValue)) → r ≡ range_of ty.Bool →
+pub both_value : (fr : Frame) (a b : Value) (o on off : Option Known) (j r : Interval) (o2 out : Option Known) → r ≡ range_of ty.Bool →
     Tests fr a o on off → Evaluates fr b on j o2 → Implies o2 out → Implies off out → Evaluates fr (typed.both_true a b) o r out
 both_value fr a b o on off j r o2 out e ha hb f g = let P : Interval → Type 0 = λ r. Evaluates fr (typed.both_true a b) o r out in
     subst P (sym e) (both_rule fr a b o on off j o2 out ha hb f g)
 
-pub one_value : (fr : Frame) (a b : Value) (o on off : Option (List AbsValue)) (j r : Interval) (o2 out : Option (List AbsValue)) → r ≡ range_of ty.Bool →
+pub one_value : (fr : Frame) (a b : Value) (o on off : Option Known) (j r : Interval) (o2 out : Option Known) → r ≡ range_of ty.Bool →
     Tests fr a o on off → Evaluates fr b off j o2 → Implies o2 out → Implies on out → Evaluates fr (typed.one_true a b) o r out
 one_value fr a b o on off j r o2 out e ha hb f g = let P : Interval → Type 0 = λ r. Evaluates fr (typed.one_true a b) o r out in
     subst P (sym e) (one_rule fr a b o on off j o2 out ha hb f g)
 
-pub gets : (fr : Frame) (at : Pos) (c : callee.Callee) (t : Option IntType) (used : Bool) (arguments : Arguments) (o : Option (List AbsValue)) (is : List Interval) (ps : List ArrayArgument) (o2 : Option (List AbsValue)) (r : Interval) → c ≡ called.GetByte → r ≡ got →
+pub gets : (fr : Frame) (at : Pos) (c : callee.Callee) (t : Option IntType) (used : Bool) (arguments : Arguments) (o : Option Known) (is : List Interval) (ps : List ArrayArgument) (o2 : Option Known) (r : Interval) → c ≡ called.GetByte → r ≡ got →
     Passes fr arguments o is ps o2 → Evaluates fr (typed.call at (callee_of c) t used arguments) o r o2
 gets fr at c t used arguments o is ps o2 r e d h = let P : callee.Callee → Type 0 = λ c. Evaluates fr (typed.call at (callee_of c) t used arguments) o r o2 in
     let Q : Interval → Type 0 = λ r. Evaluates fr (typed.call at typed.get_byte t used arguments) o r o2 in
     subst P (sym e) (subst Q (sym d) (get_byte_rule fr at t used arguments o is ps o2 h))
 
-pub puts : (fr : Frame) (at : Pos) (c : callee.Callee) (t : Option IntType) (used : Bool) (arguments : Arguments) (o : Option (List AbsValue)) (is : List Interval) (ps : List ArrayArgument) (o2 : Option (List AbsValue)) (r : Interval) → c ≡ called.PutByte → r ≡ just (pos 0) →
+pub puts : (fr : Frame) (at : Pos) (c : callee.Callee) (t : Option IntType) (used : Bool) (arguments : Arguments) (o : Option Known) (is : List Interval) (ps : List ArrayArgument) (o2 : Option Known) (r : Interval) → c ≡ called.PutByte → r ≡ just (pos 0) →
     Passes fr arguments o is ps o2 → Evaluates fr (typed.call at (callee_of c) t used arguments) o r o2
 puts fr at c t used arguments o is ps o2 r e d h = let P : callee.Callee → Type 0 = λ c. Evaluates fr (typed.call at (callee_of c) t used arguments) o r o2 in
     subst P (sym e) (put_byte_rule fr at t used arguments o is ps o2 r h (in_just r (pos 0) d))
 
-pub exits : (fr : Frame) (at : Pos) (c : callee.Callee) (t : Option IntType) (used : Bool) (arguments : Arguments) (o : Option (List AbsValue)) (is : List Interval) (ps : List ArrayArgument) (o2 o3 : Option (List AbsValue)) (r : Interval) → c ≡ called.Exit →
+pub exits : (fr : Frame) (at : Pos) (c : callee.Callee) (t : Option IntType) (used : Bool) (arguments : Arguments) (o : Option Known) (is : List Interval) (ps : List ArrayArgument) (o2 o3 : Option Known) (r : Interval) → c ≡ called.Exit →
     Passes fr arguments o is ps o2 → Evaluates fr (typed.call at (callee_of c) t used arguments) o r o3
 exits fr at c t used arguments o is ps o2 o3 r e h = let P : callee.Callee → Type 0 = λ c. Evaluates fr (typed.call at (callee_of c) t used arguments) o r o3 in
     subst P (sym e) (exit_rule fr at t used arguments o is ps o2 o3 r h)
 
-pub calls_some : (fr : Frame) (at : Pos) (f : ℕ) (t : Option IntType) (used : Bool) (arguments : Arguments) (o : Option (List AbsValue)) (is : List Interval) (ps : List ArrayArgument) (o2 : Option (List AbsValue)) (i : Interval) (o3 : Option (List AbsValue)) (c : callee.Callee) →
+pub calls_some : (fr : Frame) (at : Pos) (f : ℕ) (t : Option IntType) (used : Bool) (arguments : Arguments) (o : Option Known) (is : List Interval) (ps : List ArrayArgument) (o2 : Option Known) (i : Interval) (o3 : Option Known) (c : callee.Callee) →
     c ≡ called.Function f → Passes fr arguments o is ps o2 → CallsAt fr at f used is ps o2 i o3 → Evaluates fr (typed.call at (callee_of c) t used arguments) o i o3
 calls_some fr at f t used arguments o is ps o2 i o3 c e h g = let P : callee.Callee → Type 0 = λ c. Evaluates fr (typed.call at (callee_of c) t used arguments) o i o3 in subst P (sym e) (g.gives t arguments o h)
 
 -- ---- arguments
 
-pub number_passes : (fr : Frame) (t : IntType) (e : Value) (o : Option (List AbsValue)) (i r : Interval) (o2 o3 : Option (List AbsValue)) (is : List Interval) (ps : List ArrayArgument) → Evaluates fr e o i o2 → Converts t i r → is ≡ r ∷ [] → ps ≡ [] → o3 ≡ o2 →
+pub number_passes : (fr : Frame) (t : IntType) (e : Value) (o : Option Known) (i r : Interval) (o2 o3 : Option Known) (is : List Interval) (ps : List ArrayArgument) → Evaluates fr e o i o2 → Converts t i r → is ≡ r ∷ [] → ps ≡ [] → o3 ≡ o2 →
     PassesOne fr (number_given t e) o is ps o3
 number_passes fr t e o i r o2 o3 is ps h g ei ep eo =
     let P : List Interval → Type 0 = λ is. PassesOne fr (number_given t e) o is ps o3 in
     let Q : List ArrayArgument → Type 0 = λ ps. PassesOne fr (number_given t e) o (r ∷ []) ps o3 in
-    let R : Option (List AbsValue) → Type 0 = λ o3. PassesOne fr (number_given t e) o (r ∷ []) [] o3 in
+    let R : Option Known → Type 0 = λ o3. PassesOne fr (number_given t e) o (r ∷ []) [] o3 in
     subst P (sym ei) (subst Q (sym ep) (subst R (sym eo) (record { passes = λ more js qs o4 p. number_rule fr t e more o i r o2 js qs o4 h g p })))
 
-pub array_passes : (fr : Frame) (array : Place) (o : Option (List AbsValue)) (a : ArrayArgument) (o2 o3 : Option (List AbsValue)) (is : List Interval) (ps : List ArrayArgument) → a.object < length (shapes_of fr) → Finds fr array o a.object (drop a.depth (shape_of fr a.object)) o2 →
+pub array_passes : (fr : Frame) (array : Place) (o : Option Known) (a : ArrayArgument) (sub : Option Interval) (o2 o3 : Option Known) (is : List Interval) (ps : List ArrayArgument) → a.object < length (shapes_of fr) → Finds fr array o a.object (drop a.depth (shape_of fr a.object)) sub o2 →
     is ≡ [] → ps ≡ a ∷ [] → o3 ≡ o2 → PassesOne fr (array_given array) o is ps o3
-array_passes fr array o a o2 o3 is ps lt f ei ep eo =
+array_passes fr array o a sub o2 o3 is ps lt f ei ep eo =
     let P : List Interval → Type 0 = λ is. PassesOne fr (array_given array) o is ps o3 in
     let Q : List ArrayArgument → Type 0 = λ ps. PassesOne fr (array_given array) o [] ps o3 in
-    let R : Option (List AbsValue) → Type 0 = λ o3. PassesOne fr (array_given array) o [] (a ∷ []) o3 in
-    subst P (sym ei) (subst Q (sym ep) (subst R (sym eo) (record { passes = λ more js qs o4 p. array_rule fr array more o a o2 js qs o4 lt f p })))
+    let R : Option Known → Type 0 = λ o3. PassesOne fr (array_given array) o [] (a ∷ []) o3 in
+    subst P (sym ei) (subst Q (sym ep) (subst R (sym eo) (record { passes = λ more js qs o4 p. array_rule fr array more o a sub o2 js qs o4 lt f p })))
 
 -- ---- writes
 
@@ -198,7 +197,7 @@ entails_new i k e = let P : AbsValue → Type 0 = λ k. Entails (record { initia
 pub new_entails : (i : Interval) (new k : AbsValue) → new ≡ record { initialised = true; interval = i } → Entails new k → Entails (record { initialised = true; interval = i }) k
 new_entails i new k e h = let P : AbsValue → Type 0 = λ new. Entails new k in subst P e h
 
-pub copied_nonzero : (i : Interval) (o : Option (List AbsValue)) (r : Result AbsState Stop) → IfOk r (λ f. state_of f ≡ o) → IfOk r (λ f. NonZero i o (state_of f))
+pub copied_nonzero : (i : Interval) (o : Option Known) (r : Result AbsState Stop) → IfOk r (λ f. state_of f ≡ o) → IfOk r (λ f. NonZero i o (state_of f))
 copied_nonzero i o (Err e) h = tt
 copied_nonzero i o (Ok f) h = nonzero_same i o (state_of f) h
 
@@ -207,32 +206,32 @@ copied_nonzero i o (Ok f) h = nonzero_same i o (state_of f) h
 pub not_false : (b : Bool) → b ≡ true → b ≡ true
 not_false b e = e
 
-pub set_restricted : (xs ys : List AbsValue) (x : ℕ) (i : Interval) (k : AbsValue) → k ≡ record { initialised = true; interval = i } → ys ≡ slice_set xs x k → Restricts (Object x) i (Some xs) (Some ys)
-set_restricted xs ys x i k e d = let P : Interval → Type 0 = λ i. Restricts (Object x) i (Some xs) (Some ys) in
-    let q : k.interval ≡ i = ap (λ k. k.interval) e in subst P q (set_restricts xs ys x k d)
+pub set_restricted : (a b : Known) (x : ℕ) (i : Interval) (k : AbsValue) → k ≡ record { initialised = true; interval = i } → b.objects ≡ slice_set a.objects x k → b.facts ≡ a.facts → Restricts (Object x) i (Some a) (Some b)
+set_restricted a b x i k e d f = let P : Interval → Type 0 = λ i. Restricts (Object x) i (Some a) (Some b) in
+    let q : k.interval ≡ i = ap (λ k. k.interval) e in subst P q (set_restricts a b x k d f)
 
-pub object_some : (a : Operand) (x : ℕ) (i : Interval) (o : Option (List AbsValue)) (r : Option AbsState) → a ≡ Object x → IfSome r (λ f. Restricts (Object x) i o (state_of f)) → IfSome r (λ f. Restricts a i o (state_of f))
+pub object_some : (a : Operand) (x : ℕ) (i : Interval) (o : Option Known) (r : Option AbsState) → a ≡ Object x → IfSome r (λ f. Restricts (Object x) i o (state_of f)) → IfSome r (λ f. Restricts a i o (state_of f))
 object_some a x i o r e h = let P : Operand → Type 0 = λ a. IfSome r (λ f. Restricts a i o (state_of f)) in subst P (sym e) h
 
-pub straight_some : (op : BinOp) (b sw : Bool) (r : Relation) (x y : Operand) (i j i2 j2 : Interval) (o : Option (List AbsValue)) (f : Option AbsState) → sw ≡ false → Tells op b sw r → Narrows r i j i2 j2 →
+pub straight_some : (op : BinOp) (b sw : Bool) (r : Relation) (x y : Operand) (i j i2 j2 : Interval) (o : Option Known) (f : Option AbsState) → sw ≡ false → Tells op b sw r → Narrows r i j i2 j2 →
     IfSome f (λ g. RestrictsBoth x i2 y j2 o (state_of g)) → IfSome f (λ g. Learns op b x i y j o (state_of g))
 straight_some op b sw r x y i j i2 j2 o None e t n h = tt
 straight_some op b sw r x y i j i2 j2 o (Some g) e t n h = let P : Bool → Type 0 = λ sw. Tells op b sw r in
     learns_straight op b r x y i j i2 j2 o (state_of g) (subst P e t) n h
 
-pub swapped_some : (op : BinOp) (b sw : Bool) (r : Relation) (x y : Operand) (i j i2 j2 : Interval) (o : Option (List AbsValue)) (f : Option AbsState) → sw ≡ true → Tells op b sw r → Narrows r j i j2 i2 →
+pub swapped_some : (op : BinOp) (b sw : Bool) (r : Relation) (x y : Operand) (i j i2 j2 : Interval) (o : Option Known) (f : Option AbsState) → sw ≡ true → Tells op b sw r → Narrows r j i j2 i2 →
     IfSome f (λ g. RestrictsBoth y j2 x i2 o (state_of g)) → IfSome f (λ g. Learns op b x i y j o (state_of g))
 swapped_some op b sw r x y i j i2 j2 o None e t n h = tt
 swapped_some op b sw r x y i j i2 j2 o (Some g) e t n h = let P : Bool → Type 0 = λ sw. Tells op b sw r in
     learns_swapped op b r x y i j i2 j2 o (state_of g) (subst P e t) n h
 
-pub learns_both : (op : BinOp) (x y : Operand) (i j : Interval) (o o1 o2 on off : Option (List AbsValue)) → o1 ≡ o → o2 ≡ o → Learns op true x i y j o1 on → Learns op false x i y j o2 off → LearnsBoth op x i y j o on off
+pub learns_both : (op : BinOp) (x y : Operand) (i j : Interval) (o o1 o2 on off : Option Known) → o1 ≡ o → o2 ≡ o → Learns op true x i y j o1 on → Learns op false x i y j o2 off → LearnsBoth op x i y j o on off
 learns_both op x y i j o o1 o2 on off e1 e2 t f =
-    let P : Option (List AbsValue) → Type 0 = λ o. Learns op true x i y j o on in
-    let Q : Option (List AbsValue) → Type 0 = λ o. Learns op false x i y j o off in
+    let P : Option Known → Type 0 = λ o. Learns op true x i y j o on in
+    let Q : Option Known → Type 0 = λ o. Learns op false x i y j o off in
     (subst P e1 t, subst Q e2 f)
 
-pub compared_some : (fr : Frame) (at : Pos) (op : BinOp) (t : IntType) (a b : Value) (o : Option (List AbsValue)) (x y : Operand) (i j all : Interval) (r : Result (Option Tested) Stop) → all ≡ range_of t → Looks fr a o x i → Looks fr b o y j →
+pub compared_some : (fr : Frame) (at : Pos) (op : BinOp) (t : IntType) (a b : Value) (o : Option Known) (x y : Operand) (i j all : Interval) (r : Result (Option Tested) Stop) → all ≡ range_of t → Looks fr a o x i → Looks fr b o y j →
     Below i all → Below j all → IfOk r (λ q. IfSome q (λ z. LearnsBoth op x i y j o (state_of z.on) (state_of z.off))) → IfOk r (λ q. IfSome q (λ z. Tests fr (typed.binary at op t a b) o (state_of z.on) (state_of z.off)))
 compared_some fr at op t a b o x y i j all (Err e) ea ha hb bi bj l = tt
 compared_some fr at op t a b o x y i j all (Ok None) ea ha hb bi bj l = tt
@@ -240,29 +239,29 @@ compared_some fr at op t a b o x y i j all (Ok (Some z)) ea ha hb bi bj l = comp
 
 -- ---- what is read
 
-pub read_as : (fr : Frame) (t : IntType) (place : Place) (at : Pos) (o : Option (List AbsValue)) (x depth : ℕ) (o2 : Option (List AbsValue)) (k : AbsValue) (r : Interval) → at ≡ position_of place → Finds fr place o x (drop depth (shape_of fr x)) o2 →
-    drop depth (shape_of fr x) ≡ [] → Contents o2 x k → (r ≡ k.interval) × MayRead fr at k → Evaluates fr (typed.read t place) o r o2
-read_as fr t place at o x depth o2 k r e f z g m = let P : Interval → Type 0 = λ r. Evaluates fr (typed.read t place) o r o2 in let Q : Pos → Type 0 = λ at. MayRead fr at k in
-    subst P (sym m.0) (read_rule fr t place o x o2 k (finds_rest fr place o x depth o2 z f) g (subst Q e m.1))
+pub read_as : (fr : Frame) (t : IntType) (place : Place) (at : Pos) (o : Option Known) (x depth : ℕ) (sub : Option Interval) (o2 : Option Known) (k : AbsValue) (r : Interval) → at ≡ position_of place → Finds fr place o x (drop depth (shape_of fr x)) sub o2 →
+    drop depth (shape_of fr x) ≡ [] → Reads o2 x sub k → (r ≡ k.interval) × MayRead fr at k → Evaluates fr (typed.read t place) o r o2
+read_as fr t place at o x depth sub o2 k r e f z g m = let P : Interval → Type 0 = λ r. Evaluates fr (typed.read t place) o r o2 in let Q : Pos → Type 0 = λ at. MayRead fr at k in
+    subst P (sym m.0) (read_rule fr t place o x sub o2 k (finds_rest fr place o x depth sub o2 z f) g (subst Q e m.1))
 
-pub compound_as : (fr : Frame) (at : Pos) (op : BinOp) (t of : IntType) (place : Place) (at2 : Pos) (e : Value) (o : Option (List AbsValue)) (x : ℕ) (o2 : Option (List AbsValue)) (j : Interval) (o3 : Option (List AbsValue)) (old : AbsValue) (i k r : Interval)
-    (o4 : Option (List AbsValue)) → at2 ≡ position_of place → Finds fr place o x [] o2 → length fr.program.literals ≤ x → Evaluates fr e o2 j o3 → Contents o3 x old → (i ≡ old.interval) × MayRead fr at2 old → OperatesAt fr at op of i j k → Converts t k r →
-    Writes fr o3 x r o4 → Evaluates fr (typed.compound at op t of place e) o r o4
-compound_as fr at op t of place at2 e o x o2 j o3 old i k r o4 ep f above h rd mr g cv w = let P : Interval → Type 0 = λ i. OperatesAt fr at op of i j k in let Q : Pos → Type 0 = λ at. MayRead fr at old in
-    compound_rule fr at op t of place e o x o2 j o3 old k r o4 f above h rd (subst Q ep mr.1) (subst P mr.0 g) cv w
+pub compound_as : (fr : Frame) (at : Pos) (op : BinOp) (t of : IntType) (place : Place) (at2 : Pos) (e : Value) (o : Option Known) (x : ℕ) (sub : Option Interval) (o2 : Option Known) (j : Interval) (o3 : Option Known) (old : AbsValue) (i k r : Interval)
+    (o4 : Option Known) → at2 ≡ position_of place → Finds fr place o x [] sub o2 → length fr.program.literals ≤ x → Evaluates fr e o2 j o3 → Reads o3 x sub old → (i ≡ old.interval) × MayRead fr at2 old → OperatesAt fr at op of i j k → Converts t k r →
+    Writes fr o3 x sub r o4 → Evaluates fr (typed.compound at op t of place e) o r o4
+compound_as fr at op t of place at2 e o x sub o2 j o3 old i k r o4 ep f above h rd mr g cv w = let P : Interval → Type 0 = λ i. OperatesAt fr at op of i j k in let Q : Pos → Type 0 = λ at. MayRead fr at old in
+    compound_rule fr at op t of place e o x sub o2 j o3 old k r o4 f above h rd (subst Q ep mr.1) (subst P mr.0 g) cv w
 
-pub stepped_as : (fr : Frame) (at : Pos) (moment : Moment) (op : StepOp) (t of : IntType) (place : Place) (at2 : Pos) (o : Option (List AbsValue)) (x : ℕ) (o2 : Option (List AbsValue)) (old : AbsValue) (i k r q : Interval)
-    (o3 : Option (List AbsValue)) → at2 ≡ position_of place → q ≡ step_interval moment i r → Finds fr place o x [] o2 → length fr.program.literals ≤ x → Contents o2 x old → (i ≡ old.interval) × MayRead fr at2 old →
-    OperatesAt fr at (step_operation op) of i (just (pos 1)) k → Converts t k r → Writes fr o2 x r o3 → Evaluates fr (typed.stepped at moment op t of place) o q o3
-stepped_as fr at moment op t of place at2 o x o2 old i k r q o3 ep eq f above rd mr g cv w =
+pub stepped_as : (fr : Frame) (at : Pos) (moment : Moment) (op : StepOp) (t of : IntType) (place : Place) (at2 : Pos) (o : Option Known) (x : ℕ) (sub : Option Interval) (o2 : Option Known) (old : AbsValue) (i k r q : Interval)
+    (o3 : Option Known) → at2 ≡ position_of place → q ≡ step_interval moment i r → Finds fr place o x [] sub o2 → length fr.program.literals ≤ x → Reads o2 x sub old → (i ≡ old.interval) × MayRead fr at2 old →
+    OperatesAt fr at (step_operation op) of i (just (pos 1)) k → Converts t k r → Writes fr o2 x sub r o3 → Evaluates fr (typed.stepped at moment op t of place) o q o3
+stepped_as fr at moment op t of place at2 o x sub o2 old i k r q o3 ep eq f above rd mr g cv w =
     let P : Interval → Type 0 = λ i. OperatesAt fr at (step_operation op) of i (just (pos 1)) k in
     let Q : Pos → Type 0 = λ at. MayRead fr at old in
     let R : Interval → Type 0 = λ q. Evaluates fr (typed.stepped at moment op t of place) o q o3 in
     let S : Interval → Type 0 = λ i. Evaluates fr (typed.stepped at moment op t of place) o (step_interval moment i r) o3 in
-    subst R (sym eq) (subst S (sym mr.0) (stepped_rule fr at moment op t of place o x o2 old k r o3 f above rd (subst Q ep mr.1) (subst P mr.0 g) cv w))
+    subst R (sym eq) (subst S (sym mr.0) (stepped_rule fr at moment op t of place o x sub o2 old k r o3 f above rd (subst Q ep mr.1) (subst P mr.0 g) cv w))
 
-pub variable_found : (fr : Frame) (a : Place) (o : Option (List AbsValue)) (x depth : ℕ) (o2 : Option (List AbsValue)) → VariableAt fr x depth → Finds fr a o x (drop depth (shape_of fr x)) o2 → Finds fr a o x [] o2
-variable_found fr a o x depth o2 v h = finds_rest fr a o x depth o2 v.element h
+pub variable_found : (fr : Frame) (a : Place) (o : Option Known) (x depth : ℕ) (sub : Option Interval) (o2 : Option Known) → VariableAt fr x depth → Finds fr a o x (drop depth (shape_of fr x)) sub o2 → Finds fr a o x [] sub o2
+variable_found fr a o x depth sub o2 v h = finds_rest fr a o x depth sub o2 v.element h
 
 -- ---- arguments, in their order
 
@@ -275,11 +274,11 @@ append_none [] = refl
 append_none (x ∷ xs) = ap (λ zs. x ∷ zs) (append_none xs)
 
 -- the arguments so far are such numbers and arrays, before whatever the rest is
-abbrev pub LeadsTo : Frame → List Argument → Option (List AbsValue) → List Argument → Option (List AbsValue) → List Interval → List ArrayArgument → Type 0
-LeadsTo fr xs o all before done pdone = (is : List Interval) (ps : List ArrayArgument) (o3 : Option (List AbsValue)) → PassesAll fr xs o is ps o3 → PassesAll fr all before (done ++ is) (pdone ++ ps) o3
+abbrev pub LeadsTo : Frame → List Argument → Option Known → List Argument → Option Known → List Interval → List ArrayArgument → Type 0
+LeadsTo fr xs o all before done pdone = (is : List Interval) (ps : List ArrayArgument) (o3 : Option Known) → PassesAll fr xs o is ps o3 → PassesAll fr all before (done ++ is) (pdone ++ ps) o3
 
-pub pass_step : (fr : Frame) (xs : List Argument) (x : Argument) (more : List Argument) (o : Option (List AbsValue)) (js : List Interval) (qs : List ArrayArgument) (o2 : Option (List AbsValue)) (done done2 : List Interval) (pdone pdone2 : List ArrayArgument) (all : List Argument)
-    (before : Option (List AbsValue)) → xs ≡ x ∷ more → done2 ≡ done ++ js → pdone2 ≡ pdone ++ qs → PassesOne fr (argument_of x) o js qs o2 → LeadsTo fr xs o all before done pdone → LeadsTo fr more o2 all before done2 pdone2
+pub pass_step : (fr : Frame) (xs : List Argument) (x : Argument) (more : List Argument) (o : Option Known) (js : List Interval) (qs : List ArrayArgument) (o2 : Option Known) (done done2 : List Interval) (pdone pdone2 : List ArrayArgument) (all : List Argument)
+    (before : Option Known) → xs ≡ x ∷ more → done2 ≡ done ++ js → pdone2 ≡ pdone ++ qs → PassesOne fr (argument_of x) o js qs o2 → LeadsTo fr xs o all before done pdone → LeadsTo fr more o2 all before done2 pdone2
 pass_step fr xs x more o js qs o2 done done2 pdone pdone2 all before e ed ep h leads = λ is ps o3 p.
     let P : List Argument → Type 0 = λ xs. PassesAll fr xs o (js ++ is) (qs ++ ps) o3 in
     let Q : List Interval → Type 0 = λ is2. PassesAll fr all before is2 (pdone ++ (qs ++ ps)) o3 in
@@ -288,12 +287,12 @@ pass_step fr xs x more o js qs o2 done done2 pdone pdone2 all before e ed ep h l
     let R2 : List ArrayArgument → Type 0 = λ pdone2. PassesAll fr all before ((done ++ js) ++ is) (pdone2 ++ ps) o3 in
     subst R (sym ed) (subst R2 (sym ep) (subst Q2 (append_assoc pdone qs ps) (subst Q (append_assoc done js is) (leads (js ++ is) (qs ++ ps) o3 (subst P (sym e) (h.passes (arguments_of (map argument_of more)) is ps o3 p))))))
 
-pub pass_end : (fr : Frame) (xs : List Argument) (o : Option (List AbsValue)) (done : List Interval) (pdone : List ArrayArgument) (all : List Argument) (before : Option (List AbsValue)) → length xs ≡ 0 → LeadsTo fr xs o all before done pdone → PassesAll fr all before done pdone o
+pub pass_end : (fr : Frame) (xs : List Argument) (o : Option Known) (done : List Interval) (pdone : List ArrayArgument) (all : List Argument) (before : Option Known) → length xs ≡ 0 → LeadsTo fr xs o all before done pdone → PassesAll fr all before done pdone o
 pass_end fr [] o done pdone all before e leads = let Q : List Interval → Type 0 = λ is. PassesAll fr all before is pdone o in let R : List ArrayArgument → Type 0 = λ ps. PassesAll fr all before (done ++ []) ps o in
     subst Q (append_none done) (subst R (append_none pdone) (leads [] [] o (no_arguments_rule fr o)))
 pass_end fr (x ∷ xs) o done pdone all before e leads = absurd (cc e)
 
-pub pass_begins : (fr : Frame) (all : List Argument) (o : Option (List AbsValue)) (done : List Interval) (pdone : List ArrayArgument) → done ≡ [] → pdone ≡ [] → LeadsTo fr all o all o done pdone
+pub pass_begins : (fr : Frame) (all : List Argument) (o : Option Known) (done : List Interval) (pdone : List ArrayArgument) → done ≡ [] → pdone ≡ [] → LeadsTo fr all o all o done pdone
 pass_begins fr all o done pdone e ep = λ is ps o3 h. let Q : List Interval → Type 0 = λ done. PassesAll fr all o (done ++ is) (pdone ++ ps) o3 in let R : List ArrayArgument → Type 0 = λ pdone. PassesAll fr all o is (pdone ++ ps) o3 in
     subst Q (sym e) (subst R (sym ep) h)
 
@@ -311,17 +310,6 @@ put_whole : (store : Store) (x : ℕ) (path : List ℕ) (new t : Tree) → slice
 put_whole [] x path new t e = refl
 put_whole (u ∷ store) zero path new t e = let q : u ≡ t = cc e in ap (λ v. put_at path new v ∷ store) (sym q)
 put_whole (u ∷ store) (suc x) path new t e = ap (λ rest. u ∷ rest) (put_whole store x path new t e)
-
-pub array_writes_by : (fr : Frame) (o : Option (List AbsValue)) (x : ℕ) (old k : AbsValue) (i : Interval) (o2 : Option (List AbsValue)) → Contents o x old → Entails old k → Entails (record { initialised = true; interval = i }) k → Replaces o x k o2 → Writes fr o x i o2
-array_writes_by fr o x old k i o2 g f n h = record { is = λ s r v c q m. at s r v c q m (slice_get s.store x) refl (g.is fr s c) }
-  where
-    at : (s : State) (r : Reference) (v : ℤ) → Reaches fr o s → Refers fr x [] r → In i v → (t : Option Tree) → t ≡ slice_get s.store x → ObjectIs old (shape_of fr x) t → Reaches fr o2 (machine.stored r v s)
-    at s r v c q m None e b = absurd b
-    at s r v c q m (Some t) e b =
-        let P : Store → Type 0 = λ store. Reaches fr o2 (record s { store = store }) in
-        let Q : ℕ → Type 0 = λ y. Reaches fr o2 (record s { store = put_in s.store y r.path (Element (Some v)) }) in
-        let new : TreeIs k (shape_of fr x) (put_at r.path (Element (Some v)) t) = put_is k (shape_of fr x) r.path [] (Element (Some v)) q.path (n.is (Some v) m) t (tree_entails old k (shape_of fr x) f t b) in
-        subst Q (sym q.object) (subst P (put_whole s.store x r.path (Element (Some v)) t (sym e)) (h.is fr s (put_at r.path (Element (Some v)) t) c new))
 
 -- an object of one element whose element changes
 one_part : (n : ℕ) (lengths path : List ℕ) (old k : AbsValue) (new : Tree) → ((u : Tree) → TreeIs old lengths u → TreeIs k lengths (put_at path new u)) → (row : Row) (j : ℕ) → n ≡ 1 → parts row ≡ 1 → j ≡ 0 → EachPart (TreeIs old lengths) row →
@@ -342,8 +330,8 @@ one_put (n ∷ lengths) (j ∷ path) old k i v o a f m (Array row) h =
     let long : parts row ≡ n = h.0 in
     one_part n lengths path old k (Element (Some v)) (λ u g. one_put lengths path old k i v o.1 a.1 f m u g) row j one (omega (arith, one, long)) (omega (arith, one, lt)) h.1
 
-pub one_writes_by : (fr : Frame) (o : Option (List AbsValue)) (x : ℕ) (old k : AbsValue) (i : Interval) (o2 : Option (List AbsValue)) → OneElement (shape_of fr x) → Contents o x old → Entails (record { initialised = true; interval = i }) k → Replaces o x k o2 → Writes fr o x i o2
-one_writes_by fr o x old k i o2 one g n h = record { is = λ s r v c q m. at s r v c q m (slice_get s.store x) refl (g.is fr s c) }
+pub one_writes_by : (fr : Frame) (o : Option Known) (x : ℕ) (old k : AbsValue) (sub : Option Interval) (i : Interval) (o2 : Option Known) → OneElement (shape_of fr x) → Contents o x old → Entails (record { initialised = true; interval = i }) k → Replaces o x k o2 → Writes fr o x sub i o2
+one_writes_by fr o x old k sub i o2 one g n h = record { is = λ s r v c q u m. at s r v c q m (slice_get s.store x) refl (g.is fr s c) }
   where
     at : (s : State) (r : Reference) (v : ℤ) → Reaches fr o s → Refers fr x [] r → In i v → (t : Option Tree) → t ≡ slice_get s.store x → ObjectIs old (shape_of fr x) t → Reaches fr o2 (machine.stored r v s)
     at s r v c q m None e b = absurd b
@@ -372,27 +360,34 @@ own_found [] n x e = absurd (cc e)
 own_found (y ∷ objects) zero x e = let q : y ≡ x = cc e in let P : held.ObjectType → Type 0 = λ x. y.lengths.items ≡ x.lengths.items in subst P q refl
 own_found (y ∷ objects) (suc n) x e = own_found objects n x e
 
-pub calls_found : (fr : Frame) (at : Pos) (f : ℕ) (t : Option IntType) (used : Bool) (arguments : Arguments) (o : Option (List AbsValue)) (is is2 : List Interval) (ps ps2 : List ArrayArgument) (o2 : Option (List AbsValue)) (c : callee.Callee) (r : Result Evaluated Stop) →
+pub calls_found : (fr : Frame) (at : Pos) (f : ℕ) (t : Option IntType) (used : Bool) (arguments : Arguments) (o : Option Known) (is is2 : List Interval) (ps ps2 : List ArrayArgument) (o2 : Option Known) (c : callee.Callee) (r : Result Evaluated Stop) →
     c ≡ called.Function f → is2 ≡ is → ps2 ≡ ps → Passes fr arguments o is ps o2 → IfOk r (λ r. CallsAt fr at f used is2 ps2 o2 r.interval (state_of r.state)) → IfOk r (λ r. Evaluates fr (typed.call at (callee_of c) t used arguments) o r.interval (state_of r.state))
 calls_found fr at f t used arguments o is is2 ps ps2 o2 c (Err e) ec ei ep h g = tt
 calls_found fr at f t used arguments o is is2 ps ps2 o2 c (Ok r) ec ei ep h g = let P : List Interval → Type 0 = λ is. CallsAt fr at f used is ps o2 r.interval (state_of r.state) in let Q : List ArrayArgument → Type 0 = λ ps. CallsAt fr at f used is2 ps o2 r.interval (state_of r.state) in
     calls_some fr at f t used arguments o is ps o2 r.interval (state_of r.state) c ec h (subst P ei (subst Q ep g))
 
-pub value_split : (fr : Frame) (e : Value) (o : Option (List AbsValue)) (i : Interval) (o2 : Option (List AbsValue)) (r : Result Tested Stop) → Evaluates fr e o i o2 → IfOk r (λ r. Splits i o2 (state_of r.on) (state_of r.off)) →
+pub value_split : (fr : Frame) (e : Value) (o : Option Known) (i : Interval) (o2 : Option Known) (r : Result Tested Stop) → Evaluates fr e o i o2 → IfOk r (λ r. Splits i o2 (state_of r.on) (state_of r.off)) →
     IfOk r (λ r. Tests fr e o (state_of r.on) (state_of r.off))
 value_split fr e o i o2 (Err x) h g = tt
 value_split fr e o i o2 (Ok r) h g = value_tests fr e o i o2 (state_of r.on) (state_of r.off) h g
 
-pub element_behind : (fr : Frame) (at : Pos) (array : Place) (index : Value) (o : Option (List AbsValue)) (x depth n : ℕ) (o2 : Option (List AbsValue)) (i : Interval) (o3 : Option (List AbsValue)) (k : AbsValue) (depth2 : ℕ) → depth2 ≡ depth + 1 →
-    drop depth (shape_of fr x) ≡ n ∷ drop (depth + 1) (shape_of fr x) → Finds fr array o x (drop depth (shape_of fr x)) o2 → Evaluates fr index o2 i o3 → Contents o3 x k → Subscripts fr at i n →
-    Finds fr (typed.element at array index) o x (drop depth2 (shape_of fr x)) o3
-element_behind fr at array index o x depth n o2 i o3 k depth2 ed e f h g q = let P : ℕ → Type 0 = λ m. Finds fr (typed.element at array index) o x (drop m (shape_of fr x)) o3 in
-    subst P (sym ed) (element_finds fr at array index o x depth n o2 i o3 k e f h g q)
+pub element_behind : (fr : Frame) (at : Pos) (array : Place) (index : Value) (o : Option Known) (x depth n : ℕ) (sub : Option Interval) (o2 : Option Known) (i : Interval) (o3 : Option Known) (k : AbsValue) (sub2 : Option Interval) (depth2 : ℕ) → depth2 ≡ depth + 1 →
+    drop depth (shape_of fr x) ≡ n ∷ drop (depth + 1) (shape_of fr x) → Finds fr array o x (drop depth (shape_of fr x)) sub o2 → Evaluates fr index o2 i o3 → Contents o3 x k → Subscripts fr at i n → Subscribes sub2 i (shape_of fr x) →
+    Finds fr (typed.element at array index) o x (drop depth2 (shape_of fr x)) sub2 o3
+element_behind fr at array index o x depth n sub o2 i o3 k sub2 depth2 ed e f h g q u = let P : ℕ → Type 0 = λ m. Finds fr (typed.element at array index) o x (drop m (shape_of fr x)) sub2 o3 in
+    subst P (sym ed) (element_finds fr at array index o x depth n sub o2 i o3 k sub2 e f h g q u)
 
 -- ---- where no run comes
 
-pub never_evaluates : (fr : Frame) (e : Value) (o : Option (List AbsValue)) (i : Interval) (o2 : Option (List AbsValue)) → o ≡ None → Evaluates fr e o i o2
-never_evaluates fr e o i o2 q = let P : Option (List AbsValue) → Type 0 = λ o. Evaluates fr e o i o2 in subst P (sym q) (record { runs = λ d s c. absurd c })
+pub never_evaluates : (fr : Frame) (e : Value) (o : Option Known) (i : Interval) (o2 : Option Known) → o ≡ None → Evaluates fr e o i o2
+never_evaluates fr e o i o2 q = let P : Option Known → Type 0 = λ o. Evaluates fr e o i o2 in subst P (sym q) (record { runs = λ d s c. absurd c })
 
-pub never_tests : (fr : Frame) (e : Value) (o on off : Option (List AbsValue)) → o ≡ None → Tests fr e o on off
-never_tests fr e o on off q = let P : Option (List AbsValue) → Type 0 = λ o. Tests fr e o on off in subst P (sym q) (record { runs = λ d s c. absurd c })
+pub never_tests : (fr : Frame) (e : Value) (o on off : Option Known) → o ≡ None → Tests fr e o on off
+never_tests fr e o on off q = let P : Option Known → Type 0 = λ o. Tests fr e o on off in subst P (sym q) (record { runs = λ d s c. absurd c })
+
+-- ---- arrays of one row
+
+pub one_row : (lengths : List ℕ) → length lengths ≡ 1 → OneRow lengths
+one_row [] e = absurd (cc e)
+one_row (n ∷ []) e = tt
+one_row (n ∷ m ∷ lengths) e = absurd (let q : suc (suc (length lengths)) ≡ 1 = e in omega (arith, q))

@@ -15,8 +15,8 @@ use Rattle.std.specs.declared.alloc.Global.{Global}
 use Rattle.verify_logic.specs.declared.abstract_values.Interval.{Interval}
 use Rattle.verify_logic.specs.declared.abstract_values.AbsValue.{AbsValue}
 use Rattle.verify_logic.specs.declared.abstract_values.ArrayArgument.{ArrayArgument}
-use Rattle.verify_logic.specs.States.{Summary, Frame, just, Below, EachEntails, or_scalar}
-use Rattle.verify_logic.specs.Calls.{Entered, CallGives, CallValue}
+use Rattle.verify_logic.specs.States.{Known, Summary, Frame, just, Below, KnownEntails, or_scalar}
+use Rattle.verify_logic.specs.Calls.{Entered, CallGives, CallValue, Cuts, with_own}
 use Rattle.verify_logic.proofs.Objects.{below}
 use Rattle.verify_logic.proofs.Calls.{summary_rule, function_rule, no_call, value_used, value_unused, value_listed}
 use Rattle.verify_expressions.specs.Views.{shapes_in, shape_in, shapes_at, summary_of}
@@ -134,17 +134,16 @@ hull_unused fr at used value z r e ez b0 b1 = value_unused fr at used value r e 
 pub hull_listed : (fr : Frame) (at : Pos) (used : Bool) (value : AbsValue) (zero r : Interval) → Contains fr.listed at → zero ≡ just (pos 0) → Below value.interval r → Below zero r → CallValue fr at used value r
 hull_listed fr at used value z r e ez b0 b1 = value_listed fr at used value r e (λ v m. below value.interval r v b0 m) (below z r (pos 0) b1 (in_just z (pos 0) ez))
 
-pub none_calls : (fr : Frame) (at : Pos) (f : ℕ) (used : Bool) (is : List Interval) (ps : List ArrayArgument) (i : Interval) (o : Option (List AbsValue)) → CallsAt fr at f used is ps None i o
+pub none_calls : (fr : Frame) (at : Pos) (f : ℕ) (used : Bool) (is : List Interval) (ps : List ArrayArgument) (i : Interval) (o : Option Known) → CallsAt fr at f used is ps None i o
 none_calls fr at f used is ps i o = record { gives = λ t arguments o0 p. function_rule fr at f t used arguments o0 is ps None (record { initialised = true; interval = i }) o i p (no_call fr f is ps _ o) (value_used fr at used (record { initialised = true; interval = i }) refl) }
 
-pub called_by : (fr : Frame) (at : Pos) (f : ℕ) (used : Bool) (is : List Interval) (ps : List ArrayArgument) (known own entry : List AbsValue) (g : Function) (i : Interval) (o : Option (List AbsValue)) → slice_get fr.program.functions f ≡ Some g → Entered is g.objects own → entry ≡ known ++ own →
+pub called_by : (fr : Frame) (at : Pos) (f : ℕ) (used : Bool) (is : List Interval) (ps : List ArrayArgument) (known : Known) (own : List AbsValue) (entry : Known) (g : Function) (i : Interval) (o : Option Known) → slice_get fr.program.functions f ≡ Some g → Entered is g.objects own → entry ≡ with_own known own →
     Summarised fr at f used ps entry i o → CallsAt fr at f used is ps (Some known) i o
 called_by fr at f used is ps known own entry g i o eg en ee h = record {
   gives = λ t arguments o0 p.
       let a : Summary = h.summary in
-      let E : List AbsValue → Type 0 = λ entry. EachEntails entry a.entry in
-      let G : Option (List AbsValue) → Type 0 = λ o. CallGives fr f is ps (Some known) a.value o in
-      let gives : CallGives fr f is ps (Some known) a.value o = subst G (sym h.left) (summary_rule fr f g is ps known own h.number a eg en h.there h.fits.function h.fits.outer h.fits.arrays (subst E ee h.fits.entry_is)) in
+      let E : Known → Type 0 = λ entry. KnownEntails entry a.entry in
+      let gives : CallGives fr f is ps (Some known) a.value o = summary_rule fr f g is ps known own h.number a o eg en h.there h.fits.function h.fits.outer h.fits.arrays (subst E ee h.fits.entry_is) h.left in
       function_rule fr at f t used arguments o0 is ps (Some known) a.value o i p gives h.value;
 }
 
@@ -160,3 +159,6 @@ pub function_there : (functions : List code_function.Function) (f : ℕ) (g : co
 function_there [] f g e = absurd (cc e)
 function_there (x ∷ functions) zero g e = let q : x ≡ g = cc e in ap (λ x. Some (function_of x)) q
 function_there (x ∷ functions) (suc f) g e = function_there functions f g e
+
+pub cuts_count : (outer : List (Vec ℕ Global)) (objects : List held.ObjectType) (n : ℕ) (left o : Option Known) → n ≡ length outer + length objects → Cuts n left o → Cuts (length (shapes_at outer objects)) left o
+cuts_count outer objects n left o e h = let P : ℕ → Type 0 = λ n. Cuts n left o in subst P (shapes_count outer objects n e) h

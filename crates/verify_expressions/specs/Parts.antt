@@ -9,8 +9,9 @@ use Rattle.typed_ast.specs.View.{Given, argument_of, arguments_of, and_given}
 use Rattle.verify_logic.specs.declared.abstract_values.Interval.{Interval}
 use Rattle.verify_logic.specs.declared.abstract_values.AbsValue.{AbsValue}
 use Rattle.verify_logic.specs.declared.abstract_values.ArrayArgument.{ArrayArgument}
-use Rattle.verify_logic.specs.States.{Summary, Frame, Entails, EachEntails, shape_of, shapes_of}
-use Rattle.verify_logic.specs.Calls.{CallValue, cut}
+use Rattle.verify_logic.specs.declared.abstract_values.Fact.{Fact}
+use Rattle.verify_logic.specs.States.{Known, Summary, Frame, Entails, KnownEntails, shape_of, shapes_of}
+use Rattle.verify_logic.specs.Calls.{CallValue, Cuts}
 use Rattle.verify_logic.specs.Judgements.{Evaluates}
 use Rattle.verify_logic.specs.Places.{Passes}
 use Rattle.ctypes.specs.declared.operators.BinOp.{BinOp}
@@ -18,12 +19,16 @@ use Rattle.verify_logic.specs.declared.operands.Operand.{Operand}
 use Rattle.verify_logic.specs.Relations.{Learns}
 
 -- these arguments are numbers in the intervals and these arrays
-abbrev pub PassesAll : Frame → List Argument → Option (List AbsValue) → List Interval → List ArrayArgument → Option (List AbsValue) → Type 0
+abbrev pub PassesAll : Frame → List Argument → Option Known → List Interval → List ArrayArgument → Option Known → Type 0
 PassesAll fr arguments before is ps after = Passes fr (arguments_of (map argument_of arguments)) before is ps after
 
 -- this argument, before others, is such numbers and arrays
-pub record PassesOne (fr : Frame) (given : Given) (before : Option (List AbsValue)) (is : List Interval) (ps : List ArrayArgument) (after : Option (List AbsValue)) : Type 0 where
-  pub passes : (more : typed.Arguments) (js : List Interval) (qs : List ArrayArgument) (o : Option (List AbsValue)) → Passes fr more after js qs o → Passes fr (and_given given more) before (is ++ js) (ps ++ qs) o
+pub record PassesOne (fr : Frame) (given : Given) (before : Option Known) (is : List Interval) (ps : List ArrayArgument) (after : Option Known) : Type 0 where
+  pub passes : (more : typed.Arguments) (js : List Interval) (qs : List ArrayArgument) (o : Option Known) → Passes fr more after js qs o → Passes fr (and_given given more) before (is ++ js) (ps ++ qs) o
+
+-- what is known of an element of another object
+abbrev pub Apart : Fact → ℕ → Type 0
+Apart f x = f.object ≡ x → ⊥
 
 -- the lengths of an object of one element
 abbrev pub OneElement : List ℕ → Type 0
@@ -36,8 +41,8 @@ pub record VariableAt (fr : Frame) (x depth : ℕ) : Type 0 where
   pub above : length fr.program.literals ≤ x
 
 -- a call of function f with numbers in these intervals and these arrays has a value in the interval
-pub record CallsAt (fr : Frame) (at : Pos) (f : ℕ) (used : Bool) (is : List Interval) (ps : List ArrayArgument) (before : Option (List AbsValue)) (i : Interval) (after : Option (List AbsValue)) : Type 0 where
-  pub gives : (t : Option IntType) (arguments : typed.Arguments) (o : Option (List AbsValue)) → Passes fr arguments o is ps before → Evaluates fr (typed.call at (typed.function f) t used arguments) o i after
+pub record CallsAt (fr : Frame) (at : Pos) (f : ℕ) (used : Bool) (is : List Interval) (ps : List ArrayArgument) (before : Option Known) (i : Interval) (after : Option Known) : Type 0 where
+  pub gives : (t : Option IntType) (arguments : typed.Arguments) (o : Option Known) → Passes fr arguments o is ps before → Evaluates fr (typed.call at (typed.function f) t used arguments) o i after
 
 -- ---- calls by summaries
 
@@ -54,23 +59,23 @@ abbrev pub EntersAt : List Interval → ℕ → ObjectType → AbsValue → Type
 EntersAt is n t k = Enters (slice_get is n) t k
 
 -- the summary is of function f, called from this frame with these arrays and objects
-pub record Fits (fr : Frame) (f : ℕ) (ps : List ArrayArgument) (entry : List AbsValue) (a : Summary) : Type 0 where
+pub record Fits (fr : Frame) (f : ℕ) (ps : List ArrayArgument) (entry : Known) (a : Summary) : Type 0 where
   pub function : a.function ≡ f
   pub outer : a.outer ≡ shapes_of fr
   pub arrays : a.arrays ≡ ps
-  pub entry_is : EachEntails entry a.entry
+  pub entry_is : KnownEntails entry a.entry
 
 -- a summary says what such a call gives
-pub record Summarised (fr : Frame) (at : Pos) (f : ℕ) (used : Bool) (ps : List ArrayArgument) (entry : List AbsValue) (i : Interval) (after : Option (List AbsValue)) : Type 0 where
+pub record Summarised (fr : Frame) (at : Pos) (f : ℕ) (used : Bool) (ps : List ArrayArgument) (entry : Known) (i : Interval) (after : Option Known) : Type 0 where
   pub number : ℕ
   pub summary : Summary
   pub there : slice_get fr.summaries number ≡ Some summary
   pub fits : Fits fr f ps entry summary
   pub value : CallValue fr at used summary.value i
-  pub left : after ≡ cut (length (shapes_of fr)) summary.left
+  pub left : Cuts (length (shapes_of fr)) summary.left after
 
 -- ---- comparisons
 
 -- what is known where a comparison is true, and where it is false
-abbrev pub LearnsBoth : BinOp → Operand → Interval → Operand → Interval → (o on off : Option (List AbsValue)) → Type 0
+abbrev pub LearnsBoth : BinOp → Operand → Interval → Operand → Interval → (o on off : Option Known) → Type 0
 LearnsBoth op x i y j o on off = Learns op true x i y j o on × Learns op false x i y j o off

@@ -4,19 +4,22 @@ use Rattle.std.specs.declared.vec.Vec.{Vec}
 use Rattle.std.specs.declared.alloc.Global.{Global}
 use Rattle.typed_ast.specs.declared.types.ObjectType as held
 use Rattle.typed_ast.specs.View.{object_type_of, program_of}
-use Rattle.verify_logic.specs.declared.abstract_values.AbsValue.{AbsValue}
 use Rattle.verify_logic.specs.States as logic
-use Rattle.verify_logic.specs.States.{Frame, lengths_in, or_scalar}
+use Rattle.verify_logic.specs.States.{Known, Frame, lengths_in, or_scalar}
 use Rattle.verify_expressions.specs.declared.state.AbsState.{AbsState}
+use Rattle.verify_expressions.specs.declared.state.Known as code
 use Rattle.verify_expressions.specs.declared.scope.Summary.{Summary}
 use Rattle.verify_expressions.specs.declared.scope.Scope.{Scope}
 
-abbrev pub objects_or_none : Option (Vec AbsValue Global) → Option (List AbsValue)
-objects_or_none None = None
-objects_or_none (Some xs) = Some xs.items
+abbrev pub known_of : code.Known → Known
+known_of k = record { objects = k.objects.items; facts = k.facts.items }
 
-abbrev pub state_of : AbsState → Option (List AbsValue)
-state_of s = objects_or_none s.objects
+abbrev pub known_or_none : Option code.Known → Option Known
+known_or_none None = None
+known_or_none (Some k) = Some (known_of k)
+
+abbrev pub state_of : AbsState → Option Known
+state_of s = known_or_none s.objects
 
 abbrev pub items_of : Vec ℕ Global → List ℕ
 items_of xs = xs.items
@@ -25,7 +28,7 @@ abbrev pub shapes_in : List (Vec ℕ Global) → List (List ℕ)
 shapes_in outer = map items_of outer
 
 abbrev pub summary_of : Summary → logic.Summary
-summary_of a = record { function = a.function; outer = shapes_in a.outer.items; arrays = a.arrays.items; entry = a.entry.items; value = a.value; left = objects_or_none a.left }
+summary_of a = record { function = a.function; outer = shapes_in a.outer.items; arrays = a.arrays.items; entry = known_of a.entry; value = a.value; left = known_or_none a.left }
 
 abbrev pub frame_of : Scope → Frame
 frame_of sc = record {

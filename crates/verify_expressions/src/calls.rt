@@ -1,26 +1,26 @@
 //! Calls of functions (6.5.2.2, 6.9.1), by what was shown of their bodies. What a summary would have to say is guessed, and then tested.
 
-ghost use Rattle.std.specs.Prelude.{◌≡◌, ◌≤◌, ◌+◌, ◌++◌, [], false, length, map, take, IfOk, IfSome, IsTrue, Some, slice_get};
+ghost use Rattle.std.specs.Prelude.{◌≡◌, ◌<◌, ◌≤◌, ◌+◌, ◌++◌, [], false, length, map, take, IfOk, IfSome, IsTrue, Some, slice_get};
 ghost use Rattle.typed_ast.specs.View.{function_of, object_type_of};
-ghost use Rattle.verify_logic.specs.States.{EachEntails, shapes_of};
-ghost use Rattle.verify_logic.specs.Calls.{CallValue, Entered, cut};
-ghost use Rattle.verify_expressions.specs.Views.{frame_of, objects_or_none, shapes_at, shapes_in, state_of, summary_of};
+ghost use Rattle.verify_logic.specs.States.{KnownEntails, shapes_of};
+ghost use Rattle.verify_logic.specs.Calls.{CallValue, Cuts, Entered, HoldBelow, with_own};
+ghost use Rattle.verify_expressions.specs.Views.{frame_of, known_of, known_or_none, shapes_at, shapes_in, state_of, summary_of};
 ghost use Rattle.verify_expressions.specs.Parts.{CallsAt, EntersAt, Fits, Gets, Summarised};
 
 use crate::expressions::Evaluated;
 use crate::memory::{take_search, take_step};
-use crate::objects::{copied_objects, objects_entail};
+use crate::objects::{copied_known, copied_objects, known_entails};
 use crate::operators::is_listed;
 use crate::places::{object_count, shape};
 use crate::scope::{Scope, Summary};
-use crate::state::AbsState;
+use crate::state::{AbsState, Known};
 use crate::stop::{Alarm, Stop, Wanted};
 use ctypes::Undef;
 use srcset::Pos;
 use std::alloc::Global;
 use typed_ast::{Function, ObjectType};
 use verify_intervals::{entails, hull, initialised, single, uninitialised};
-use verify_logic::{AbsValue, ArrayArgument, Interval};
+use verify_logic::{AbsValue, ArrayArgument, Fact, Interval};
 
 // ---- the objects of a call
 
@@ -228,21 +228,15 @@ fn same_function(a: &Summary, f: usize) -> bool
     a.function == f
 }
 
-fn admits(a: &Summary, entry: &[AbsValue]) -> bool
-    ensures { IsTrue result → EachEntails entry.now (summary_of a.now).entry }
+fn admits(a: &Summary, entry: &Known) -> bool
+    ensures { IsTrue result → KnownEntails (known_of entry.now) (summary_of a.now).entry }
 {
-    objects_entail(entry, &a.entry)
+    known_entails(entry, &a.entry)
 }
 
 /// Tests whether the summary says what a call does that begins with these objects.
-fn fits(
-    scope: &Scope<'_>,
-    f: usize,
-    a: &Summary,
-    arrays: &[ArrayArgument],
-    entry: &[AbsValue],
-) -> bool
-    ensures { IsTrue result → Fits (frame_of scope.now) f arrays.now entry.now (summary_of a.now) }
+fn fits(scope: &Scope<'_>, f: usize, a: &Summary, arrays: &[ArrayArgument], entry: &Known) -> bool
+    ensures { IsTrue result → Fits (frame_of scope.now) f arrays.now (known_of entry.now) (summary_of a.now) }
 {
     let called = same_function(a, f);
     if !called {
@@ -286,27 +280,61 @@ fn value_at(scope: &Scope<'_>, at: Pos, used: bool, value: AbsValue) -> Result<I
     }
 }
 
-fn front(alloc: Global, xs: &[AbsValue], n: usize) -> Result<AbsState, Stop>
-    ensures { IfOk result (λ r. state_of r ≡ Some (take n xs.now)) }
+fn is_below(x: usize, n: usize) -> bool
+    ensures { IsTrue result → x < n }
+{
+    x < n
+}
+
+/// What is known of elements of the first `n` objects.
+fn first_facts(alloc: Global, facts: &[Fact], n: usize) -> Result<Vec<Fact>, Stop>
+    ensures { IfOk result (λ r. HoldBelow n facts.now r.items) }
+{
+    let mut out = Vec::new(alloc);
+    for m in 0..facts.len() {
+        let f = facts[m];
+        let below = is_below(f.object, n);
+        if !below {
+            continue;
+        }
+        let Ok(()) = out.push(f) else {
+            return Err(Stop::Memory);
+        };
+    }
+    Ok(out)
+}
+
+fn first_objects(alloc: Global, xs: &[AbsValue], n: usize) -> Result<Vec<AbsValue>, Stop>
+    ensures { IfOk result (λ r. r.items ≡ take n xs.now) }
 {
     let mut out = copied_objects(alloc, xs)?;
     out.truncate(n);
-    Ok(AbsState { objects: Some(out) })
+    Ok(out)
 }
 
-/// The first `n` objects.
-fn front_of(alloc: Global, left: &Option<Vec<AbsValue>>, n: usize) -> Result<AbsState, Stop>
-    ensures { IfOk result (λ r. state_of r ≡ cut n (objects_or_none left.now)) }
+fn front(alloc: Global, known: &Known, n: usize) -> Result<AbsState, Stop>
+    ensures { IfOk result (λ r. Cuts n (Some (known_of known.now)) (state_of r)) }
+{
+    let objects = first_objects(alloc, &known.objects, n)?;
+    let facts = first_facts(alloc, &known.facts, n)?;
+    Ok(AbsState {
+        objects: Some(Known { objects, facts }),
+    })
+}
+
+/// What is known of the first `n` objects.
+fn front_of(alloc: Global, left: &Option<Known>, n: usize) -> Result<AbsState, Stop>
+    ensures { IfOk result (λ r. Cuts n (known_or_none left.now) (state_of r)) }
 {
     match left {
         None => Ok(AbsState { objects: None }),
-        Some(xs) => front(alloc, xs, n),
+        Some(known) => front(alloc, known, n),
     }
 }
 
 /// What is known behind a call of which this is known behind its body.
-fn behind(scope: &Scope<'_>, left: &Option<Vec<AbsValue>>) -> Result<AbsState, Stop>
-    ensures { IfOk result (λ r. state_of r ≡ cut (length (shapes_of (frame_of scope.now))) (objects_or_none left.now)) }
+fn behind(scope: &Scope<'_>, left: &Option<Known>) -> Result<AbsState, Stop>
+    ensures { IfOk result (λ r. Cuts (length (shapes_of (frame_of scope.now))) (known_or_none left.now) (state_of r)) }
 {
     let Some(n) = object_count(scope) else {
         return Err(Stop::Unfollowed(None));
@@ -321,12 +349,12 @@ fn by_summary(
     f: usize,
     used: bool,
     arrays: &[ArrayArgument],
-    entry: &[AbsValue],
+    entry: &Known,
     n: usize,
     a: &Summary,
 ) -> Result<Evaluated, Stop>
     requires { slice_get (frame_of scope.now).summaries n ≡ Some (summary_of a.now) }
-    ensures { IfOk result (λ e. Summarised (frame_of scope.now) at f used arrays.now entry.now e.interval (state_of e.state)) }
+    ensures { IfOk result (λ e. Summarised (frame_of scope.now) at f used arrays.now (known_of entry.now) e.interval (state_of e.state)) }
 {
     let fit = fits(scope, f, a, arrays, entry);
     if !fit {
@@ -344,10 +372,10 @@ fn summarised(
     f: usize,
     used: bool,
     arrays: &[ArrayArgument],
-    entry: &[AbsValue],
+    entry: &Known,
     n: usize,
 ) -> Result<Evaluated, Stop>
-    ensures { IfOk result (λ e. Summarised (frame_of scope.now) at f used arrays.now entry.now e.interval (state_of e.state)) }
+    ensures { IfOk result (λ e. Summarised (frame_of scope.now) at f used arrays.now (known_of entry.now) e.interval (state_of e.state)) }
 {
     match scope.summaries.get(n) {
         None => Err(Stop::Unfollowed(Some(at))),
@@ -361,7 +389,7 @@ fn is_found(
     f: usize,
     a: &Summary,
     arrays: &[ArrayArgument],
-    entry: &[AbsValue],
+    entry: &Known,
 ) -> bool {
     if a.function != f {
         return false;
@@ -371,12 +399,7 @@ fn is_found(
 }
 
 /// A summary that fits, if there is one. It is a guess: nothing rests on it.
-fn fitting(
-    scope: &Scope<'_>,
-    f: usize,
-    arrays: &[ArrayArgument],
-    entry: &[AbsValue],
-) -> Option<usize> {
+fn fitting(scope: &Scope<'_>, f: usize, arrays: &[ArrayArgument], entry: &Known) -> Option<usize> {
     let goes_on = take_search(scope);
     if !goes_on {
         return None;
@@ -424,11 +447,11 @@ fn call_wanted(
     scope: &Scope<'_>,
     f: usize,
     arrays: &[ArrayArgument],
-    entry: &[AbsValue],
+    entry: &Known,
 ) -> Result<Wanted, Stop> {
     let outer = all_lengths(scope)?;
     let arrays = copied_arrays(scope.alloc, arrays)?;
-    let entry = copied_objects(scope.alloc, entry)?;
+    let entry = copied_known(scope.alloc, entry)?;
     Ok(Wanted {
         function: f,
         outer,
@@ -438,7 +461,7 @@ fn call_wanted(
 }
 
 /// The call of which nothing is known yet, as a reason to stop.
-fn wanted(scope: &Scope<'_>, f: usize, arrays: &[ArrayArgument], entry: &[AbsValue]) -> Stop {
+fn wanted(scope: &Scope<'_>, f: usize, arrays: &[ArrayArgument], entry: &Known) -> Stop {
     match call_wanted(scope, f, arrays, entry) {
         Ok(call) => Stop::Wanted(call),
         Err(stop) => stop,
@@ -452,9 +475,9 @@ fn begun(
     f: usize,
     used: bool,
     arrays: &[ArrayArgument],
-    entry: &[AbsValue],
+    entry: &Known,
 ) -> Result<Evaluated, Stop>
-    ensures { IfOk result (λ e. Summarised (frame_of scope.now) at f used arrays.now entry.now e.interval (state_of e.state)) }
+    ensures { IfOk result (λ e. Summarised (frame_of scope.now) at f used arrays.now (known_of entry.now) e.interval (state_of e.state)) }
 {
     match fitting(scope, f, arrays, entry) {
         None => Err(wanted(scope, f, arrays, entry)),
@@ -466,7 +489,7 @@ fn begun(
 
 fn defined_called(
     scope: &Scope<'_>,
-    known: Vec<AbsValue>,
+    known: Known,
     at: Pos,
     f: usize,
     used: bool,
@@ -475,7 +498,7 @@ fn defined_called(
     function: &Function,
 ) -> Result<Evaluated, Stop>
     requires { slice_get (frame_of scope.now).program.functions f ≡ Some (function_of function.now) }
-    ensures { IfOk result (λ r. CallsAt (frame_of scope.now) at f used passed.now arrays.now (Some known.items) r.interval (state_of r.state)) }
+    ensures { IfOk result (λ r. CallsAt (frame_of scope.now) at f used passed.now arrays.now (Some (known_of known)) r.interval (state_of r.state)) }
 {
     let own = own_objects(scope.alloc, function, passed)?;
     let entry = all_objects(known, &own)?;
@@ -483,11 +506,14 @@ fn defined_called(
     Ok(e)
 }
 
-fn all_objects(known: Vec<AbsValue>, own: &Vec<AbsValue>) -> Result<Vec<AbsValue>, Stop>
-    ensures { IfOk result (λ r. r.items ≡ known.items ++ own.now.items) }
+fn all_objects(known: Known, own: &Vec<AbsValue>) -> Result<Known, Stop>
+    ensures { IfOk result (λ r. known_of r ≡ with_own (known_of known) own.now.items) }
 {
-    let all = appended(known, own)?;
-    Ok(all)
+    let objects = appended(known.objects, own)?;
+    Ok(Known {
+        objects,
+        facts: known.facts,
+    })
 }
 
 fn own_objects(
@@ -503,14 +529,14 @@ fn own_objects(
 
 fn reached_called(
     scope: &Scope<'_>,
-    known: Vec<AbsValue>,
+    known: Known,
     at: Pos,
     f: usize,
     used: bool,
     passed: &[Interval],
     arrays: &[ArrayArgument],
 ) -> Result<Evaluated, Stop>
-    ensures { IfOk result (λ r. CallsAt (frame_of scope.now) at f used passed.now arrays.now (Some known.items) r.interval (state_of r.state)) }
+    ensures { IfOk result (λ r. CallsAt (frame_of scope.now) at f used passed.now arrays.now (Some (known_of known)) r.interval (state_of r.state)) }
 {
     match scope.program.functions.get(f) {
         None => Err(Stop::Unfollowed(Some(at))),

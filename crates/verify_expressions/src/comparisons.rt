@@ -7,21 +7,21 @@ ghost use Rattle.verify_logic.specs.States.{shape_of};
 ghost use Rattle.verify_logic.specs.Judgements.{Tests};
 ghost use Rattle.verify_logic.specs.Places.{FindsAt};
 ghost use Rattle.verify_logic.specs.Relations.{Learns, Looks, Restricts, RestrictsBoth};
-ghost use Rattle.verify_expressions.specs.Views.{frame_of, state_of};
+ghost use Rattle.verify_expressions.specs.Views.{frame_of, known_of, state_of};
 ghost use Rattle.verify_expressions.specs.Parts.{LearnsBoth};
 
 use crate::conditions::Tested;
 use crate::memory::take_step;
-use crate::objects::{content_at, copied, set};
+use crate::objects::{content_at, copied, with_value};
 use crate::places::{is_scalar, object};
 use crate::scope::Scope;
-use crate::state::AbsState;
+use crate::state::{AbsState, Known};
 use crate::stop::Stop;
 use ctypes::{BinOp, IntType};
 use srcset::Pos;
 use typed_ast::{Place, Value};
 use verify_intervals::{all_of, initialised, is_empty, lies_in, narrowed, single, tell};
-use verify_logic::{AbsValue, Interval, Operand};
+use verify_logic::{Interval, Operand};
 
 /// An operand that is looked at, and the interval of its value.
 #[derive(Clone, Copy)]
@@ -97,13 +97,18 @@ fn look(scope: &Scope<'_>, state: &AbsState, e: &Value) -> Option<Looked>
     }
 }
 
-fn restricted_in(xs: Vec<AbsValue>, x: usize, i: Interval) -> Option<AbsState>
-    ensures { IfSome result (λ r. Restricts (Operand.Object x) i (Some xs.items) (state_of r)) }
+fn restricted_in(known: Known, x: usize, i: Interval) -> Option<AbsState>
+    ensures { IfSome result (λ r. Restricts (Operand.Object x) i (Some (known_of known)) (state_of r)) }
 {
-    if x < xs.len() {
+    if x < known.objects.len() {
         let k = initialised(i);
-        let ys = set(xs, x, k);
-        Some(AbsState { objects: Some(ys) })
+        let objects = with_value(known.objects, x, k);
+        Some(AbsState {
+            objects: Some(Known {
+                objects,
+                facts: known.facts,
+            }),
+        })
     } else {
         None
     }
@@ -115,7 +120,7 @@ fn object_restricted(state: AbsState, x: usize, i: Interval) -> Option<AbsState>
 {
     match state.objects {
         None => Some(AbsState { objects: None }),
-        Some(xs) => restricted_in(xs, x, i),
+        Some(known) => restricted_in(known, x, i),
     }
 }
 

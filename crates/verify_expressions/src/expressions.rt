@@ -13,10 +13,12 @@ use crate::arguments::{Passed, one_array, one_number};
 use crate::calls::function_called;
 use crate::comparisons::compared;
 use crate::conditions::{Tested, split};
-use crate::objects::{content_at, joined, written};
+use crate::objects::{content_at, element_at, joined, written};
 use crate::operators::{operation_at, read_at, sign_at, step_at, subscript_at};
 use crate::parts::{choice_conversion, got_byte, position, value_stepped};
-use crate::places::{designated, is_element, is_object, length_at, literal_count};
+use crate::places::{
+    designated, followed_subscript, is_element, is_object, length_at, literal_count,
+};
 use crate::scope::Scope;
 use crate::state::{AbsState, is_reached, unreachable};
 use crate::stop::Stop;
@@ -39,11 +41,13 @@ pub struct Evaluated {
 pub struct Placed {
     pub object: usize,
     pub depth: usize,
+    /// Where the last subscript lies, if elements of the object are followed.
+    pub subscript: Option<Interval>,
     pub state: AbsState,
 }
 
 fn named(scope: &Scope<'_>, state: AbsState, at: &Pos, what: Storage) -> Result<Placed, Stop>
-    ensures { IfOk result (λ r. Finds (frame_of scope.now) (typed.named at.now (storage_of what)) (state_of state) r.object (drop r.depth (shape_of (frame_of scope.now) r.object)) (state_of r.state)) }
+    ensures { IfOk result (λ r. Finds (frame_of scope.now) (typed.named at.now (storage_of what)) (state_of state) r.object (drop r.depth (shape_of (frame_of scope.now) r.object)) r.subscript (state_of r.state)) }
 {
     let Some(found) = designated(scope, what) else {
         return Err(Stop::Unfollowed(Some(*at)));
@@ -51,6 +55,7 @@ fn named(scope: &Scope<'_>, state: AbsState, at: &Pos, what: Storage) -> Result<
     Ok(Placed {
         object: found.object,
         depth: found.depth,
+        subscript: None,
         state,
     })
 }
@@ -63,7 +68,7 @@ fn element(
     array: &Place,
     index: &Value,
 ) -> Result<Placed, Stop>
-    ensures { IfOk result (λ r. Finds (frame_of scope.now) (typed.element at.now (place_of array.now) (value_of index.now)) (state_of state) r.object (drop r.depth (shape_of (frame_of scope.now) r.object)) (state_of r.state)) }
+    ensures { IfOk result (λ r. Finds (frame_of scope.now) (typed.element at.now (place_of array.now) (value_of index.now)) (state_of state) r.object (drop r.depth (shape_of (frame_of scope.now) r.object)) r.subscript (state_of r.state)) }
 {
     let found = place(scope, state, array)?;
     let i = evaluate(scope, found.state, index)?;
@@ -77,9 +82,11 @@ fn element(
     let Some(depth) = add_usize(found.depth, 1) else {
         return Err(Stop::Unfollowed(Some(*at)));
     };
+    let subscript = followed_subscript(scope, found.object, i.interval);
     Ok(Placed {
         object: found.object,
         depth,
+        subscript,
         state: i.state,
     })
 }
@@ -87,7 +94,7 @@ fn element(
 /// A place (6.3.2.1).
 #[cycle(analyse)]
 fn place(scope: &Scope<'_>, state: AbsState, a: &Place) -> Result<Placed, Stop>
-    ensures { IfOk result (λ r. Finds (frame_of scope.now) (place_of a.now) (state_of state) r.object (drop r.depth (shape_of (frame_of scope.now) r.object)) (state_of r.state)) }
+    ensures { IfOk result (λ r. Finds (frame_of scope.now) (place_of a.now) (state_of state) r.object (drop r.depth (shape_of (frame_of scope.now) r.object)) r.subscript (state_of r.state)) }
 {
     match a {
         Place::Named(at, what) => named(scope, state, at, *what),
@@ -106,7 +113,7 @@ fn is_variable(scope: &Scope<'_>, x: usize, depth: usize) -> bool
 /// An element that may be assigned to.
 #[cycle(analyse)]
 fn variable(scope: &Scope<'_>, state: AbsState, a: &Place) -> Result<Placed, Stop>
-    ensures found { IfOk result (λ r. Finds (frame_of scope.now) (place_of a.now) (state_of state) r.object [] (state_of r.state)) }
+    ensures found { IfOk result (λ r. Finds (frame_of scope.now) (place_of a.now) (state_of state) r.object [] r.subscript (state_of r.state)) }
     ensures above { IfOk result (λ r. length (program_of scope.now.program.now).literals ≤ r.object) }
 {
     let found = place(scope, state, a)?;
@@ -182,7 +189,7 @@ fn read(scope: &Scope<'_>, state: AbsState, ty: IntType, a: &Place) -> Result<Ev
     if !within {
         return Err(Stop::Unfollowed(Some(position(a))));
     }
-    let Some(k) = content_at(&found.state, found.object) else {
+    let Some(k) = element_at(&found.state, found.object, found.subscript) else {
         return Err(Stop::Unfollowed(Some(position(a))));
     };
     let at = position(a);
@@ -207,7 +214,7 @@ fn assigned(
     let to = variable(scope, state, a)?;
     let right = evaluate(scope, to.state, e)?;
     let interval = conversion(ty, right.interval);
-    let state2 = written(scope, right.state, to.object, interval)?;
+    let state2 = written(scope, right.state, to.object, to.subscript, interval)?;
     Ok(Evaluated {
         interval,
         state: state2,
@@ -229,14 +236,14 @@ fn compound(
 {
     let to = variable(scope, state, a)?;
     let right = evaluate(scope, to.state, e)?;
-    let Some(k) = content_at(&right.state, to.object) else {
+    let Some(k) = element_at(&right.state, to.object, to.subscript) else {
         return Err(Stop::Unfollowed(Some(*at)));
     };
     let place_at = position(a);
     let old = read_at(scope, place_at, k)?;
     let new = operation_at(scope, *at, op, of, old, right.interval)?;
     let interval = conversion(ty, new);
-    let state2 = written(scope, right.state, to.object, interval)?;
+    let state2 = written(scope, right.state, to.object, to.subscript, interval)?;
     Ok(Evaluated {
         interval,
         state: state2,
@@ -257,14 +264,14 @@ fn stepped(
     ensures { IfOk result (λ r. Evaluates (frame_of scope.now) (typed.stepped at.now (moment_of moment) op ty of (place_of a.now)) (state_of state) r.interval (state_of r.state)) }
 {
     let to = variable(scope, state, a)?;
-    let Some(k) = content_at(&to.state, to.object) else {
+    let Some(k) = element_at(&to.state, to.object, to.subscript) else {
         return Err(Stop::Unfollowed(Some(*at)));
     };
     let place_at = position(a);
     let old = read_at(scope, place_at, k)?;
     let new = step_at(scope, *at, op, of, old)?;
     let kept = conversion(ty, new);
-    let state2 = written(scope, to.state, to.object, kept)?;
+    let state2 = written(scope, to.state, to.object, to.subscript, kept)?;
     let interval = value_stepped(moment, old, kept);
     Ok(Evaluated {
         interval,

@@ -7,6 +7,7 @@ mod calls;
 mod comparisons;
 mod conditions;
 mod expressions;
+mod facts;
 mod memory;
 mod objects;
 mod operators;
@@ -18,12 +19,15 @@ mod stop;
 
 pub use conditions::Tested;
 pub use expressions::{Evaluated, evaluate, test};
+pub use facts::{FOLLOWED_ELEMENTS, elements_read};
 pub use memory::{
     Memory, enter_body, enter_loop, first_guess, leave_loop, may_unroll, new_memory, recalled,
-    remember, take_step,
+    remember, take_statement, take_step,
 };
-pub use objects::{content_at, copied, imply, joined, replaced, written};
+pub use objects::{
+    content_at, copied, copied_known, imply, joined, replaced, value_in, with_value, written,
+};
 pub use places::{is_scalar, literal_count, shape};
 pub use scope::{Scope, Summary};
-pub use state::{AbsState, is_reached, unreachable};
+pub use state::{AbsState, Known, is_reached, unreachable};
 pub use stop::{Alarm, Stop, Wanted};

@@ -91,12 +91,24 @@ fn take(memory: &Memory, cost: u64) -> bool {
     true
 }
 
-/// Takes the step of a statement, a comparison or a look at a summary, which costs more where there are many objects. Tells whether the work
-/// left is enough.
+fn cost_of(count: usize) -> u64 {
+    1 + ((count / OBJECTS_A_STEP) as u64)
+}
+
+/// Takes the step of a comparison or a look at a summary, which costs more where there are many objects. Tells whether the work left is
+/// enough.
 pub fn take_step(scope: &Scope<'_>) -> bool {
     let objects = scope.outer.len().saturating_add(scope.objects.len());
-    let cost = 1 + ((objects / OBJECTS_A_STEP) as u64);
-    take(scope.memory, cost)
+    take(scope.memory, cost_of(objects))
+}
+
+/// Takes the step of a statement, which costs more where much is known. Tells whether the work left is enough.
+pub fn take_statement(scope: &Scope<'_>, state: &AbsState) -> bool {
+    let count = match &state.objects {
+        None => 0,
+        Some(known) => known.objects.len().saturating_add(known.facts.len()),
+    };
+    take(scope.memory, cost_of(count))
 }
 
 /// Takes the steps of a search among all summaries. Tells whether the work left is enough.

@@ -4,14 +4,15 @@ ghost use Rattle.std.specs.Prelude.{◌≡◌, ◌≤◌, ◌∷◌, ◌+◌, []
 ghost use Rattle.typing_spec.specs.Program as typed;
 ghost use Rattle.typed_ast.specs.View.{program_of, storage_of};
 ghost use Rattle.verify_logic.specs.States.{shape_of, shapes_of};
-ghost use Rattle.verify_logic.specs.Places.{Designates};
+ghost use Rattle.verify_logic.specs.Places.{Designates, OneRow, Subscribes};
 ghost use Rattle.verify_expressions.specs.Views.{frame_of, own_shape_in, shape_in};
 ghost use Rattle.verify_expressions.specs.Parts.{OneElement};
 
+use crate::facts::FOLLOWED_ELEMENTS;
 use crate::scope::Scope;
 use typed_ast::{ObjectType, Storage};
 use verify_intervals::add_usize;
-use verify_logic::ArrayArgument;
+use verify_logic::{ArrayArgument, Interval};
 
 /// How many string literals the program has.
 pub fn literal_count(scope: &Scope<'_>) -> usize
@@ -136,6 +137,21 @@ pub fn has_one_element(scope: &Scope<'_>, x: usize) -> bool
 {
     let lengths = shape(scope.outer, scope.objects, x);
     are_ones(lengths)
+}
+
+fn is_followed(lengths: &[u32]) -> bool
+    ensures { IsTrue result → OneRow lengths.now }
+{
+    lengths.len() == 1 && lengths[0] <= FOLLOWED_ELEMENTS
+}
+
+/// Where the subscript of an element of object `x` lies, if that is an array of one row whose elements are followed.
+pub fn followed_subscript(scope: &Scope<'_>, x: usize, i: Interval) -> Option<Interval>
+    ensures { Subscribes result i (shape_of (frame_of scope.now) x) }
+{
+    let lengths = shape(scope.outer, scope.objects, x);
+    let followed = is_followed(lengths);
+    if followed { Some(i) } else { None }
 }
 
 /// Tests whether so many subscripts lead into object `x` to an element.

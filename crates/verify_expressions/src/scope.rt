@@ -1,6 +1,7 @@
 //! In which call an expression stands.
 
 use crate::memory::Memory;
+use crate::state::Known;
 use srcset::Pos;
 use std::alloc::Global;
 use typed_ast::{ObjectType, Program};
@@ -16,10 +17,10 @@ pub struct Summary {
     /// What the array parameters refer to.
     pub arrays: Vec<ArrayArgument>,
     /// What is known of all objects as the call begins.
-    pub entry: Vec<AbsValue>,
+    pub entry: Known,
     pub value: AbsValue,
     /// What is known of all objects as it ends.
-    pub left: Option<Vec<AbsValue>>,
+    pub left: Option<Known>,
 }
 
 /// A call.

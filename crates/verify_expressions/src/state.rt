@@ -3,12 +3,20 @@
 ghost use Rattle.std.specs.Prelude.{◌≡◌, false, None};
 ghost use Rattle.verify_expressions.specs.Views.{state_of};
 
-use verify_logic::AbsValue;
+use verify_logic::{AbsValue, Fact};
 
-/// What is known of each object by its number in the store, or that no run comes here.
+/// What is known of each object by its number in the store, and of single elements of arrays of one row.
+#[derive(Drop)]
+pub struct Known {
+    pub objects: Vec<AbsValue>,
+    /// At most one for each element. Leaving one out loses what is known of it, and nothing else.
+    pub facts: Vec<Fact>,
+}
+
+/// What is known of all objects, or that no run comes here.
 #[derive(Drop)]
 pub struct AbsState {
-    pub objects: Option<Vec<AbsValue>>,
+    pub objects: Option<Known>,
 }
 
 /// Where no run comes.

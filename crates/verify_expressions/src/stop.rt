@@ -1,8 +1,9 @@
 //! Why an analysis stops.
 
+use crate::state::Known;
 use ctypes::Undef;
 use srcset::Pos;
-use verify_logic::{AbsValue, ArrayArgument, Interval};
+use verify_logic::{ArrayArgument, Interval};
 
 /// Undefined behaviour that is not ruled out.
 #[derive(Clone, Copy, PartialEq, Eq, Debug)]
@@ -25,7 +26,7 @@ pub struct Wanted {
     /// What the array parameters refer to.
     pub arrays: Vec<ArrayArgument>,
     /// What is known of all objects as the call begins.
-    pub entry: Vec<AbsValue>,
+    pub entry: Known,
 }
 
 /// Why an analysis stops. None of these says that the program is wrong.

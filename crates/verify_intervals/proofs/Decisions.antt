@@ -1,4 +1,4 @@
--- What intervals decide.
+-- Relations and truth values that intervals decide.
 use Rattle.std.proofs.Common.{◌≡◌, zero, suc, ℤ, pos, negsuc, ◌<ℤ◌, refl, subst, sym, arith}
 use Rattle.std.proofs.lemmas.Int.{ints}
 use Rattle.std.proofs.Common.{◌⊎◌, inl, inr}

@@ -1,4 +1,4 @@
--- What intervals decide.
+-- Relations and truth values that intervals decide.
 use Rattle.std.specs.Prelude.{◌≡◌, ℤ, Bool, not, Ok}
 use Rattle.ctypes.specs.declared.types.IntType.{IntType}
 use Rattle.ctypes.specs.declared.operators.BinOp.{BinOp}

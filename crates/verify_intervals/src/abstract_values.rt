@@ -1,4 +1,4 @@
-//! What is known of an element, as sets that lie in one another.
+//! The abstract value of an element, as sets ordered by inclusion.
 
 ghost use Rattle.std.specs.Prelude.{◌≡◌, IsTrue, true, false};
 ghost use Rattle.verify_logic.specs.States.{Entails};
@@ -26,7 +26,7 @@ pub fn uninitialised() -> AbsValue
     }
 }
 
-/// What is known of an element of which one of these is.
+/// The abstract value of an element that has one of these two.
 pub fn either(a: AbsValue, b: AbsValue) -> AbsValue
     ensures first { Entails a result }
     ensures second { Entails b result }
@@ -39,7 +39,7 @@ pub fn either(a: AbsValue, b: AbsValue) -> AbsValue
     }
 }
 
-/// Tests whether the one says all that the other says.
+/// Tests whether the first value implies the second.
 pub fn entails(a: AbsValue, b: AbsValue) -> bool
     ensures { IsTrue result → Entails a b }
 {

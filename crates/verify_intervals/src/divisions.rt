@@ -1,4 +1,4 @@
-//! Quotients and remainders on intervals (6.5.5), by numbers of one sign. No answer says that undefined behaviour is not ruled out.
+//! Quotients and remainders on intervals (6.5.5), by numbers of one sign. `None` means that undefined behaviour is not ruled out.
 
 ghost use Rattle.std.specs.Prelude.{◌≡◌, ◌<ℤ◌, ◌-ℤ◌, ℤ, IfSome, IsTrue, pos};
 ghost use Rattle.verify_logic.specs.Judgements.{Computes};
@@ -50,7 +50,7 @@ pub fn quotient(ty: IntType, i: Interval, j: Interval) -> Option<Interval>
     }
 }
 
-/// What is below the divisor, and has the sign of the dividend.
+/// The part of `whole`, which has the sign of the dividend, that is below the divisor in magnitude.
 fn cut_remainder(whole: Interval, top: i64) -> Option<Interval>
     ensures { IfSome result (λ r. (v : ℤ) → In whole v → (pos 0 -ℤ top) <ℤ v → v <ℤ top → In r v) }
 {

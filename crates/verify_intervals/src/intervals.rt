@@ -1,4 +1,4 @@
-//! Intervals as sets that lie in one another, and checked arithmetic on their bounds.
+//! Intervals as sets ordered by inclusion, and checked arithmetic on their bounds.
 
 ghost use Rattle.std.specs.Prelude.{◌≡◌, ◌≤ℤ◌, ◌<ℤ◌, ◌+◌, ◌+ℤ◌, ◌-ℤ◌, ◌*ℤ◌, ◌⊎◌, int_div, pos, IfSome, IsTrue};
 ghost use Rattle.verify_logic.specs.States.{Below, just};

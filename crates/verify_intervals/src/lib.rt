@@ -1,4 +1,4 @@
-//! Intervals of 64-bit numbers, and what the operators of C give on them.
+//! Intervals of 64-bit numbers, and the results of C's operators on them.
 #![tactic(auto)]
 
 mod abstract_values;

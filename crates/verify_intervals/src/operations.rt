@@ -1,4 +1,4 @@
-//! What operators give on intervals (6.5.3.3, 6.5.5 to 6.5.12). No answer says that undefined behaviour is not ruled out.
+//! Results of operators on intervals (6.5.3.3, 6.5.5 to 6.5.12). `None` means that undefined behaviour is not ruled out.
 
 ghost use Rattle.std.specs.Prelude.{◌≡◌, ◌≤ℤ◌, ◌<ℤ◌, ◌^◌, IfSome, IsTrue, pos};
 ghost use Rattle.ctypes.specs.Arithmetic.{magnitude};
@@ -28,7 +28,7 @@ pub fn all_of(ty: IntType) -> Interval
     }
 }
 
-/// What a conversion to the type gives.
+/// The result of a conversion to the type.
 pub fn conversion(ty: IntType, i: Interval) -> Interval
     ensures { Converts ty i result }
 {
@@ -271,7 +271,7 @@ fn masked(ty: IntType, i: Interval, j: Interval) -> Interval
     }
 }
 
-/// What a truth value may be: 0 or 1.
+/// The possible truth values: 0 or 1.
 pub fn truths() -> Interval
     ensures { result ≡ range_of IntType.Bool }
 {
@@ -350,7 +350,7 @@ fn difference_from_zero(ty: IntType, i: Interval) -> Option<Interval>
     difference(ty, Interval { low: 0, high: 0 }, i)
 }
 
-/// What `!` gives (6.5.3.3p5).
+/// The result of `!` (6.5.3.3p5).
 fn negated(i: Interval) -> Interval
     ensures { Negates i result }
 {

@@ -1,4 +1,4 @@
-//! Relations of two numbers, and what they tell of the intervals in which these lie.
+//! Relations of two numbers, and the bounds that they imply for the intervals of these numbers.
 
 ghost use Rattle.std.specs.Prelude.{IfSome, IsTrue};
 ghost use Rattle.verify_logic.specs.Relations.{Avoids, CutsAbove, CutsBelow, Narrows, Tells};
@@ -111,7 +111,7 @@ fn told_unequal(truth: bool) -> Option<Told>
     }
 }
 
-/// What an operator says by its truth.
+/// The relation that an operator's truth value implies.
 pub fn tell(op: BinOp, truth: bool) -> Option<Told>
     ensures { IfSome result (λ r. Tells op truth r.swapped r.relation) }
 {
@@ -142,7 +142,7 @@ pub struct Pair {
     pub right: Interval,
 }
 
-/// What does not lie above.
+/// The part of an interval that does not lie above.
 pub fn cut_above(i: Interval, top: i64) -> Interval
     ensures { CutsAbove i top result }
 {
@@ -156,7 +156,7 @@ pub fn cut_above(i: Interval, top: i64) -> Interval
     }
 }
 
-/// What does not lie below.
+/// The part of an interval that does not lie below.
 pub fn cut_below(i: Interval, bottom: i64) -> Interval
     ensures { CutsBelow i bottom result }
 {
@@ -202,7 +202,7 @@ fn same(i: Interval, j: Interval) -> Pair
     Pair { left, right }
 }
 
-/// What is another number than the only one of `j`.
+/// The numbers of `i` other than the only one of `j`.
 #[tactic(auto, using(verify_logic::proofs::Compares::avoids_low, verify_logic::proofs::Compares::avoids_high, verify_logic::proofs::Compares::avoids_same))]
 fn without(i: Interval, j: Interval) -> Interval
     ensures { Avoids i j result }
@@ -239,7 +239,7 @@ fn other(i: Interval, j: Interval) -> Pair
     Pair { left, right }
 }
 
-/// What a relation tells of two intervals.
+/// The intervals narrowed by a relation.
 pub fn narrowed(r: Relation, i: Interval, j: Interval) -> Pair
     ensures { Narrows r i j result.left result.right }
 {

@@ -1,21 +1,20 @@
 -- Objects of a call begin, and get their first values (6.2.4p6, 6.7.9).
-use Rattle.std.proofs.Common.{◌≡◌, ℕ, zero, suc, ◌+◌, ◌-◌, ◌<◌, ℤ, List, [], ◌∷◌, ◌++◌, map, length, refl, ap, sym, subst, ◌∙◌, arith}
+use Rattle.std.proofs.Common.{◌≡◌, ℕ, zero, suc, ◌+◌, ◌-◌, List, [], ◌∷◌, ◌++◌, map, length, refl, ap, sym, subst, arith}
 use Rattle.std.specs.Prelude.{Option, Some, None, false, slice_get}
 use Rattle.ctypes.specs.declared.types.IntType.{IntType}
 use Rattle.ctypes.specs.Types.{converted}
 use Rattle.typing_spec.specs.Types.{ObjectType}
 use Rattle.typing_spec.specs.Program as typed
 use Rattle.typing_spec.specs.Program.{Value, Initialiser, Statement}
-use Rattle.csem.specs.Store.{Tree, Element, Array, Row, no_parts, and_part, parts, Reference, whole, put, repeated, filled, indeterminate}
-use Rattle.csem.specs.Machine.{State, Run, Goes, then_do, tick, stored}
-use Rattle.csem.specs.Expressions.{evaluate}
-use Rattle.csem.specs.Statements.{Normal, Flow, new_object, own, renewed, all_renewed, initialise, define_object, execute}
+use Rattle.csem.specs.Store.{Tree, parts, whole, put, repeated, filled, indeterminate}
+use Rattle.csem.specs.Machine.{State, Goes, tick, stored}
+use Rattle.csem.specs.Statements.{Normal, new_object, own, renewed, all_renewed, initialise, define_object}
 use Rattle.csem.specs.Meaning.{calling}
 use Rattle.verify_logic.specs.declared.abstract_values.Interval.{Interval}
 use Rattle.verify_logic.specs.declared.abstract_values.AbsValue.{AbsValue}
-use Rattle.verify_logic.specs.States.{Frame, In, EachPart, TreeIs, or_scalar, lengths_in, shape_of, Reaches, Ends, Implies, Refers, Replaces, Writes}
+use Rattle.verify_logic.specs.States.{Known, Frame, EachPart, TreeIs, or_scalar, lengths_in, shape_of, Reaches, Ends, Refers, Replaces, Writes}
 use Rattle.verify_logic.specs.Judgements.{Evaluates, Converts}
-use Rattle.verify_logic.specs.Statements.{Ways, Leaves, Executes, Renews, RenewsOne, Initialises, only_normal}
+use Rattle.verify_logic.specs.Statements.{Leaves, Executes, Renews, RenewsOne, Initialises, only_normal}
 use Rattle.verify_logic.proofs.Runs.{then_ends, tick_ends}
 use Rattle.verify_logic.proofs.Rules.{value_then, based}
 
@@ -47,7 +46,7 @@ own_shape (l ∷ outer) objects n (suc x) t q e = let f : suc x ≡ suc (length 
 pub shape_at : (fr : Frame) (n x : ℕ) (t : ObjectType) → x ≡ length fr.outer + n → slice_get fr.objects n ≡ Some t → shape_of fr x ≡ t.lengths
 shape_at fr n x t e h = own_shape fr.outer fr.objects n x t e h
 
-pub renew_rule : (fr : Frame) (n x : ℕ) (t : ObjectType) (k : AbsValue) (o o2 : Option (List AbsValue)) → x ≡ length fr.outer + n → slice_get fr.objects n ≡ Some t → k.initialised ≡ false → Replaces o x k o2 → RenewsOne fr n o o2
+pub renew_rule : (fr : Frame) (n x : ℕ) (t : ObjectType) (k : AbsValue) (o o2 : Option Known) → x ≡ length fr.outer + n → slice_get fr.objects n ≡ Some t → k.initialised ≡ false → Replaces o x k o2 → RenewsOne fr n o o2
 renew_rule fr n x t k o o2 e h i r = record {
   is = λ s c.
       let P : ℕ → Type 0 = λ y. Reaches fr o2 (record s { store = put s.store (whole y) (new_object (slice_get fr.objects n)) }) in
@@ -58,10 +57,10 @@ renew_rule fr n x t k o o2 e h i r = record {
       let q : x ≡ s.base + n = omega (arith, e, b) in subst P q (r.is fr s (new_object (slice_get fr.objects n)) c new);
 }
 
-pub none_renewed : (fr : Frame) (first count : ℕ) (o : Option (List AbsValue)) → count ≡ 0 → Renews fr first count o o
+pub none_renewed : (fr : Frame) (first count : ℕ) (o : Option Known) → count ≡ 0 → Renews fr first count o o
 none_renewed fr first count o e = let P : ℕ → Type 0 = λ n. Renews fr first n o o in subst P (sym e) (record { is = λ s h. h })
 
-pub more_renewed : (fr : Frame) (first second count : ℕ) (o o2 o3 : Option (List AbsValue)) → second ≡ first + 1 → (count ≡ 0 → ⊥) → RenewsOne fr first o o2 → Renews fr second (count - 1) o2 o3 → Renews fr first count o o3
+pub more_renewed : (fr : Frame) (first second count : ℕ) (o o2 o3 : Option Known) → second ≡ first + 1 → (count ≡ 0 → ⊥) → RenewsOne fr first o o2 → Renews fr second (count - 1) o2 o3 → Renews fr first count o o3
 more_renewed fr first second zero o o2 o3 e z one h = absurd (z refl)
 more_renewed fr first second (suc k) o o2 o3 e z one h = record {
   is = λ s c.
@@ -72,25 +71,25 @@ more_renewed fr first second (suc k) o o2 o3 e z one h = record {
       subst Q q2 (subst P q (h.is (renewed fr.objects first s) (one.is s c)));
 }
 
-pub declare_rule : (fr : Frame) (n : ℕ) (o o2 : Option (List AbsValue)) (k : AbsValue) → RenewsOne fr n o o2 → Executes fr (typed.declare n) o (only_normal k o2)
+pub declare_rule : (fr : Frame) (n : ℕ) (o o2 : Option Known) (k : AbsValue) → RenewsOne fr n o o2 → Executes fr (typed.declare n) o (only_normal k o2)
 declare_rule fr n o o2 k r = record { runs = λ d s c. tick_ends fr.listed s (λ s. Goes Normal (renewed fr.objects n s)) (Leaves fr (only_normal k o2)) (λ m. r.is (record s { clock = m }) c) }
 
 -- ---- first values (6.7.9)
 
-pub one_value_rule : (fr : Frame) (u : IntType) (e : Value) (t : IntType) (x : ℕ) (o : Option (List AbsValue)) (i : Interval) (o2 : Option (List AbsValue)) (r : Interval) (o3 : Option (List AbsValue)) →
-    Evaluates fr e o i o2 → Converts u i r → Writes fr o2 x r o3 → Initialises fr (typed.one_value u e) t x [] o o3
+pub one_value_rule : (fr : Frame) (u : IntType) (e : Value) (t : IntType) (x : ℕ) (o : Option Known) (i : Interval) (o2 : Option Known) (r : Interval) (o3 : Option Known) →
+    Evaluates fr e o i o2 → Converts u i r → Writes fr o2 x None r o3 → Initialises fr (typed.one_value u e) t x [] o o3
 one_value_rule fr u e t x o i o2 r o3 h cv w = record {
   runs = λ d to s f c.
       value_then fr d e o i o2 s (λ v s. tick s (λ s. Goes (tt {0}) (stored to (converted u v) s))) (λ u2 s2. Reaches fr o3 s2) h c (λ v s2 m c2.
-      tick_ends fr.listed s2 (λ s. Goes (tt {0}) (stored to (converted u v) s)) (λ u2 s2. Reaches fr o3 s2) (λ k. w.is (record s2 { clock = k }) to (converted u v) c2 f (cv.gives v m)));
+      tick_ends fr.listed s2 (λ s. Goes (tt {0}) (stored to (converted u v) s)) (λ u2 s2. Reaches fr o3 s2) (λ k. w.is (record s2 { clock = k }) to (converted u v) c2 f tt (cv.gives v m)));
 }
 
-pub in_braces_rule : (fr : Frame) (i : Initialiser) (t : IntType) (x : ℕ) (rest : List ℕ) (o o2 : Option (List AbsValue)) → Initialises fr i t x rest o o2 → Initialises fr (typed.in_braces i) t x rest o o2
+pub in_braces_rule : (fr : Frame) (i : Initialiser) (t : IntType) (x : ℕ) (rest : List ℕ) (o o2 : Option Known) → Initialises fr i t x rest o o2 → Initialises fr (typed.in_braces i) t x rest o o2
 in_braces_rule fr i t x rest o o2 h = record {
   runs = λ d to s f c. tick_ends fr.listed s (λ s. initialise fr.program (calling fr.program d) i t rest to s) (λ u2 s2. Reaches fr o2 s2) (λ n. h.runs d to (record s { clock = n }) f c);
 }
 
-define_object_ends : (fr : Frame) (n x : ℕ) (t : ObjectType) (i : Initialiser) (o o2 : Option (List AbsValue)) (k : AbsValue) (d : ℕ) (s : State) → x ≡ length fr.outer + n → slice_get fr.objects n ≡ Some t →
+define_object_ends : (fr : Frame) (n x : ℕ) (t : ObjectType) (i : Initialiser) (o o2 : Option Known) (k : AbsValue) (d : ℕ) (s : State) → x ≡ length fr.outer + n → slice_get fr.objects n ≡ Some t →
     Initialises fr i t.element x t.lengths o o2 → Reaches fr o s → Ends fr.listed (define_object fr.program (calling fr.program d) fr.objects (Some t) n i s) (Leaves fr (only_normal k o2))
 define_object_ends fr n x t i o o2 k d s e h g c =
     let b : s.base ≡ length fr.outer = based fr o s c in
@@ -99,7 +98,7 @@ define_object_ends fr n x t i o o2 k d s e h g c =
     let f : Refers fr x t.lengths (own n s) = subst L (shape_at fr n x t e h) (record { object = q; path = refl }) in
     then_ends fr.listed (initialise fr.program (calling fr.program d) i t.element t.lengths (own n s) s) (λ u s. Goes Normal s) (λ u s2. Reaches fr o2 s2) (Leaves fr (only_normal k o2)) (g.runs d (own n s) s f c) (λ u s2 c2. c2)
 
-pub define_rule : (fr : Frame) (n x : ℕ) (t : ObjectType) (i : Initialiser) (o o2 o3 : Option (List AbsValue)) (k : AbsValue) → x ≡ length fr.outer + n → slice_get fr.objects n ≡ Some t → RenewsOne fr n o o2 →
+pub define_rule : (fr : Frame) (n x : ℕ) (t : ObjectType) (i : Initialiser) (o o2 o3 : Option Known) (k : AbsValue) → x ≡ length fr.outer + n → slice_get fr.objects n ≡ Some t → RenewsOne fr n o o2 →
     Initialises fr i t.element x t.lengths o2 o3 → Executes fr (typed.define n i) o (only_normal k o3)
 define_rule fr n x t i o o2 o3 k e h one g = record {
   runs = λ d s c.

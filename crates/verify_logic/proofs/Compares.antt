@@ -1,5 +1,5 @@
--- What comparisons tell.
-use Rattle.std.proofs.Common.{◌≡◌, ◌⊎◌, inl, inr, ℕ, zero, suc, ℤ, pos, ◌+ℤ◌, ◌-ℤ◌, ◌≤ℤ◌, List, [], ◌∷◌, length, refl, ap, sym, subst, arith, ◌∙◌}
+-- Consequences of comparisons.
+use Rattle.std.proofs.Common.{◌≡◌, ◌⊎◌, inl, inr, ℕ, zero, suc, ℤ, pos, ◌+ℤ◌, ◌-ℤ◌, ◌≤ℤ◌, List, [], ◌∷◌, refl, ap, sym, subst, arith, ◌∙◌}
 use Rattle.std.proofs.lemmas.Int.{ints, by_lt_z}
 use Rattle.std.specs.Prelude.{◌<ℤ◌, int_lt, int_le, Bool, true, false, ◌&&◌, ◌||◌, Option, Some, None, slice_get, slice_set, Result, Ok, Err}
 use Rattle.srcset.specs.declared.refusal.Pos.{Pos}
@@ -13,17 +13,18 @@ use Rattle.ctypes.proofs.Uses.{converted_keeps}
 use Rattle.typing_spec.specs.Operators.{right_operand}
 use Rattle.typing_spec.specs.Program as typed
 use Rattle.typing_spec.specs.Program.{Place, Value, Program}
-use Rattle.csem.specs.Store.{Tree, Element, Array, Store, Reference, whole, value_of, value_at, at_path}
-use Rattle.csem.specs.Machine.{State, Run, Goes, computed_at, read, value_or_undefined}
+use Rattle.csem.specs.Store.{Tree, Element, Array, Store, value_of, value_at, at_path}
+use Rattle.csem.specs.Machine.{State, Goes, computed_at, value_or_undefined}
 use Rattle.csem.specs.Expressions.{find, evaluate, position_of}
 use Rattle.csem.specs.Meaning.{calling}
 use Rattle.verify_logic.specs.declared.abstract_values.Interval.{Interval}
 use Rattle.verify_logic.specs.declared.abstract_values.AbsValue.{AbsValue}
+use Rattle.verify_logic.specs.declared.abstract_values.Fact.{Fact}
 use Rattle.verify_logic.specs.declared.operands.Operand.{Operand}
 use Rattle.verify_logic.specs.declared.operands.Operand.TheVariants.{Number, Object}
 use Rattle.verify_logic.specs.declared.operands.Relation.{Relation}
 use Rattle.verify_logic.specs.declared.operands.Relation.TheVariants as relation
-use Rattle.verify_logic.specs.States.{Frame, In, ValueIs, TreeIs, ObjectIs, ObjectsAre, Reaches, Ends, Below, range_of, shapes_of, shape_of, Along, Refers, Contents}
+use Rattle.verify_logic.specs.States.{Known, Frame, In, ValueIs, TreeIs, ObjectsAre, FactsAre, Reaches, Ends, Below, range_of, shapes_of, shape_of, Along, Refers, Contents}
 use Rattle.verify_logic.specs.Judgements.{Tests, either_way}
 use Rattle.verify_logic.specs.Places.{FindsAt}
 use Rattle.verify_logic.specs.Relations.{Tells, Narrows, CutsAbove, CutsBelow, Avoids, HasValue, OperandIs, Looks, Restricts, RestrictsBoth, Learns}
@@ -122,10 +123,10 @@ other_no = record { is = λ t v w x e b. other_false v w (truth_back (int_lt v w
 -- ---- operands
 
 -- the store is as it was
-abbrev Seen : Interval → Operand → Frame → Option (List AbsValue) → Store → ℤ → State → Type 0
+abbrev Seen : Interval → Operand → Frame → Option Known → Store → ℤ → State → Type 0
 Seen i a fr o store v s = In i v × OperandIs a v s.store × (s.store ≡ store) × Reaches fr o s
 
-pub number_looks : (fr : Frame) (t : IntType) (v u : ℤ) (o : Option (List AbsValue)) (i : Interval) → In i v → v ≡ u → Looks fr (typed.constant t v) o (Number u) i
+pub number_looks : (fr : Frame) (t : IntType) (v u : ℤ) (o : Option Known) (i : Interval) → In i v → v ≡ u → Looks fr (typed.constant t v) o (Number u) i
 number_looks fr t v u o i m e = record { runs = λ d s c. tick_ends fr.listed s (λ s. Goes v s) (Seen i (Number u) fr o s.store) (λ n. (m, e, refl, c)) }
 
 look_value : (al : List Pos) (at : Pos) (w : Option ℤ) (s : State) (k : AbsValue) (rest : ℤ → State → Type 0) → k.initialised ≡ true → ValueIs k w → ((v : ℤ) → w ≡ Some v → In k.interval v → rest v s) → Ends al (value_or_undefined at w s) rest
@@ -138,7 +139,7 @@ whole_path lengths [] e a = refl
 whole_path [] (i ∷ path) e a = absurd a
 whole_path (n ∷ lengths) (i ∷ path) e a = absurd (cc e)
 
-pub read_looks : (fr : Frame) (t : IntType) (place : Place) (x : ℕ) (o : Option (List AbsValue)) (k : AbsValue) → FindsAt fr place x [] → shape_of fr x ≡ [] → Contents o x k → k.initialised ≡ true → Looks fr (typed.read t place) o (Object x) k.interval
+pub read_looks : (fr : Frame) (t : IntType) (place : Place) (x : ℕ) (o : Option Known) (k : AbsValue) → FindsAt fr place x [] → shape_of fr x ≡ [] → Contents o x k → k.initialised ≡ true → Looks fr (typed.read t place) o (Object x) k.interval
 read_looks fr t place x o k f e g i = record {
   runs = λ d s c.
       then_ends fr.listed (find fr.program (calling fr.program d) place s) _ (λ r s2. Refers fr x [] r × Reaches fr o s2 × (s2.store ≡ s.store)) (Seen k.interval (Object x) fr o s.store) (f.runs d o s c) (λ r s2 m.
@@ -151,10 +152,10 @@ read_looks fr t place x o k f e g i = record {
 pub none_restricts : (x : ℕ) (i : Interval) → Restricts (Object x) i None None
 none_restricts x i = record { is = λ fr s v e m h. absurd h }
 
-pub same_restricts : (a : Operand) (i : Interval) (o : Option (List AbsValue)) → Restricts a i o o
+pub same_restricts : (a : Operand) (i : Interval) (o : Option Known) → Restricts a i o o
 same_restricts a i o = record { is = λ fr s v e m h. h }
 
-pub empty_restricts : (a : Operand) (i : Interval) (o : Option (List AbsValue)) → i.high <ℤ i.low → Restricts a i o None
+pub empty_restricts : (a : Operand) (i : Interval) (o : Option Known) → i.high <ℤ i.low → Restricts a i o None
 empty_restricts a i o l = record { is = λ fr s v e m h. omega (arith, ints, l, m.0, m.1) }
 
 -- the value of an element lies in the interval
@@ -172,10 +173,13 @@ restricted_objects (a ∷ ks) (l ∷ shapes) [] x k v e m h = absurd h
 restricted_objects (a ∷ ks) (l ∷ shapes) (t ∷ store) zero k v e m h = (restricted_tree a k l t v e m h.0, h.1)
 restricted_objects (a ∷ ks) (l ∷ shapes) (t ∷ store) (suc x) k v e m h = (h.0, restricted_objects ks shapes store x k v e m h.1)
 
-pub set_restricts : (xs ys : List AbsValue) (x : ℕ) (k : AbsValue) → ys ≡ slice_set xs x k → Restricts (Object x) k.interval (Some xs) (Some ys)
-set_restricts xs ys x k e = let P : List AbsValue → Type 0 = λ ys. Restricts (Object x) k.interval (Some xs) (Some ys) in subst P (sym e) (record {
-  is = λ fr s v q m h. with_objects fr xs (slice_set xs x k) s.base s.arrays s.store s.store s.input h (restricted_objects xs (shapes_of fr) s.store x k v q m h.objects_are);
-})
+pub set_restricts : (a b : Known) (x : ℕ) (k : AbsValue) → b.objects ≡ slice_set a.objects x k → b.facts ≡ a.facts → Restricts (Object x) k.interval (Some a) (Some b)
+set_restricts a b x k e d = record {
+  is = λ fr s v q m h.
+      let P : List AbsValue → Type 0 = λ ys. ObjectsAre ys (shapes_of fr) s.store in
+      let F : List Fact → Type 0 = λ facts. FactsAre facts s.store in
+      with_objects fr a b s.base s.arrays s.store s.store s.input h (subst P (sym e) (restricted_objects a.objects (shapes_of fr) s.store x k v q m h.objects_are)) (subst F (sym d) h.facts_are);
+}
 
 -- ---- intervals
 
@@ -220,17 +224,17 @@ other_narrows i j left right f g = record { is = λ v w m n h. (f.is v w m n h, 
 
 -- ---- comparisons
 
-pub both_restrict : (a : Operand) (i : Interval) (b : Operand) (j : Interval) (o o2 o3 : Option (List AbsValue)) → Restricts a i o o2 → Restricts b j o2 o3 → RestrictsBoth a i b j o o3
+pub both_restrict : (a : Operand) (i : Interval) (b : Operand) (j : Interval) (o o2 o3 : Option Known) → Restricts a i o o2 → Restricts b j o2 o3 → RestrictsBoth a i b j o o3
 both_restrict a i b j o o2 o3 f g = record { is = λ fr s v w ox oy m n h. g.is fr s w oy n (f.is fr s v ox m h) }
 
-pub learns_straight : (op : BinOp) (b : Bool) (r : Relation) (x y : Operand) (i j i2 j2 : Interval) (o o3 : Option (List AbsValue)) → Tells op b false r → Narrows r i j i2 j2 → RestrictsBoth x i2 y j2 o o3 → Learns op b x i y j o o3
+pub learns_straight : (op : BinOp) (b : Bool) (r : Relation) (x y : Operand) (i j i2 j2 : Interval) (o o3 : Option Known) → Tells op b false r → Narrows r i j i2 j2 → RestrictsBoth x i2 y j2 o o3 → Learns op b x i y j o o3
 learns_straight op b r x y i j i2 j2 o o3 t n f = record {
   is = λ fr s ty v w res m q ox oy ce te h. let k = n.is v w m q (t.is ty v w res ce te) in f.is fr s v w ox oy k.0 k.1 h;
   has = t.has;
   right = t.right;
 }
 
-pub learns_swapped : (op : BinOp) (b : Bool) (r : Relation) (x y : Operand) (i j i2 j2 : Interval) (o o3 : Option (List AbsValue)) → Tells op b true r → Narrows r j i j2 i2 → RestrictsBoth y j2 x i2 o o3 → Learns op b x i y j o o3
+pub learns_swapped : (op : BinOp) (b : Bool) (r : Relation) (x y : Operand) (i j i2 j2 : Interval) (o o3 : Option Known) → Tells op b true r → Narrows r j i j2 i2 → RestrictsBoth y j2 x i2 o o3 → Learns op b x i y j o o3
 learns_swapped op b r x y i j i2 j2 o o3 t n f = record {
   is = λ fr s ty v w res m q ox oy ce te h. let k = n.is w v q m (t.is ty v w res ce te) in f.is fr s w v oy ox k.0 k.1 h;
   has = t.has;
@@ -240,8 +244,8 @@ learns_swapped op b r x y i j i2 j2 o o3 t n f = record {
 pub tells_at : (op : BinOp) (b c sw : Bool) (r : Relation) → b ≡ c → Tells op c sw r → Tells op b sw r
 tells_at op b c sw r e h = let P : Bool → Type 0 = λ b. Tells op b sw r in subst P (sym e) h
 
--- an operation's value, and what is known by its truth
-computed_way : (at : Pos) (r : Result ℤ Undef) (s : State) (fr : Frame) (on off : Option (List AbsValue)) → HasValue r → ((x : ℤ) → r ≡ Ok x → truth x ≡ true → Reaches fr on s) → ((x : ℤ) → r ≡ Ok x → truth x ≡ false → Reaches fr off s) →
+-- an operation's value, and the abstract state by its truth
+computed_way : (at : Pos) (r : Result ℤ Undef) (s : State) (fr : Frame) (on off : Option Known) → HasValue r → ((x : ℤ) → r ≡ Ok x → truth x ≡ true → Reaches fr on s) → ((x : ℤ) → r ≡ Ok x → truth x ≡ false → Reaches fr off s) →
     Ends fr.listed (computed_at at r s) (λ v s2. Reaches fr (either_way (truth v) on off) s2)
 computed_way at (Err act) s fr on off h f g = absurd h
 computed_way at (Ok x) s fr on off h f g = way (truth x) (f x refl) (g x refl)
@@ -250,7 +254,7 @@ computed_way at (Ok x) s fr on off h f g = way (truth x) (f x refl) (g x refl)
     way true f g = f refl
     way false f g = g refl
 
-pub compare_rule : (fr : Frame) (at : Pos) (op : BinOp) (t : IntType) (a b : Value) (o : Option (List AbsValue)) (x y : Operand) (i j : Interval) (on off : Option (List AbsValue)) → Looks fr a o x i → Looks fr b o y j →
+pub compare_rule : (fr : Frame) (at : Pos) (op : BinOp) (t : IntType) (a b : Value) (o : Option Known) (x y : Operand) (i j : Interval) (on off : Option Known) → Looks fr a o x i → Looks fr b o y j →
     Below i (range_of t) → Below j (range_of t) → Learns op true x i y j o on → Learns op false x i y j o off → Tests fr (typed.binary at op t a b) o on off
 compare_rule fr at op t a b o x y i j on off ha hb bi bj lt lf = record {
   runs = λ d s c.
@@ -268,7 +272,7 @@ compare_rule fr at op t a b o x y i j on off ha hb bi bj lt lf = record {
       (λ r ce te. lt.is fr s3 t v w r m.0 q.0 ox q.1 ce te q.3) (λ r ce te. lf.is fr s3 t v w r m.0 q.0 ox q.1 ce te q.3))))));
 }
 
-pub compare_fits : (fr : Frame) (at : Pos) (op : BinOp) (t : IntType) (a b : Value) (o : Option (List AbsValue)) (x y : Operand) (i j all : Interval) (on off : Option (List AbsValue)) → all ≡ range_of t → Looks fr a o x i → Looks fr b o y j →
+pub compare_fits : (fr : Frame) (at : Pos) (op : BinOp) (t : IntType) (a b : Value) (o : Option Known) (x y : Operand) (i j all : Interval) (on off : Option Known) → all ≡ range_of t → Looks fr a o x i → Looks fr b o y j →
     Below i all → Below j all → Learns op true x i y j o on → Learns op false x i y j o off → Tests fr (typed.binary at op t a b) o on off
 compare_fits fr at op t a b o x y i j all on off e ha hb bi bj lt lf = let P : Interval → Type 0 = λ all. Below i all in let Q : Interval → Type 0 = λ all. Below j all in
     compare_rule fr at op t a b o x y i j on off ha hb (subst P e bi) (subst Q e bj) lt lf

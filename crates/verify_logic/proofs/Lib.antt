@@ -1,5 +1,6 @@
 pub mod Runs
 pub mod Objects
+pub mod Facts
 pub mod Rules
 pub mod Splits
 pub mod StatementRules

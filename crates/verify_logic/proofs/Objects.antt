@@ -1,14 +1,14 @@
--- What is known of one object, and of all: what implies what, what is read, and what a write leaves.
-use Rattle.std.proofs.Common.{◌≡◌, ℕ, zero, suc, ◌+◌, ◌<◌, ◌≤◌, ℤ, ◌≤ℤ◌, List, [], ◌∷◌, ◌++◌, length, take, get_or, refl, ap, subst, sym, ◌∙◌, arith, add-one, Option, Some, None, Bool, true, false}
+-- Abstract values of one object, and of all: implications, reads, and the effect of a write.
+use Rattle.std.proofs.Common.{◌≡◌, ℕ, zero, suc, ◌+◌, ◌<◌, ◌≤◌, ℤ, List, [], ◌∷◌, ◌++◌, length, take, get_or, refl, ap, subst, sym, ◌∙◌, arith, add-one, Option, Some, None, true, false}
 use Rattle.std.proofs.lemmas.Int.{ints}
 use Rattle.std.proofs.lemmas.List.{take_all}
 use Rattle.std.proofs.Math.Seq.{take-suc}
-use Rattle.std.specs.Prelude.{slice_get, slice_set, IfOk, Result, Ok, Err}
-use Rattle.csem.specs.Store.{Tree, Element, Array, Row, no_parts, and_part, parts, part_of, part_in, at_path, change_part, change_in, put_at, Store, Reference, whole, value_of, put_in}
+use Rattle.std.specs.Prelude.{slice_get, slice_set}
+use Rattle.csem.specs.Store.{Tree, Element, Array, Row, no_parts, and_part, parts, part_of, at_path, change_part, put_at, Store, Reference, put_in}
 use Rattle.csem.specs.Machine.{State, stored}
 use Rattle.verify_logic.specs.declared.abstract_values.Interval.{Interval}
 use Rattle.verify_logic.specs.declared.abstract_values.AbsValue.{AbsValue}
-use Rattle.verify_logic.specs.States.{Frame, In, ValueIs, EachPart, TreeIs, ObjectsAre, or_scalar, shapes_of, shape_of, Holds, Reaches, Below, Entails, EachEntails, Implies, Along, Refers, ObjectIs, Contents, Replaces, Writes}
+use Rattle.verify_logic.specs.States.{Known, Frame, In, ValueIs, EachPart, TreeIs, ObjectsAre, or_scalar, shapes_of, shape_of, Holds, Reaches, Below, Entails, EachEntails, Implies, Along, Refers, ObjectIs, FactsAre, KnownEntails, SubscriptIs, Contents, Forgets, Changes, Replaces, Writes}
 
 pub below : (i j : Interval) (v : ℤ) → Below i j → In i v → In j v
 below i j v h m = (omega (arith, ints, h.0, m.0), omega (arith, ints, h.1, m.1))
@@ -59,21 +59,21 @@ objects_entail (a ∷ rest) (b ∷ bs) (l ∷ shapes) [] h g = absurd g
 objects_entail (a ∷ rest) (b ∷ bs) (l ∷ shapes) (t ∷ store) h g = (tree_entails a b l h.0 t g.0, objects_entail rest bs shapes store h.1 g.1)
 
 -- with other objects
-pub with_objects : (fr : Frame) (xs ys : List AbsValue) (base : ℕ) (arrays : List Reference) (store store2 : Store) (input : List ℕ) → Holds fr xs base arrays store input → ObjectsAre ys (shapes_of fr) store2 → Holds fr ys base arrays store2 input
-with_objects fr xs ys base arrays store store2 input h g = record { based = h.based; referred = h.referred; objects_are = g; bytes = h.bytes; sound = h.sound }
+pub with_objects : (fr : Frame) (a b : Known) (base : ℕ) (arrays : List Reference) (store store2 : Store) (input : List ℕ) → Holds fr a base arrays store input → ObjectsAre b.objects (shapes_of fr) store2 → FactsAre b.facts store2 → Holds fr b base arrays store2 input
+with_objects fr a b base arrays store store2 input h g f = record { based = h.based; referred = h.referred; objects_are = g; facts_are = f; bytes = h.bytes; sound = h.sound }
 
-pub implies_each : (xs ys : List AbsValue) → EachEntails xs ys → Implies (Some xs) (Some ys)
-implies_each xs ys h = record {
-  is = λ fr s c. with_objects fr xs ys s.base s.arrays s.store s.store s.input c (objects_entail xs ys (shapes_of fr) s.store h c.objects_are);
+pub implies_each : (a b : Known) → KnownEntails a b → Implies (Some a) (Some b)
+implies_each a b h = record {
+  is = λ fr s c. with_objects fr a b s.base s.arrays s.store s.store s.input c (objects_entail a.objects b.objects (shapes_of fr) s.store h.objects c.objects_are) (h.facts.is s.store c.facts_are);
 }
 
-pub implies_same : (o : Option (List AbsValue)) → Implies o o
+pub implies_same : (o : Option Known) → Implies o o
 implies_same o = record { is = λ fr s h. h }
 
-pub none_implies : (o : Option (List AbsValue)) → Implies None o
+pub none_implies : (o : Option Known) → Implies None o
 none_implies o = record { is = λ fr s h. absurd h }
 
-pub implies_then : (o o2 o3 : Option (List AbsValue)) → Implies o o2 → Implies o2 o3 → Implies o o3
+pub implies_then : (o o2 o3 : Option Known) → Implies o o2 → Implies o2 o3 → Implies o o3
 implies_then o o2 o3 f g = record { is = λ fr s h. g.is fr s (f.is fr s h) }
 
 -- ---- one object
@@ -88,8 +88,8 @@ object_at (a ∷ ks) (l ∷ shapes) (t ∷ store) (suc x) k h e = object_at ks s
 pub none_contents : (x : ℕ) (k : AbsValue) → Contents None x k
 none_contents x k = record { is = λ fr s h. absurd h }
 
-pub some_contents : (xs : List AbsValue) (x : ℕ) (k : AbsValue) → slice_get xs x ≡ Some k → Contents (Some xs) x k
-some_contents xs x k e = record { is = λ fr s h. object_at xs (shapes_of fr) s.store x k h.objects_are e }
+pub some_contents : (known : Known) (x : ℕ) (k : AbsValue) → slice_get known.objects x ≡ Some k → Contents (Some known) x k
+some_contents known x k e = record { is = λ fr s h. object_at known.objects (shapes_of fr) s.store x k h.objects_are e }
 
 -- ---- the element at a reference
 
@@ -139,49 +139,39 @@ put_objects (a ∷ ks) (l ∷ shapes) [] x path k new f h = absurd h
 put_objects (a ∷ ks) (l ∷ shapes) (t ∷ store) zero path k new f h = (f t refl, h.1)
 put_objects (a ∷ ks) (l ∷ shapes) (t ∷ store) (suc x) path k new f h = (h.0, put_objects ks shapes store x path k new f h.1)
 
-pub none_replaces : (x : ℕ) (k : AbsValue) (o : Option (List AbsValue)) → Replaces None x k o
+pub none_replaces : (x : ℕ) (k : AbsValue) (o : Option Known) → Replaces None x k o
 none_replaces x k o = record { is = λ fr s new h m. absurd h }
 
-some_replaces : (xs : List AbsValue) (x : ℕ) (k : AbsValue) → Replaces (Some xs) x k (Some (slice_set xs x k))
-some_replaces xs x k = record {
-  is = λ fr s new h m. with_objects fr xs (slice_set xs x k) s.base s.arrays s.store (put_in s.store x [] new) s.input h (put_objects xs (shapes_of fr) s.store x [] k new (λ t e. m) h.objects_are);
+pub set_replaces : (a b : Known) (x : ℕ) (k : AbsValue) → b.objects ≡ slice_set a.objects x k → Forgets x a.facts b.facts → Replaces (Some a) x k (Some b)
+set_replaces a b x k d f = record {
+  is = λ fr s new h m.
+      let P : List AbsValue → Type 0 = λ ys. ObjectsAre ys (shapes_of fr) (put_in s.store x [] new) in
+      with_objects fr a b s.base s.arrays s.store (put_in s.store x [] new) s.input h (subst P (sym d) (put_objects a.objects (shapes_of fr) s.store x [] k new (λ t e. m) h.objects_are)) (f.is s.store [] new h.facts_are);
 }
 
-pub set_replaces : (xs ys : List AbsValue) (x : ℕ) (k : AbsValue) → ys ≡ slice_set xs x k → Replaces (Some xs) x k (Some ys)
-set_replaces xs ys x k d = let Q : List AbsValue → Type 0 = λ ys. Replaces (Some xs) x k (Some ys) in subst Q (sym d) (some_replaces xs x k)
+pub none_writes : (fr : Frame) (x : ℕ) (sub : Option Interval) (i : Interval) (o : Option Known) → Writes fr None x sub i o
+none_writes fr x sub i o = record { is = λ s r v h f q m. absurd h }
 
-pub none_writes : (fr : Frame) (x : ℕ) (i : Interval) (o : Option (List AbsValue)) → Writes fr None x i o
-none_writes fr x i o = record { is = λ s r v h f m. absurd h }
-
--- a scalar has the new value
-scalar_put : (lengths path : List ℕ) (k : AbsValue) (i : Interval) (v : ℤ) (t : Tree) → lengths ≡ [] → Along lengths path [] → Entails (record { initialised = true; interval = i }) k → In i v →
-    TreeIs k lengths (put_at path (Element (Some v)) t)
-scalar_put [] [] k i v t e a f m = f.is (Some v) m
-scalar_put [] (n ∷ path) k i v t e a f m = absurd a
-scalar_put (l ∷ lengths) path k i v t e a f m = absurd (cc e)
-
-pub scalar_writes : (fr : Frame) (xs ys : List AbsValue) (x : ℕ) (k : AbsValue) (i : Interval) → shape_of fr x ≡ [] → Entails (record { initialised = true; interval = i }) k → ys ≡ slice_set xs x k → Writes fr (Some xs) x i (Some ys)
-scalar_writes fr xs ys x k i e f d = let Q : List AbsValue → Type 0 = λ ys. Writes fr (Some xs) x i (Some ys) in subst Q (sym d) (record {
-  is = λ s r v h g m.
-      let P : ℕ → Type 0 = λ y. ObjectsAre (slice_set xs x k) (shapes_of fr) (put_in s.store y r.path (Element (Some v))) in
-      with_objects fr xs (slice_set xs x k) s.base s.arrays s.store (put_in s.store r.object r.path (Element (Some v))) s.input h
-      (subst P (sym g.object) (put_objects xs (shapes_of fr) s.store x r.path k (Element (Some v)) (λ t q. scalar_put (shape_of fr x) r.path k i v t e g.path f m) h.objects_are));
-})
-
--- an element of an array is what it was, or has the new value
-pub array_writes : (fr : Frame) (xs ys : List AbsValue) (x : ℕ) (old k : AbsValue) (i : Interval) → slice_get xs x ≡ Some old → Entails old k → Entails (record { initialised = true; interval = i }) k → ys ≡ slice_set xs x k →
-    Writes fr (Some xs) x i (Some ys)
-array_writes fr xs ys x old k i eo f g d = let Q : List AbsValue → Type 0 = λ ys. Writes fr (Some xs) x i (Some ys) in subst Q (sym d) (record {
-  is = λ s r v h q m.
-      let P : ℕ → Type 0 = λ y. ObjectsAre (slice_set xs x k) (shapes_of fr) (put_in s.store y r.path (Element (Some v))) in
-      with_objects fr xs (slice_set xs x k) s.base s.arrays s.store (put_in s.store r.object r.path (Element (Some v))) s.input h
-      (subst P (sym q.object) (put_objects xs (shapes_of fr) s.store x r.path k (Element (Some v)) (λ t e. at s r v t q.path m e (object_at xs (shapes_of fr) s.store x old h.objects_are eo)) h.objects_are));
-})
+-- an element of an array keeps its value, or has the new one
+pub array_writes : (fr : Frame) (a b : Known) (x : ℕ) (old k : AbsValue) (sub : Option Interval) (i : Interval) → slice_get a.objects x ≡ Some old → Entails old k → Entails (record { initialised = true; interval = i }) k → b.objects ≡ slice_set a.objects x k →
+    Changes x sub i a.facts b.facts → Writes fr (Some a) x sub i (Some b)
+array_writes fr a b x old k sub i eo f g d ch = record { is = λ s r v h q u m. at s r v h q u m (slice_get s.store x) refl (object_at a.objects (shapes_of fr) s.store x old h.objects_are eo) }
   where
-    at : (s : State) (r : Reference) (v : ℤ) (t : Tree) → Along (shape_of fr x) r.path [] → In i v → slice_get s.store x ≡ Some t → ObjectIs old (shape_of fr x) (slice_get s.store x) →
-        TreeIs k (shape_of fr x) (put_at r.path (Element (Some v)) t)
-    at s r v t a m e h = let P : Option Tree → Type 0 = λ o. ObjectIs old (shape_of fr x) o in
-        put_is k (shape_of fr x) r.path [] (Element (Some v)) a (g.is (Some v) m) t (tree_entails old k (shape_of fr x) f t (subst P e h))
+    at : (s : State) (r : Reference) (v : ℤ) → Holds fr a s.base s.arrays s.store s.input → Refers fr x [] r → SubscriptIs sub r.path → In i v → (t : Option Tree) → t ≡ slice_get s.store x → ObjectIs old (shape_of fr x) t → Reaches fr (Some b) (stored r v s)
+    at s r v h q u m None e c = absurd c
+    at s r v h q u m (Some t) e c =
+        let new : Tree = Element (Some v) in
+        let deep = path_is old (shape_of fr x) r.path [] t q.path c in
+        let O : Option Tree → Type 0 = λ o. at_path o r.path ≡ Some deep.0 in
+        let P : ℕ → Type 0 = λ y. ObjectsAre b.objects (shapes_of fr) (put_in s.store y r.path new) in
+        let F : ℕ → Type 0 = λ y. FactsAre b.facts (put_in s.store y r.path new) in
+        let Q : List AbsValue → Type 0 = λ ys. ObjectsAre ys (shapes_of fr) (put_in s.store x r.path new) in
+        let is : (t2 : Tree) → slice_get s.store x ≡ Some t2 → TreeIs k (shape_of fr x) (put_at r.path new t2) =
+        λ t2 e2. (let same : t ≡ t2 = (let z : Some t ≡ Some t2 = e ∙ e2 in cc z) in let T : Tree → Type 0 = λ t. TreeIs k (shape_of fr x) (put_at r.path new t) in
+        subst T same (put_is k (shape_of fr x) r.path [] new q.path (g.is (Some v) m) t (tree_entails old k (shape_of fr x) f t c))) in
+        with_objects fr a b s.base s.arrays s.store (put_in s.store r.object r.path new) s.input h
+        (subst P (sym q.object) (subst Q (sym d) (put_objects a.objects (shapes_of fr) s.store x r.path k new is h.objects_are)))
+        (subst F (sym q.object) (ch.is s.store r.path v deep.0 (subst O e deep.1) u m h.facts_are))
 
 -- one that surely has a value lets no other have none, and its values lie in the other's interval
 pub entails_rule : (a b : AbsValue) → (a.initialised ≡ false → b.initialised ≡ false) → Below a.interval b.interval → Entails a b

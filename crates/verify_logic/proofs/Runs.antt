@@ -1,6 +1,6 @@
 -- Rules for parts of a run.
 use Rattle.std.proofs.Common.{◌≡◌, ℕ, zero, suc, ℤ, List, sym, subst}
-use Rattle.std.specs.Prelude.{Result, Ok, Err, Bool, true, false, Contains}
+use Rattle.std.specs.Prelude.{Result, Ok, Err, Bool, true, false}
 use Rattle.srcset.specs.declared.refusal.Pos.{Pos}
 use Rattle.ctypes.specs.declared.operators.Undef.{Undef}
 use Rattle.csem.specs.Machine.{State, Ended, Undefined, TicksUsed, Run, Goes, Stops, then_do, choose, tick, tick_of, computed_at}

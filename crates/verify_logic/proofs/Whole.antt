@@ -1,24 +1,25 @@
 -- From main's body to the run (5.1.2.2.1), and more places.
-use Rattle.std.proofs.Common.{◌≡◌, ℕ, zero, suc, ◌+◌, ◌<◌, ℤ, pos, List, [], ◌∷◌, ◌++◌, map, drop, length, refl, ap, sym, subst, ◌∙◌, arith}
-use Rattle.std.specs.Prelude.{Option, Some, None, nat_eq, slice_get, Contains, ◌*◌}
+use Rattle.std.proofs.Common.{◌≡◌, ℕ, zero, suc, ◌<◌, ℤ, pos, List, [], ◌∷◌, ◌++◌, map, drop, length, refl, ap, sym, subst, arith}
+use Rattle.std.specs.Prelude.{Option, Some, nat_eq, slice_get, Contains}
 use Rattle.srcset.specs.declared.refusal.Pos.{Pos}
-use Rattle.typing_spec.specs.Types.{ObjectType, elements_in}
+use Rattle.typing_spec.specs.Types.{elements_in}
 use Rattle.typing_spec.specs.Program.{Function, Static, Program}
-use Rattle.csem.specs.Store.{Tree, Element, Array, Row, no_parts, and_part, parts, Store, first_or_zero, row_of, laid_out, static_object, characters_of, literal_object, first_store}
+use Rattle.csem.specs.Store.{Tree, parts, Store, first_or_zero, row_of, laid_out, static_object, characters_of, literal_object, first_store}
 use Rattle.csem.specs.Machine.{State, Ended, Undefined, TicksUsed, Run, Goes, Stops, then_do}
 use Rattle.csem.specs.Statements.{Flow}
 use Rattle.csem.specs.Meaning.{enter, leave, value_left, body_of, call_defined, calling, start, end_with, ending_of}
 use Rattle.verify_logic.specs.declared.abstract_values.Interval.{Interval}
 use Rattle.verify_logic.specs.declared.abstract_values.AbsValue.{AbsValue}
 use Rattle.verify_logic.specs.declared.abstract_values.ArrayArgument.{ArrayArgument}
-use Rattle.verify_logic.specs.States.{Summary, In, ValueIs, EachPart, TreeIs, ObjectsAre, ArraysAre, AreBytes, lengths_in, CoversState, Covers, body_and_value, IsSound, AreSound, Ends}
-use Rattle.verify_logic.specs.Calls.{Entered, Begins, EachIn}
+use Rattle.verify_logic.specs.States.{Known, Summary, In, ValueIs, EachPart, TreeIs, ObjectsAre, ArraysAre, lengths_in, CoversState, body_and_value, IsSound, AreSound, Ends}
+use Rattle.verify_logic.specs.Calls.{Entered, Begins, EachIn, with_own}
 use Rattle.verify_logic.specs.Whole.{UndefinedOnlyAt, IsDefinedBut, NotUndefined, IsDefined}
 use Rattle.verify_logic.proofs.Calls.{both_are, as_long, new_objects}
+use Rattle.verify_logic.proofs.Facts.{facts_front}
 
 -- ---- the run
 
--- nothing is said of where it goes on
+-- the trivial postcondition of a run that continues
 abbrev Anything : {A : Type 0} → A → State → Type 0
 Anything a s = Unit {0}
 
@@ -34,19 +35,20 @@ leaving listed (Stops (Ended n) s) value caller post h = tt
 leaving listed (Stops (Undefined act at) s) value caller post h = h
 leaving listed (Stops TicksUsed s) value caller post h = tt
 
-pub main_rule : (p : Program) (listed : List Pos) (g : Function) (first ks : List AbsValue) (a : Summary) → slice_get p.functions p.main ≡ Some g → Begins p a.outer first → Entered [] g.objects ks → a.function ≡ p.main → a.arrays ≡ [] → a.entry ≡ first ++ ks →
+pub main_rule : (p : Program) (listed : List Pos) (g : Function) (first : Known) (ks : List AbsValue) (a : Summary) → slice_get p.functions p.main ≡ Some g → Begins p a.outer first → Entered [] g.objects ks → a.function ≡ p.main → a.arrays ≡ [] → a.entry ≡ with_own first ks →
     IsSound p listed a → IsDefinedBut p listed
 main_rule p listed g first ks a eg hb he ef ea ee h n input bytes =
     let s : State = start n p input in
     let s1 : State = enter p.main g [] s in
     let P : Option Function → Type 0 = λ o. UndefinedOnlyAt listed (ending_of (then_do (call_defined p (calling p n) o p.main [] s) end_with)) in
     let F : ℕ → Type 0 = λ x. slice_get p.functions x ≡ Some g in
-    let K : List AbsValue → Type 0 = λ known. CoversState a.outer a.arrays g.objects (Some known) s1 in
+    let K : Known → Type 0 = λ known. CoversState a.outer a.arrays g.objects (Some known) s1 in
     let A : List ArrayArgument → Type 0 = λ ps. ArraysAre a.outer ps [] in
-    let cov : CoversState a.outer a.arrays g.objects (Some (first ++ ks)) s1 = record {
-      based = as_long first a.outer (first_store p) hb;
+    let cov : CoversState a.outer a.arrays g.objects (Some (with_own first ks)) s1 = record {
+      based = as_long first.objects a.outer (first_store p) hb.objects;
       referred = subst A (sym ea) tt;
-      objects_are = both_are first a.outer (first_store p) ks (map lengths_in g.objects) _ hb (new_objects g.objects ks he);
+      objects_are = both_are first.objects a.outer (first_store p) ks (map lengths_in g.objects) _ hb.objects (new_objects g.objects ks he);
+      facts_are = facts_front first.facts (first_store p) _ hb.facts;
       bytes = bytes;
     } in
     let done = h g (subst F (sym ef) eg) n s1 (subst K (sym ee) cov) in

@@ -1,4 +1,4 @@
--- What is shown of expressions and operators.
+-- Judgements on expressions and operators.
 use Rattle.std.specs.Prelude.{◌≡◌, ℕ, ℤ, List, ◌∷◌, Option, Some, None, Bool, true, false, Contains, Result, Ok, Err}
 use Rattle.srcset.specs.declared.refusal.Pos.{Pos}
 use Rattle.ctypes.specs.declared.types.IntType.{IntType}
@@ -15,18 +15,18 @@ use Rattle.csem.specs.Expressions.{evaluate}
 use Rattle.csem.specs.Meaning.{calling}
 use Rattle.verify_logic.specs.declared.abstract_values.Interval.{Interval}
 use Rattle.verify_logic.specs.declared.abstract_values.AbsValue.{AbsValue}
-use Rattle.verify_logic.specs.States.{Frame, In, ValueIs, Reaches, Ends, Refers}
+use Rattle.verify_logic.specs.States.{Known, Frame, In, ValueIs, Reaches, Ends, Refers, LeadsInto}
 
--- with calls at most d deep, an expression has a value in the interval and leaves the objects as said
-pub record Evaluates (fr : Frame) (e : Value) (before : Option (List AbsValue)) (i : Interval) (after : Option (List AbsValue)) : Type 0 where
+-- with calls at most d deep, an expression has a value in the interval and leaves the objects in `after`
+pub record Evaluates (fr : Frame) (e : Value) (before : Option Known) (i : Interval) (after : Option Known) : Type 0 where
   pub runs : (d : ℕ) (s : State) → Reaches fr before s → Ends fr.listed (evaluate fr.program (calling fr.program d) e s) (λ v s2. In i v × Reaches fr after s2)
 
 abbrev pub either_way : {A : Type 0} → Bool → A → A → A
 either_way true a b = a
 either_way false a b = b
 
--- an expression leaves the objects as said, by whether its value is not zero
-pub record Tests (fr : Frame) (e : Value) (before on off : Option (List AbsValue)) : Type 0 where
+-- an expression leaves the objects in `on` or `off`, by whether its value is not zero
+pub record Tests (fr : Frame) (e : Value) (before on off : Option Known) : Type 0 where
   pub runs : (d : ℕ) (s : State) → Reaches fr before s → Ends fr.listed (evaluate fr.program (calling fr.program d) e s) (λ v s2. Reaches fr (either_way (truth v) on off) s2)
 
 -- ---- operators (6.5.3.3, 6.5.5 to 6.5.12)
@@ -79,5 +79,5 @@ pub record MayRead (fr : Frame) (at : Pos) (k : AbsValue) : Type 0 where
 
 -- a subscript in the interval leads to a part, or is outside at a place that is listed
 pub record Subscripts (fr : Frame) (at : Pos) (i : Interval) (n : ℕ) : Type 0 where
-  pub is : (x : ℕ) (rest : List ℕ) (r : Reference) (v : ℤ) (s : State) (o : Option (List AbsValue)) → In i v → length_of (tree_at s.store r) ≡ n → Refers fr x (n ∷ rest) r → Reaches fr o s →
-      Ends fr.listed (subscripted at r v s) (λ r2 s2. Refers fr x rest r2 × Reaches fr o s2)
+  pub is : (x : ℕ) (rest : List ℕ) (r : Reference) (v : ℤ) (s : State) (o : Option Known) → In i v → length_of (tree_at s.store r) ≡ n → Refers fr x (n ∷ rest) r → Reaches fr o s →
+      Ends fr.listed (subscripted at r v s) (λ r2 s2. (Refers fr x rest r2 × LeadsInto r r2 v) × Reaches fr o s2)

@@ -1,5 +1,5 @@
--- What comparisons tell of their operands (ISO/IEC 9899:2011 6.5.8, 6.5.9).
-use Rattle.std.specs.Prelude.{◌≡◌, ℕ, ℤ, ◌<ℤ◌, ◌≤ℤ◌, Bool, true, false, Option, Some, List, slice_get, Result, Ok, Err}
+-- Consequences of comparisons for their operands (ISO/IEC 9899:2011 6.5.8, 6.5.9).
+use Rattle.std.specs.Prelude.{◌≡◌, ℕ, ℤ, ◌<ℤ◌, ◌≤ℤ◌, Bool, true, false, Option, Some, slice_get, Result, Ok, Err}
 use Rattle.ctypes.specs.declared.types.IntType.{IntType}
 use Rattle.ctypes.specs.declared.operators.BinOp.{BinOp}
 use Rattle.ctypes.specs.declared.operators.Undef.{Undef}
@@ -12,12 +12,11 @@ use Rattle.csem.specs.Machine.{State}
 use Rattle.csem.specs.Expressions.{evaluate}
 use Rattle.csem.specs.Meaning.{calling}
 use Rattle.verify_logic.specs.declared.abstract_values.Interval.{Interval}
-use Rattle.verify_logic.specs.declared.abstract_values.AbsValue.{AbsValue}
 use Rattle.verify_logic.specs.declared.operands.Operand.{Operand}
 use Rattle.verify_logic.specs.declared.operands.Operand.TheVariants.{Number, Object}
 use Rattle.verify_logic.specs.declared.operands.Relation.{Relation}
 use Rattle.verify_logic.specs.declared.operands.Relation.TheVariants as relation
-use Rattle.verify_logic.specs.States.{Frame, In, Reaches, Ends}
+use Rattle.verify_logic.specs.States.{Known, Frame, In, Reaches, Ends}
 
 abbrev pub Holding : Relation → ℤ → ℤ → Type 0
 Holding relation.Less v w = v <ℤ w
@@ -46,7 +45,7 @@ pub record CutsAbove (i : Interval) (top : ℤ) (r : Interval) : Type 0 where
 pub record CutsBelow (i : Interval) (bottom : ℤ) (r : Interval) : Type 0 where
   pub is : (v : ℤ) → In i v → bottom ≤ℤ v → In r v
 
--- what is not the only number of j
+-- r contains each value of i that differs from some value of j
 pub record Avoids (i j r : Interval) : Type 0 where
   pub is : (v w : ℤ) → In i v → In j w → (v ≡ w → ⊥) → In r v
 
@@ -59,18 +58,18 @@ OperandIs (Number c) v store = v ≡ c
 OperandIs (Object x) v store = value_of (slice_get store x) ≡ Some v
 
 -- an expression that changes nothing gives the value of an operand
-pub record Looks (fr : Frame) (e : Value) (o : Option (List AbsValue)) (a : Operand) (i : Interval) : Type 0 where
+pub record Looks (fr : Frame) (e : Value) (o : Option Known) (a : Operand) (i : Interval) : Type 0 where
   pub runs : (d : ℕ) (s : State) → Reaches fr o s → Ends fr.listed (evaluate fr.program (calling fr.program d) e s) (λ v s2. In i v × OperandIs a v s2.store × (s2.store ≡ s.store) × Reaches fr o s2)
 
 -- an operand whose value lies in the interval
-pub record Restricts (a : Operand) (i : Interval) (o o2 : Option (List AbsValue)) : Type 0 where
+pub record Restricts (a : Operand) (i : Interval) (o o2 : Option Known) : Type 0 where
   pub is : (fr : Frame) (s : State) (v : ℤ) → OperandIs a v s.store → In i v → Reaches fr o s → Reaches fr o2 s
 
-pub record RestrictsBoth (a : Operand) (i : Interval) (b : Operand) (j : Interval) (o o2 : Option (List AbsValue)) : Type 0 where
+pub record RestrictsBoth (a : Operand) (i : Interval) (b : Operand) (j : Interval) (o o2 : Option Known) : Type 0 where
   pub is : (fr : Frame) (s : State) (v w : ℤ) → OperandIs a v s.store → OperandIs b w s.store → In i v → In j w → Reaches fr o s → Reaches fr o2 s
 
 -- a comparison of operands that has this truth
-pub record Learns (op : BinOp) (b : Bool) (x : Operand) (i : Interval) (y : Operand) (j : Interval) (o o2 : Option (List AbsValue)) : Type 0 where
+pub record Learns (op : BinOp) (b : Bool) (x : Operand) (i : Interval) (y : Operand) (j : Interval) (o o2 : Option Known) : Type 0 where
   pub is : (fr : Frame) (s : State) (t : IntType) (v w r : ℤ) → In i v → In j w → OperandIs x v s.store → OperandIs y w s.store → computed op t v w ≡ Ok r → truth r ≡ b → Reaches fr o s → Reaches fr o2 s
   pub has : (t : IntType) (v w : ℤ) → HasValue (computed op t v w)
   pub right : (t : IntType) (w : ℤ) → right_operand op t w ≡ converted t w

@@ -1,4 +1,4 @@
--- What is shown of a whole program.
+-- Judgements on a whole program.
 use Rattle.std.specs.Prelude.{ℕ, List, Contains}
 use Rattle.srcset.specs.declared.refusal.Pos.{Pos}
 use Rattle.typing_spec.specs.Program.{Program}

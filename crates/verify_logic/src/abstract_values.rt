@@ -7,7 +7,7 @@ pub struct Interval {
     pub high: i64,
 }
 
-/// What an array parameter refers to: object `object`, or a row of it behind so many subscripts.
+/// The target of an array parameter: object `object`, or a row of it after a number of subscripts.
 #[derive(Clone, Copy, PartialEq, Eq, Debug)]
 pub struct ArrayArgument {
     /// The number of the object in the store.
@@ -16,11 +16,21 @@ pub struct ArrayArgument {
     pub depth: usize,
 }
 
-/// What is known of each element of an object.
+/// The abstract value of each element of an object.
 #[derive(Clone, Copy, PartialEq, Eq, Debug)]
 pub struct AbsValue {
     /// Each element has a value. Where this is false, elements may be indeterminate (3.19.2).
     pub initialised: bool,
     /// A value that an element has lies in it.
+    pub interval: Interval,
+}
+
+/// A fact on one element of an array of one row: it has a value in the interval.
+#[derive(Clone, Copy, PartialEq, Eq, Debug)]
+pub struct Fact {
+    /// The number of the object in the store.
+    pub object: usize,
+    /// The subscript of the element.
+    pub index: u32,
     pub interval: Interval,
 }

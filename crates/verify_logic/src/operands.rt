@@ -1,4 +1,4 @@
-//! What a comparison relates.
+//! The operands and the relations of comparisons.
 
 /// A constant, or the value of a scalar object by its number in the store.
 #[derive(Clone, Copy, PartialEq, Eq, Debug)]

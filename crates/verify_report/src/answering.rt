@@ -18,7 +18,7 @@ use verify::{Verdict, verify};
 use verify_build::{Verified, judge};
 use verify_expressions::Alarm;
 
-/// What is asked of a program.
+/// The options of a verification.
 #[derive(Clone, Copy)]
 pub struct Asked<'a> {
     /// The names of its files.
@@ -30,12 +30,12 @@ pub struct Asked<'a> {
     /// How many steps an analysis takes at most.
     pub effort: u64,
     pub form: Form,
-    /// The version of the program that tells.
+    /// The version of the program that reports.
     pub version: &'a str,
 }
 
 impl<'a> Asked<'a> {
-    /// The name of the file that no person wrote; empty where there is none.
+    /// The name of the generated file; empty where there is none.
     fn made_file(&self) -> &'a str {
         if self.main == self.given {
             ""
@@ -45,7 +45,7 @@ impl<'a> Asked<'a> {
     }
 }
 
-/// What is told.
+/// The report on a program.
 #[derive(Drop)]
 pub struct Said {
     pub out: String,
@@ -53,8 +53,8 @@ pub struct Said {
     pub file: Option<Verified>,
 }
 
-/// Tells whether the program of these sources does anything undefined, on any input, and how much of its stack it takes; where it is defined and the stack suffices, answers its
-/// file too.
+/// Reports whether the program of these sources has undefined behaviour, on any input, and how much of its stack it takes; where it is defined and the stack
+/// suffices, returns its file too.
 ///
 /// Refuses as `cc::compile_with` does.
 pub fn verify_sources(alloc: Global, set: &FileSet, asked: &Asked<'_>) -> Result<Said, Fault>
@@ -72,7 +72,7 @@ pub fn verify_sources(alloc: Global, set: &FileSet, asked: &Asked<'_>) -> Result
     }
 }
 
-/// What is told of a typed program.
+/// The report on a typed program.
 fn judged(
     alloc: Global,
     set: &FileSet,
@@ -130,7 +130,7 @@ fn with_alarms(
     }
 }
 
-/// The alarms of the program laid out a token a line; none where that is not to be had.
+/// The alarms of the program laid out a token a line; none where that is not available.
 fn laid_alarms(
     alloc: Global,
     files: &Files<'_>,

@@ -1,4 +1,4 @@
-//! What `zkc verify` tells of a program: the verdict, and the places at which undefined behaviour was not ruled out, as text, JSON or SARIF.
+//! The report of `zkc verify` on a program: the verdict, and the places at which undefined behaviour was not ruled out, as text, JSON or SARIF.
 #![tactic(auto)]
 
 mod answering;

@@ -10,13 +10,13 @@ use verify_expressions::Alarm;
 pub(crate) struct Placed {
     /// The line, counted from 1.
     pub(crate) line: u32,
-    /// How many bytes of the file stand before its token, and before the token's end; both 0 where the token is not known.
+    /// The number of bytes of the file before its token, and before the token's end; both 0 where the token is not known.
     pub(crate) start: usize,
     pub(crate) end: usize,
     pub(crate) alarm: Alarm,
 }
 
-/// Alarms by the lines on which they stand.
+/// Alarms by their lines.
 pub(crate) fn by_lines(alloc: Global, alarms: &[Alarm]) -> Result<Vec<Placed>, AllocError> {
     let mut all = Vec::new(alloc);
     for alarm in alarms {
@@ -71,7 +71,7 @@ fn each_once(alloc: Global, sorted: &[Placed]) -> Result<Vec<Placed>, AllocError
     Ok(kept)
 }
 
-/// Whether both lists, which are in order, speak of the same lines; each has names of its own.
+/// Whether both lists, which are in order, have the same lines; each has names of its own.
 pub(crate) fn have_same_lines(
     names: &Names,
     plain: &[Placed],
@@ -91,7 +91,7 @@ pub(crate) fn have_same_lines(
     next == plain.len()
 }
 
-/// Whether the alarm with this number stands on a line of a file.
+/// Whether the alarm with this number is on a line of a file.
 fn is_on_line(
     names: &Names,
     list: &[Placed],

@@ -1,4 +1,4 @@
-//! What is told of the stack.
+//! The report on the stack.
 
 use cc::StackSize;
 use srcset::Names;
@@ -53,7 +53,7 @@ impl Stack {
         }
     }
 
-    /// Puts what is told: `stack at most 176 of 1048576 bytes`, or why that is not shown.
+    /// Puts the report: `stack at most 176 of 1048576 bytes`, or why that is not shown.
     pub(crate) fn put(&self, alloc: Global, out: &mut String) -> Result<(), AllocError> {
         let size = self.size;
         match self.most {

@@ -21,10 +21,10 @@ const NO_FURTHER: &str = "not followed: the analysis goes no further here";
 /// The code of a stack that may not suffice.
 const SHORT_STACK: &str = "stack";
 
-/// How the verdict on a program begins that is defined.
+/// The beginning of the verdict on a program that is defined.
 const DEFINED: &str = "defined on every input; ";
 
-/// What is told of a program that is defined.
+/// The report on a program that is defined.
 pub(crate) fn tell_defined(
     alloc: Global,
     stack: &Stack,
@@ -40,7 +40,7 @@ pub(crate) fn tell_defined(
     Ok(out)
 }
 
-/// What is told where the analysis does not follow, near this place.
+/// The report where the analysis does not follow, near this place.
 pub(crate) fn tell_not_followed(
     alloc: Global,
     names: &Names,
@@ -75,7 +75,7 @@ pub(crate) fn tell_not_followed(
     Ok(out)
 }
 
-/// Puts the rule of a stack that may not suffice, where it is needed; a comma stands before it where it is not the first.
+/// Puts the rule of a stack that may not suffice, where it is needed; a comma precedes it where it is not the first.
 fn put_stack_rule(
     alloc: Global,
     stack: &Stack,
@@ -95,7 +95,7 @@ fn put_stack_rule(
     )
 }
 
-/// Puts the verdict on the whole, which begins with these words: in the text a line, in JSON an object behind the others, in SARIF a result where the
+/// Puts the verdict on the whole, which begins with these words: in the text a line, in JSON an object after the others, in SARIF a result where the
 /// stack may not suffice.
 fn put_verdict(
     alloc: Global,
@@ -199,7 +199,7 @@ fn put_not_followed(
     }
 }
 
-/// What is told of places at which undefined behaviour was not ruled out.
+/// The report on places at which undefined behaviour was not ruled out.
 pub(crate) fn tell_acts(
     alloc: Global,
     files: &Files<'_>,
@@ -228,7 +228,7 @@ pub(crate) fn tell_acts(
     Ok(out)
 }
 
-/// The numbers of the acts, each once.
+/// The numbers of the operations, each once.
 fn acts(alloc: Global, list: &[Placed]) -> Result<Vec<u32>, AllocError> {
     let mut acts = Vec::new(alloc);
     for placed in list {
@@ -278,7 +278,7 @@ fn put_text(alloc: Global, act: &Undefined, out: &mut String) -> Result<(), Allo
     put_source(alloc, Style::Plain, line, &act.shown, out)
 }
 
-/// An alarm as undefined behaviour that is possible, with what is shown of it.
+/// An alarm as possible undefined behaviour, with its place and notes as they are shown.
 fn act_at(
     alloc: Global,
     files: &Files<'_>,
@@ -298,7 +298,7 @@ fn act_at(
     })
 }
 
-/// Puts the numbers that were found possible, where the act is one of numbers.
+/// Puts the numbers that were found possible, where the operation has a number as operand.
 fn put_numbers(alloc: Global, placed: &Placed, noted: &mut Noted) -> Result<(), AllocError> {
     if matches!(placed.alarm.act, Undef::U6 | Undef::U7 | Undef::U8) {
         return Ok(());

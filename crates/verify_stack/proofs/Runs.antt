@@ -79,7 +79,7 @@ keeps_stay k a = record { keeps = λ s m. m }
 pub keeps_stop : {A : Type 0} (k : Limits) (e : Ending) → Keeps {A = A} k (λ s. Stops e s)
 keeps_stop k e = record { keeps = λ s m. m.within }
 
--- a change of state, and what follows it
+-- a change of state, and the run after it
 pub keeps_after : {A : Type 0} (k : Limits) (g : State → State) → Plain g → (f : State → Run A) → Keeps k f → Keeps k (λ s. f (g s))
 keeps_after k g pl f h = record { keeps = λ s m. h.keeps (g s) (subst (λ x. Has k x) (sym (pl.same s)) m) }
 

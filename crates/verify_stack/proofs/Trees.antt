@@ -200,7 +200,7 @@ plain_characters t (suc n) i (ch ∷ text) r = plain_chain (stored (into r i) (c
 keeps_clear : (k : Limits) (n i : ℕ) (lengths : List ℕ) (r : Reference) → Keeps k (clear n i lengths r)
 keeps_clear k n i lengths r = keeps_then k (ticks (n * elements_in lengths)) _ (keeps_ticks k (n * elements_in lengths)) (λ u. keeps_change k tt (zeros n i lengths r) (plain_zeros n i lengths r))
 
--- the reference to an object of the present call is no act
+-- the reference to an object of the present call changes no state
 keeps_own : {A : Type 0} (k : Limits) (x : ℕ) (f : Reference → State → Run A) → ((r : Reference) → Keeps k (f r)) → Keeps k (λ s. f (own x s) s)
 keeps_own k x f h = record { keeps = λ s m. (h (own x s)).keeps s m }
 

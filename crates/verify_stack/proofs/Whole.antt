@@ -15,7 +15,7 @@ use Rattle.verify_stack.specs.Bounds.{SumsWithin, size_or_none, size_in, Says}
 use Rattle.verify_stack.proofs.Runs.{Limits, Stays, Keeps, inside, entered_has, left_has, keeps_then, keeps_stay, keeps_stop, keeps_ticks, EachKept}
 use Rattle.verify_stack.proofs.Trees.{keeps_body}
 
--- what is said of one function
+-- the claim for one function
 covers_at : (usages : List (Option ℕ)) (gs : List Function) (ns : List (Option ℕ)) (sizes : List ℕ) (f usage : ℕ) (g : Function)
     → EachCovers usages gs ns sizes → slice_get gs f ≡ Some g → slice_get ns f ≡ Some (Some usage) → (size : ℕ) × (slice_get sizes f ≡ Some size) × Covers usages size g usage
 covers_at usages [] ns sizes f usage g h e d = absurd (cc e)

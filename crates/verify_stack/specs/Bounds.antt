@@ -1,4 +1,4 @@
--- What an answer says of the stack that a program takes.
+-- The meaning of a bound on the stack that a program takes.
 use Rattle.std.specs.Prelude.{ℕ, ◌≤◌, List, Option, Some, None, slice_get}
 use Rattle.typing_spec.specs.Program.{Program}
 use Rattle.csem.specs.History.{weight_in, greatest_sum}

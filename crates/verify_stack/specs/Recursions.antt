@@ -1,4 +1,4 @@
--- What shows that a program may recurse.
+-- The evidence that a program may recurse.
 use Rattle.std.specs.Prelude.{◌≡◌, ◌<◌, ℕ, List, [], ◌∷◌, Option, Some, None, Contains, length, slice_get}
 use Rattle.typing_spec.specs.Program.{Function, Program}
 use Rattle.verify_stack.specs.Calls.{statement_calls}

@@ -13,7 +13,7 @@ use crate::usages::are_usages;
 use std::alloc::{AllocError, Global};
 use typed_ast::{Function, Program};
 
-/// A function that may call itself, by way of others or not; functions stand by their numbers.
+/// A function that may call itself, directly or through others; functions are given by their numbers.
 #[derive(Drop)]
 pub struct Recursion {
     pub function: usize,
@@ -28,7 +28,7 @@ pub struct Recursion {
 pub enum Bound {
     /// On every input, the sizes of the calls that are active at one time never sum to more.
     AtMost(u64),
-    /// A function that main reaches may call itself. What it is called with is not looked at, so its calls may still be bounded.
+    /// A function that main reaches may call itself. The arguments are not examined, so its calls may still be bounded.
     Recursive(Recursion),
     /// No bound is found: a sum is past 64 bits.
     Unknown,

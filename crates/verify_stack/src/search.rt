@@ -1,4 +1,4 @@
-//! The search for the stack usage of functions, or for a recursion: depth first, from main on. Nothing rests on it, since what it finds is
+//! The search for the stack usage of functions, or for a recursion: depth first, from main on. It is not trusted, since its result is
 //! checked.
 
 use crate::bounds::Recursion;
@@ -17,7 +17,7 @@ struct Visit {
     most: u64,
 }
 
-/// How far the search is: what is known of each function, which ones are visited or were, and the visits from main on, each for a
+/// The progress of the search: the usages known so far, which functions are visited or were, and the visits from main on, each for a
 /// call in the one before. The visits are kept here and not on the host's stack, which a long chain of calls would exhaust.
 #[derive(Drop)]
 struct Progress {
@@ -26,7 +26,7 @@ struct Progress {
     visits: Vec<Visit>,
 }
 
-/// What a search comes to.
+/// The result of a search.
 #[derive(Drop)]
 pub enum Found {
     /// The usage of each function that main reaches.
@@ -61,7 +61,7 @@ fn begin(
     Ok(())
 }
 
-/// The recursion of a function that is visited and called again: the visits from main to it, and those behind.
+/// The recursion of a function that is visited and called again: the visits from main to it, and those after it.
 fn recursion(alloc: Global, visits: &[Visit], function: usize) -> Result<Recursion, AllocError> {
     let mut way = Vec::new(alloc);
     let mut cycle = Vec::new(alloc);
@@ -106,7 +106,7 @@ fn usage(progress: &Progress, f: usize) -> Option<u64> {
     }
 }
 
-/// The same visit, behind a call of a function with this usage.
+/// The same visit, after a call of a function with this usage.
 fn behind_call(visit: Visit, usage: u64) -> Visit {
     Visit {
         function: visit.function,
@@ -117,7 +117,7 @@ fn behind_call(visit: Visit, usage: u64) -> Visit {
     }
 }
 
-/// Goes on with the innermost visit, by the next of its calls; answers the function that is called though it is visited.
+/// Continues the innermost visit with the next of its calls; returns the called function if that is being visited.
 fn follow(
     alloc: Global,
     program: &Program,
@@ -180,7 +180,7 @@ fn nothing(alloc: Global, count: usize) -> Result<Progress, AllocError> {
 pub fn find_usages(alloc: Global, program: &Program, sizes: &[u64]) -> Result<Found, AllocError> {
     let mut progress = nothing(alloc, program.functions.len())?;
     begin(alloc, program, sizes, &mut progress, program.main)?;
-    // The search ends long before so many turns: that it ends at all is plain from the range.
+    // The search ends long before this number of turns; the range alone shows that it ends.
     for _turn in 0..u64::MAX {
         let Some(visit) = progress.visits.pop() else {
             break;

@@ -93,7 +93,7 @@ fn each_covers(
     Ok(true)
 }
 
-/// Tests whether these are stack usages of functions with these sizes, by their numbers; none says nothing of a function.
+/// Tests whether these are stack usages of functions with these sizes, by their numbers; none makes no claim for a function.
 ///
 /// Errors: memory ran out.
 pub fn are_usages(

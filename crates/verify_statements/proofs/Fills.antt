@@ -1,24 +1,23 @@
 -- First values of objects of a block, once each part is shown.
 use Rattle.std.proofs.Common.{◌≡◌, ◌≤◌, ◌<◌, ◌+◌, ◌-◌, ◌++◌, ℕ, zero, suc, ℤ, pos, List, [], ◌∷◌, map, length, refl, sym, ap, subst, ◌∙◌, arith, add-one}
-use Rattle.std.specs.Prelude.{Option, Some, None, Bool, true, false, slice_get, ◌*◌}
+use Rattle.std.specs.Prelude.{Option, Some, None, Bool, true, slice_get, ◌*◌}
 use Rattle.ctypes.specs.declared.types.IntType.{IntType}
 use Rattle.ctypes.specs.Types.{converted}
 use Rattle.ctypes.proofs.Uses.{converted_fits}
 use Rattle.typing_spec.specs.Types.{ObjectType, elements_in}
 use Rattle.typing_spec.specs.Program as typed
 use Rattle.typing_spec.specs.Program.{Value, Initialiser, Initialisers}
-use Rattle.csem.specs.Store.{Tree, Element, Array, Row, no_parts, and_part, parts, part_of, part_in, at_path, change_part, change_in, put_at, put_in, put, Store, Reference, whole, into, repeated, filled}
-use Rattle.csem.specs.Machine.{State, Ended, Undefined, TicksUsed, Run, Goes, Stops, then_do, tick, ticks, stored}
+use Rattle.csem.specs.Store.{Tree, Element, Array, Row, no_parts, and_part, parts, part_of, at_path, change_part, change_in, put_at, put_in, put, Store, Reference, whole, into, repeated, filled}
+use Rattle.csem.specs.Machine.{State, Ended, Undefined, TicksUsed, Run, Goes, Stops, then_do, ticks, stored}
 use Rattle.csem.specs.Expressions.{evaluate}
-use Rattle.csem.specs.Statements.{zeros, clear, characters, text_or_none, initialise, initialise_all}
+use Rattle.csem.specs.Statements.{zeros, characters, text_or_none, initialise, initialise_all}
 use Rattle.csem.specs.Meaning.{calling}
 use Rattle.verify_logic.specs.declared.abstract_values.Interval.{Interval}
 use Rattle.verify_logic.specs.declared.abstract_values.AbsValue.{AbsValue}
-use Rattle.verify_logic.specs.States.{Frame, In, just, Below, range_of, EachPart, TreeIs, or_scalar, shape_of, Holds, Reaches, Ends, Entails, Implies, Along, Refers, ObjectIs, Contents, Replaces}
+use Rattle.verify_logic.specs.States.{Known, Frame, In, just, Below, range_of, EachPart, TreeIs, shape_of, Holds, Reaches, Ends, Entails, Implies, Along, Refers, ObjectIs, Contents, Replaces}
 use Rattle.verify_logic.specs.Judgements.{Evaluates, Converts}
 use Rattle.verify_logic.specs.Statements.{Initialises}
 use Rattle.verify_logic.proofs.Runs.{then_ends, tick_ends, weaker}
-use Rattle.verify_logic.proofs.Calls.{ticks_end}
 use Rattle.verify_logic.proofs.Rules.{into_refers}
 use Rattle.verify_logic.proofs.Objects.{below, path_is, put_is, tree_entails, entails_rule}
 use Rattle.verify_statements.specs.Quiet.{quiet}
@@ -126,7 +125,7 @@ wider i j b lengths t h = tree_entails (full i) (full j) lengths (entails_rule (
 
 -- ---- a part of an object of which nothing is said
 
-pub part_put : (fr : Frame) (o : Option (List AbsValue)) (x : ℕ) (k : AbsValue) (j : Interval) (rest : List ℕ) (r : Reference) (new : Tree) (s : State) → Takes o x k → Entails (full j) k → Refers fr x rest r → Reaches fr o s → TreeIs (full j) rest new →
+pub part_put : (fr : Frame) (o : Option Known) (x : ℕ) (k : AbsValue) (j : Interval) (rest : List ℕ) (r : Reference) (new : Tree) (s : State) → Takes o x k → Entails (full j) k → Refers fr x rest r → Reaches fr o s → TreeIs (full j) rest new →
     Reaches fr o (record s { store = put s.store r new })
 part_put fr o x k j rest r new s h f g c n = at (slice_get s.store x) refl (h.contents.is fr s c)
   where
@@ -139,7 +138,7 @@ part_put fr o x k j rest r new s h f g c n = at (slice_get s.store x) refl (h.co
         subst Q (sym g.object) (subst P (put_whole s.store x r.path new t (sym e)) (h.replaces.is fr s (put_at r.path new t) c is))
 
 -- the row at a reference
-row_at : (fr : Frame) (o : Option (List AbsValue)) (x : ℕ) (k : AbsValue) (n : ℕ) (inner : List ℕ) (r : Reference) (s : State) → Takes o x k → Refers fr x (n ∷ inner) r → Reaches fr o s → (row : Row) × (parts row ≡ n) × (s.store ≡ put s.store r (Array row))
+row_at : (fr : Frame) (o : Option Known) (x : ℕ) (k : AbsValue) (n : ℕ) (inner : List ℕ) (r : Reference) (s : State) → Takes o x k → Refers fr x (n ∷ inner) r → Reaches fr o s → (row : Row) × (parts row ≡ n) × (s.store ≡ put s.store r (Array row))
 row_at fr o x k n inner r s h g c = at (slice_get s.store x) refl (h.contents.is fr s c)
   where
     by : (t u : Tree) → slice_get s.store x ≡ Some t → at_path (Some t) r.path ≡ Some u → TreeIs k (n ∷ inner) u → (row : Row) × (parts row ≡ n) × (s.store ≡ put s.store r (Array row))
@@ -159,7 +158,7 @@ row_more before store r row i new e = ap (λ store. put store (into r i) new) e 
 
 -- ---- one value (6.7.9p11)
 
-goes_on : (fr : Frame) (o : Option (List AbsValue)) (s s2 : State) → Same s s2 → Reaches fr o s → Reaches fr o s2
+goes_on : (fr : Frame) (o : Option Known) (s s2 : State) → Same s s2 → Reaches fr o s → Reaches fr o s2
 goes_on fr None s s2 h c = absurd c
 goes_on fr (Some known) s s2 h c =
     let P : List Reference → Type 0 = λ arrays. Holds fr known s2.base arrays s2.store s2.input in
@@ -174,7 +173,7 @@ both_ends fr s (Stops (Ended n) s2) P h k = tt
 both_ends fr s (Stops (Undefined act at) s2) P h k = h
 both_ends fr s (Stops TicksUsed s2) P h k = tt
 
-pub value_fills : (fr : Frame) (u : IntType) (e : Value) (t : IntType) (x : ℕ) (rest : List ℕ) (o : Option (List AbsValue)) (k : AbsValue) (i : Interval) (o2 : Option (List AbsValue)) (j : Interval) → rest ≡ [] → Takes o x k → Entails (full j) k → quiet e ≡ true →
+pub value_fills : (fr : Frame) (u : IntType) (e : Value) (t : IntType) (x : ℕ) (rest : List ℕ) (o : Option Known) (k : AbsValue) (i : Interval) (o2 : Option Known) (j : Interval) → rest ≡ [] → Takes o x k → Entails (full j) k → quiet e ≡ true →
     Evaluates fr e o i o2 → Converts u i j → Fills fr (typed.one_value u e) t x rest o j
 value_fills fr u e t x rest o k i o2 j er h f q ev cv = record {
   runs = λ d r s g c.
@@ -191,14 +190,14 @@ value_fills fr u e t x rest o k i o2 j er h f q ev cv = record {
           record { tree = Element (Some (converted u v)); is = is; put_there = ap (λ store. put store r (Element (Some (converted u v)))) es },
         )
 
-pub braces_fill : (fr : Frame) (i : Initialiser) (t : IntType) (x : ℕ) (rest : List ℕ) (o : Option (List AbsValue)) (j : Interval) → Fills fr i t x rest o j → Fills fr (typed.in_braces i) t x rest o j
+pub braces_fill : (fr : Frame) (i : Initialiser) (t : IntType) (x : ℕ) (rest : List ℕ) (o : Option Known) (j : Interval) → Fills fr i t x rest o j → Fills fr (typed.in_braces i) t x rest o j
 braces_fill fr i t x rest o j h = record {
   runs = λ d r s g c. tick_ends fr.listed s (λ s. initialise fr.program (calling fr.program d) i t rest r s) (λ u s2. Reaches fr o s2 × Filled j rest s.store s2.store r) (λ n. h.runs d r (record s { clock = n }) g c);
 }
 
 -- ---- lists (6.7.9p17, p21)
 
-module _ (fr : Frame) (x : ℕ) (o : Option (List AbsValue)) (k : AbsValue) (h : Takes o x k) where
+module _ (fr : Frame) (x : ℕ) (o : Option Known) (k : AbsValue) (h : Takes o x k) where
   ticks_stay : (q : ℕ) (s : State) → Reaches fr o s → Ends fr.listed (ticks q s) (λ u s2. (Reaches fr o s2) × (s2.store ≡ s.store))
   ticks_stay zero s c = (c, refl)
   ticks_stay (suc q) s c = tick_ends fr.listed s (λ s. ticks q s) (λ u s2. (Reaches fr o s2) × (s2.store ≡ s.store)) (λ n. ticks_stay q (record s { clock = n }) c)
@@ -311,7 +310,7 @@ no_path : (lengths path : List ℕ) → Along lengths path lengths → path ≡ 
 no_path lengths [] a = refl
 no_path lengths (i ∷ path) a = absurd (let q : length lengths + suc (length path) ≡ length lengths = path_length lengths (i ∷ path) lengths a in omega (arith, q))
 
-pub whole_fills : (fr : Frame) (i : Initialiser) (t : IntType) (x : ℕ) (o : Option (List AbsValue)) (j : Interval) (new : AbsValue) (o2 : Option (List AbsValue)) → Fills fr i t x (shape_of fr x) o j → Entails (full j) new → Replaces o x new o2 → Initialises fr i t x (shape_of fr x) o o2
+pub whole_fills : (fr : Frame) (i : Initialiser) (t : IntType) (x : ℕ) (o : Option Known) (j : Interval) (new : AbsValue) (o2 : Option Known) → Fills fr i t x (shape_of fr x) o j → Entails (full j) new → Replaces o x new o2 → Initialises fr i t x (shape_of fr x) o o2
 whole_fills fr i t x o j new o2 h f w = record {
   runs = λ d r s g c.
       weaker fr.listed (initialise fr.program (calling fr.program d) i t (shape_of fr x) r s) (λ u s2. Reaches fr o s2 × Filled j (shape_of fr x) s.store s2.store r) (λ u s2. Reaches fr o2 s2) (h.runs d r s g c) (λ u s2 q. at r s s2 g q.0 q.1);
@@ -329,8 +328,8 @@ whole_fills fr i t x o j new o2 h f w = record {
 
 -- ---- as the functions have them
 
-pub takes_both : (o again o1 : Option (List AbsValue)) (x : ℕ) (known k : AbsValue) → Contents o x known → Entails known k → o1 ≡ o → Replaces o1 x k again → Implies again o → Takes o x k
-takes_both o again o1 x known k c e q r i = let P : Option (List AbsValue) → Type 0 = λ o. Replaces o x k again in let r2 : Replaces o x k again = subst P q r in record {
+pub takes_both : (o again o1 : Option Known) (x : ℕ) (known k : AbsValue) → Contents o x known → Entails known k → o1 ≡ o → Replaces o1 x k again → Implies again o → Takes o x k
+takes_both o again o1 x known k c e q r i = let P : Option Known → Type 0 = λ o. Replaces o x k again in let r2 : Replaces o x k again = subst P q r in record {
   contents = record { is = λ fr s h. more (shape_of fr x) (slice_get s.store x) (c.is fr s h) };
   replaces = record { is = λ fr s new h m. i.is fr (record s { store = put s.store (whole x) new }) (r2.is fr s new h m) };
 }
@@ -339,32 +338,32 @@ takes_both o again o1 x known k c e q r i = let P : Option (List AbsValue) → T
     more lengths None h = absurd h
     more lengths (Some t) h = tree_entails known k lengths e t h
 
-pub one_fills_at : (fr : Frame) (x : ℕ) (o : Option (List AbsValue)) (k : AbsValue) → Takes o x k → (u : IntType) (e : Value) (t : IntType) (lengths : List ℕ) (o1 : Option (List AbsValue)) (i : Interval) (o2 : Option (List AbsValue)) (j : Interval) (b : Bool) → lengths ≡ [] → b ≡ quiet e → b ≡ true →
+pub one_fills_at : (fr : Frame) (x : ℕ) (o : Option Known) (k : AbsValue) → Takes o x k → (u : IntType) (e : Value) (t : IntType) (lengths : List ℕ) (o1 : Option Known) (i : Interval) (o2 : Option Known) (j : Interval) (b : Bool) → lengths ≡ [] → b ≡ quiet e → b ≡ true →
     o1 ≡ o → Evaluates fr e o1 i o2 → Converts u i j → Entails (full j) k → Fills fr (typed.one_value u e) t x lengths o j
-one_fills_at fr x o k h u e t lengths o1 i o2 j b el eb et eo ev cv f = let P : Option (List AbsValue) → Type 0 = λ o. Evaluates fr e o i o2 in
+one_fills_at fr x o k h u e t lengths o1 i o2 j b el eb et eo ev cv f = let P : Option Known → Type 0 = λ o. Evaluates fr e o i o2 in
     value_fills fr u e t x lengths o k i o2 j el h f (sym eb ∙ et) (subst P eo ev) cv
 
-pub text_fills_at : (fr : Frame) (x : ℕ) (o : Option (List AbsValue)) (k : AbsValue) → Takes o x k → (a : ℕ) (t : IntType) (n : ℕ) (lengths inner : List ℕ) (j : Interval) → lengths ≡ n ∷ inner → inner ≡ [] → j ≡ range_of t → In j (pos 0) → Entails (full j) k → Fills fr (typed.text a) t x lengths o j
+pub text_fills_at : (fr : Frame) (x : ℕ) (o : Option Known) (k : AbsValue) → Takes o x k → (a : ℕ) (t : IntType) (n : ℕ) (lengths inner : List ℕ) (j : Interval) → lengths ≡ n ∷ inner → inner ≡ [] → j ≡ range_of t → In j (pos 0) → Entails (full j) k → Fills fr (typed.text a) t x lengths o j
 text_fills_at fr x o k h a t n lengths inner j el ei ej z f = text_fills fr x o k h a t n lengths j (el ∙ ap (λ l. n ∷ l) ei) f ej z
 
-pub list_filled : (fr : Frame) (x : ℕ) (o : Option (List AbsValue)) (k : AbsValue) → Takes o x k → (all : Initialisers) (t : IntType) (n : ℕ) (inner lengths : List ℕ) (j : Interval) → lengths ≡ n ∷ inner → FillsFrom fr all t x n inner o j → Fills fr (typed.list all) t x lengths o j
+pub list_filled : (fr : Frame) (x : ℕ) (o : Option Known) (k : AbsValue) → Takes o x k → (all : Initialisers) (t : IntType) (n : ℕ) (inner lengths : List ℕ) (j : Interval) → lengths ≡ n ∷ inner → FillsFrom fr all t x n inner o j → Fills fr (typed.list all) t x lengths o j
 list_filled fr x o k h all t n inner lengths j el f = list_fills fr x o k h all t n inner lengths f.first j el f.all
 
-pub end_full : (fr : Frame) (x : ℕ) (o : Option (List AbsValue)) (k : AbsValue) → Takes o x k → (t : IntType) (n done : ℕ) (inner : List ℕ) (j : Interval) → done ≡ n → FillsEnd fr t x n done inner o j j
+pub end_full : (fr : Frame) (x : ℕ) (o : Option Known) (k : AbsValue) → Takes o x k → (t : IntType) (n done : ℕ) (inner : List ℕ) (j : Interval) → done ≡ n → FillsEnd fr t x n done inner o j j
 end_full fr x o k h t n done inner j e = let P : ℕ → Type 0 = λ done. FillsEnd fr t x n done inner o j j in subst P (sym e) (record { rest = all_filled fr x o k h t n inner j })
 
-pub end_zero : (fr : Frame) (x : ℕ) (o : Option (List AbsValue)) (k : AbsValue) → Takes o x k → (t : IntType) (n done : ℕ) (inner : List ℕ) (j zero_interval j2 : Interval) → zero_interval ≡ just (pos 0) → Below j j2 → Below zero_interval j2 → Entails (full j2) k → FillsEnd fr t x n done inner o j j2
+pub end_zero : (fr : Frame) (x : ℕ) (o : Option Known) (k : AbsValue) → Takes o x k → (t : IntType) (n done : ℕ) (inner : List ℕ) (j zero_interval j2 : Interval) → zero_interval ≡ just (pos 0) → Below j j2 → Below zero_interval j2 → Entails (full j2) k → FillsEnd fr t x n done inner o j j2
 end_zero fr x o k h t n done inner j z j2 ez b bz f = let P : Interval → Type 0 = λ z. In z (pos 0) in
     record { rest = none_fill fr x o k h t n done inner j j2 f b (below z j2 (pos 0) bz (subst P (sym ez) (omega (arith, ints), omega (arith, ints)))) }
 
-pub one_more : (fr : Frame) (x : ℕ) (o : Option (List AbsValue)) (k : AbsValue) → Takes o x k → (xs : List held.Initialiser) (a : held.Initialiser) (more : List held.Initialiser) (t : IntType) (n done : ℕ) (inner : List ℕ) (j j1 j2 j3 : Interval) → xs ≡ a ∷ more → done < n → Fills fr (initialiser_of a) t x inner o j1 →
+pub one_more : (fr : Frame) (x : ℕ) (o : Option Known) (k : AbsValue) → Takes o x k → (xs : List held.Initialiser) (a : held.Initialiser) (more : List held.Initialiser) (t : IntType) (n done : ℕ) (inner : List ℕ) (j j1 j2 j3 : Interval) → xs ≡ a ∷ more → done < n → Fills fr (initialiser_of a) t x inner o j1 →
     Below j j2 → Below j1 j2 → FillsAll fr (initialisers_of (map initialiser_of more)) t x n (done + 1) inner o j2 j3 → FillsAll fr (initialisers_of (map initialiser_of xs)) t x n done inner o j j3
 one_more fr x o k h xs a more t n done inner j j1 j2 j3 ex lt ha b b1 hm =
     let P : List held.Initialiser → Type 0 = λ xs. FillsAll fr (initialisers_of (map initialiser_of xs)) t x n done inner o j j3 in
     let Q : ℕ → Type 0 = λ i. FillsAll fr (initialisers_of (map initialiser_of more)) t x n i inner o j2 j3 in
     subst P (sym ex) (one_fills fr x o k h (initialiser_of a) (initialisers_of (map initialiser_of more)) t n done inner j j1 j2 j3 lt ha b b1 (subst Q (add-one done) hm))
 
-pub none_more : (fr : Frame) (x : ℕ) (o : Option (List AbsValue)) (k : AbsValue) → Takes o x k → (xs : List held.Initialiser) (t : IntType) (n done : ℕ) (inner : List ℕ) (j j2 : Interval) → length xs ≡ 0 → FillsEnd fr t x n done inner o j j2 →
+pub none_more : (fr : Frame) (x : ℕ) (o : Option Known) (k : AbsValue) → Takes o x k → (xs : List held.Initialiser) (t : IntType) (n done : ℕ) (inner : List ℕ) (j j2 : Interval) → length xs ≡ 0 → FillsEnd fr t x n done inner o j j2 →
     FillsAll fr (initialisers_of (map initialiser_of xs)) t x n done inner o j j2
 none_more fr x o k h [] t n done inner j j2 e f = f.rest
 none_more fr x o k h (a ∷ xs) t n done inner j j2 e f = absurd (cc e)
@@ -375,7 +374,7 @@ fewer xs a more n e h =
     let all : work_initialiser (initialiser_of a) + work_initialisers (initialisers_of (map initialiser_of more)) + 3 ≤ n = subst P e h in
     omega (arith, all)
 
-pub defined_whole : (fr : Frame) (n x base : ℕ) (t : ObjectType) (i : Initialiser) (u : IntType) (lengths : List ℕ) (o o2 wide : Option (List AbsValue)) (j : Interval) (new : AbsValue) (o3 : Option (List AbsValue)) (kept : AbsValue) (w : Ways) → w ≡ only_normal kept o3 → base ≡ length fr.outer → x ≡ base + n →
+pub defined_whole : (fr : Frame) (n x base : ℕ) (t : ObjectType) (i : Initialiser) (u : IntType) (lengths : List ℕ) (o o2 wide : Option Known) (j : Interval) (new : AbsValue) (o3 : Option Known) (kept : AbsValue) (w : Ways) → w ≡ only_normal kept o3 → base ≡ length fr.outer → x ≡ base + n →
     slice_get fr.objects n ≡ Some t → u ≡ t.element → lengths ≡ t.lengths → RenewsOne fr n o o2 → Implies o2 wide → Fills fr i u x lengths wide j → new ≡ full j → Replaces wide x new o3 → Executes fr (typed.define n i) o w
 defined_whole fr n x base t i u lengths o o2 wide j new o3 kept w ew eb ex et eu el one im h en r =
     let P : Ways → Type 0 = λ w. Executes fr (typed.define n i) o w in

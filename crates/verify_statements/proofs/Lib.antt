@@ -4,3 +4,4 @@ pub mod Steps
 pub mod Switches
 pub mod Quiet
 pub mod Fills
+pub mod RowRules

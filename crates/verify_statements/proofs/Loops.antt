@@ -1,15 +1,14 @@
 -- Loops, once each part is shown.
-use Rattle.std.proofs.Common.{◌≡◌, ℕ, zero, suc, ℤ, List, sym, subst}
+use Rattle.std.proofs.Common.{◌≡◌, ℕ, zero, suc, ℤ, subst}
 use Rattle.std.specs.Prelude.{Option, Some, None}
 use Rattle.typing_spec.specs.Program as typed
 use Rattle.typing_spec.specs.Program.{Value, Statement, Statements}
 use Rattle.ctypes.specs.Types.{truth}
-use Rattle.csem.specs.Machine.{State, Run, Goes, then_do, tick}
+use Rattle.csem.specs.Machine.{State, Run, Goes, then_do}
 use Rattle.csem.specs.Expressions.{evaluate, evaluate_or}
 use Rattle.csem.specs.Statements.{Flow, Normal, Broken, Continued, Returned, after_body, turns, execute, execute_all}
 use Rattle.csem.specs.Meaning.{calling}
-use Rattle.verify_logic.specs.declared.abstract_values.AbsValue.{AbsValue}
-use Rattle.verify_logic.specs.States.{Frame, ValueIs, Reaches, Ends, Implies}
+use Rattle.verify_logic.specs.States.{Known, Frame, ValueIs, Reaches, Ends, Implies}
 use Rattle.verify_logic.specs.Judgements.{Tests, either_way}
 use Rattle.verify_logic.specs.Statements.{Ways, Leaves, Executes, ExecutesAll, WaysImply, TestsOr, EvaluatesOr}
 use Rattle.verify_logic.proofs.Runs.{then_ends, tick_ends, weaker}
@@ -18,18 +17,18 @@ use Rattle.verify_logic.proofs.Rules.{by_truth}
 use Rattle.verify_logic.proofs.StatementRules.{loop_ways, turns_rule, tests_some, evaluates_none}
 use Rattle.verify_statements.specs.Loops.{Loops, Unrolls, Turns, Leads}
 
-pub loops_rule : (fr : Frame) (test step : Option Value) (a : Statement) (o kept again on off : Option (List AbsValue)) (w : Ways) (behind out : Option (List AbsValue)) → Implies o kept → again ≡ kept → TestsOr fr test again on off → Executes fr a on w →
+pub loops_rule : (fr : Frame) (test step : Option Value) (a : Statement) (o kept again on off : Option Known) (w : Ways) (behind out : Option Known) → Implies o kept → again ≡ kept → TestsOr fr test again on off → Executes fr a on w →
     Implies w.normal behind → Implies w.continued behind → EvaluatesOr fr step behind kept → Implies w.broken out → Implies off out → Loops fr test step a o (loop_ways out w)
-loops_rule fr test step a o kept again on off w behind out f same ht ha n k hp b x = let P : Option (List AbsValue) → Type 0 = λ kept. TestsOr fr test kept on off in record {
+loops_rule fr test step a o kept again on off w behind out f same ht ha n k hp b x = let P : Option Known → Type 0 = λ kept. TestsOr fr test kept on off in record {
   runs = λ d m s c. turns_rule fr kept on off w behind out test step a (subst P same ht) ha n k hp b x d m s (f.is fr s c);
 }
 
-pub whole_while : (fr : Frame) (e : Value) (a : Statement) (o kept again on off : Option (List AbsValue)) (w : Ways) (out : Option (List AbsValue)) → Implies o kept → again ≡ kept → Tests fr e again on off → Executes fr a on w →
+pub whole_while : (fr : Frame) (e : Value) (a : Statement) (o kept again on off : Option Known) (w : Ways) (out : Option Known) → Implies o kept → again ≡ kept → Tests fr e again on off → Executes fr a on w →
     Implies w.normal kept → Implies w.continued kept → Implies w.broken out → Implies off out → Loops fr (Some e) None a o (loop_ways out w)
 whole_while fr e a o kept again on off w out f same ht ha n k b x =
     loops_rule fr (Some e) None a o kept again on off w kept out f same (tests_some fr e again on off ht) ha n k (evaluates_none fr kept kept (implies_same kept)) b x
 
-pub while_as : (fr : Frame) (e : Value) (a : Statement) (o : Option (List AbsValue)) (w : Ways) → Loops fr (Some e) None a o w → Executes fr (typed.while e a) o w
+pub while_as : (fr : Frame) (e : Value) (a : Statement) (o : Option Known) (w : Ways) → Loops fr (Some e) None a o w → Executes fr (typed.while e a) o w
 while_as fr e a o w h = record {
   runs = λ d s c. tick_ends fr.listed s (λ s. turns s.clock (evaluate fr.program (calling fr.program d) e) (execute fr.program (calling fr.program d) fr.objects a) (evaluate_or fr.program (calling fr.program d) None) s) (Leaves fr w)
       (λ m. h.runs d m (record s { clock = m }) c);
@@ -39,7 +38,7 @@ while_as fr e a o w h = record {
 abbrev pub first_ways : Ways → Ways
 first_ways w = record { normal = w.broken; broken = None; continued = None; returned = w.returned; value = w.value }
 
-pub do_as : (fr : Frame) (e : Value) (a : Statement) (o : Option (List AbsValue)) (w : Ways) (kept : Option (List AbsValue)) (w2 out : Ways) → Executes fr a o w → Implies w.normal kept → Implies w.continued kept → Loops fr (Some e) None a kept w2 →
+pub do_as : (fr : Frame) (e : Value) (a : Statement) (o : Option Known) (w : Ways) (kept : Option Known) (w2 out : Ways) → Executes fr a o w → Implies w.normal kept → Implies w.continued kept → Loops fr (Some e) None a kept w2 →
     WaysImply (first_ways w) out → WaysImply w2 out → Executes fr (typed.do_while a e) o out
 do_as fr e a o w kept w2 out h n k g f1 f2 = record {
   runs = λ d s c. tick_ends fr.listed s _ (Leaves fr out) (λ m.
@@ -63,7 +62,7 @@ do_as fr e a o w kept w2 out h n k g f1 f2 = record {
     next d Broken s q = f1.normal.is fr s q
     next d (Returned v) s q = f1.returned fr v s q.0 q.1
 
-pub for_as : (fr : Frame) (declared : Statements) (start test step : Option Value) (a : Statement) (o : Option (List AbsValue)) (before : Ways) (o2 : Option (List AbsValue)) (w : Ways) → ExecutesAll fr declared o before → Implies before.broken before.normal →
+pub for_as : (fr : Frame) (declared : Statements) (start test step : Option Value) (a : Statement) (o : Option Known) (before : Ways) (o2 : Option Known) (w : Ways) → ExecutesAll fr declared o before → Implies before.broken before.normal →
     Implies before.continued before.normal → Implies before.returned before.normal → EvaluatesOr fr start before.normal o2 → Loops fr test step a o2 w → Executes fr (typed.for declared start test step a) o w
 for_as fr declared start test step a o before o2 w hd jb jc jr hs h = record {
   runs = λ d s c. tick_ends fr.listed s _ (Leaves fr w) (λ m.
@@ -80,7 +79,7 @@ for_as fr declared start test step a o before o2 w hd jb jc jr hs h = record {
 
 -- ---- turns that are followed one by one
 
-module _ (fr : Frame) (test step : Option Value) (a : Statement) (o on off : Option (List AbsValue)) (w : Ways) (behind next : Option (List AbsValue)) (all : Ways) (ht : TestsOr fr test o on off) (ha : Executes fr a on w) (normal : Implies w.normal behind)
+module _ (fr : Frame) (test step : Option Value) (a : Statement) (o on off : Option Known) (w : Ways) (behind next : Option Known) (all : Ways) (ht : TestsOr fr test o on off) (ha : Executes fr a on w) (normal : Implies w.normal behind)
     (continued : Implies w.continued behind) (hs : EvaluatesOr fr step behind next) (broken : Implies w.broken all.normal) (ends : Implies off all.normal)
     (returned : (v : Option ℤ) (s : State) → ValueIs w.value v → Reaches fr w.returned s → ValueIs all.value v × Reaches fr all.returned s) (more : Loops fr test step a next all) where
   abbrev turning : (d n : ℕ) → State → Run Flow
@@ -104,17 +103,17 @@ module _ (fr : Frame) (test step : Option Value) (a : Statement) (o on off : Opt
       (λ c2. then_ends fr.listed (execute fr.program (calling fr.program d) fr.objects a s2) _ (Leaves fr w) (Leaves fr all) (ha.runs d s2 c2) (λ flow s3 q. after_turn d n flow s3 q))
       (λ c2. ends.is fr s2 c2))
 
-loops_from : (fr : Frame) (test step : Option Value) (a : Statement) (o o2 : Option (List AbsValue)) (w : Ways) → Implies o o2 → Loops fr test step a o2 w → Loops fr test step a o w
+loops_from : (fr : Frame) (test step : Option Value) (a : Statement) (o o2 : Option Known) (w : Ways) → Implies o o2 → Loops fr test step a o2 w → Loops fr test step a o w
 loops_from fr test step a o o2 w f h = record { runs = λ d n s c. h.runs d n s (f.is fr s c) }
 
 -- left by the end of one turn
-abbrev pub turn_ways : Option (List AbsValue) → Ways → Ways
+abbrev pub turn_ways : Option Known → Ways → Ways
 turn_ways out w = record { normal = None; broken = out; continued = None; returned = w.returned; value = w.value }
 
-abbrev pub next_ways : Option (List AbsValue) → Ways → Ways
+abbrev pub next_ways : Option Known → Ways → Ways
 next_ways next w = record { normal = next; broken = w.broken; continued = w.continued; returned = w.returned; value = w.value }
 
-turn_leads : (fr : Frame) (test step : Option Value) (a : Statement) (w0 : Ways) (on off : Option (List AbsValue)) (w : Ways) (behind next out : Option (List AbsValue)) (r : Ways) → TestsOr fr test w0.normal on off → Executes fr a on w → Implies w.normal behind →
+turn_leads : (fr : Frame) (test step : Option Value) (a : Statement) (w0 : Ways) (on off : Option Known) (w : Ways) (behind next out : Option Known) (r : Ways) → TestsOr fr test w0.normal on off → Executes fr a on w → Implies w.normal behind →
     Implies w.continued behind → EvaluatesOr fr step behind next → Implies w.broken out → Implies off out → WaysImply (next_ways next w0) r → WaysImply (turn_ways out w) r → Turns fr test step a w0 r
 turn_leads fr test step a w0 on off w behind next out r ht ha n k hs b x f g = record {
   leads = λ all u.
@@ -128,14 +127,14 @@ turn_leads fr test step a w0 on off w behind next out r ht ha n k hs b x f g = r
       };
 }
 
-pub for_turn : (fr : Frame) (test step : Option Value) (a : Statement) (w0 : Ways) (o on off : Option (List AbsValue)) (w : Ways) (behind next out : Option (List AbsValue)) (before turn r : Ways) → o ≡ w0.normal → TestsOr fr test o on off → Executes fr a on w →
+pub for_turn : (fr : Frame) (test step : Option Value) (a : Statement) (w0 : Ways) (o on off : Option Known) (w : Ways) (behind next out : Option Known) (before turn r : Ways) → o ≡ w0.normal → TestsOr fr test o on off → Executes fr a on w →
     Implies w.normal behind → Implies w.continued behind → EvaluatesOr fr step behind next → Implies w.broken out → Implies off out → before ≡ next_ways next w0 → turn ≡ turn_ways out w → WaysImply before r → WaysImply turn r → Turns fr test step a w0 r
 for_turn fr test step a w0 o on off w behind next out before turn r eo ht ha n k hs b x eb et f g =
-    let O : Option (List AbsValue) → Type 0 = λ o. TestsOr fr test o on off in
+    let O : Option Known → Type 0 = λ o. TestsOr fr test o on off in
     let P : Ways → Type 0 = λ v. WaysImply v r in
     turn_leads fr test step a w0 on off w behind next out r (subst O eo ht) ha n k hs b x (subst P eb f) (subst P et g)
 
-pub while_turn : (fr : Frame) (e : Value) (a : Statement) (w0 : Ways) (o on off : Option (List AbsValue)) (w : Ways) (behind out : Option (List AbsValue)) (before turn r : Ways) → o ≡ w0.normal → Tests fr e o on off → Executes fr a on w → Implies w.normal behind →
+pub while_turn : (fr : Frame) (e : Value) (a : Statement) (w0 : Ways) (o on off : Option Known) (w : Ways) (behind out : Option Known) (before turn r : Ways) → o ≡ w0.normal → Tests fr e o on off → Executes fr a on w → Implies w.normal behind →
     Implies w.continued behind → Implies w.broken out → Implies off out → before ≡ next_ways behind w0 → turn ≡ turn_ways out w → WaysImply before r → WaysImply turn r → Turns fr (Some e) None a w0 r
 while_turn fr e a w0 o on off w behind out before turn r eo ht ha n k b x eb et f g =
     for_turn fr (Some e) None a w0 o on off w behind behind out before turn r eo (tests_some fr e o on off ht) ha n k (evaluates_none fr behind behind (implies_same behind)) b x eb et f g
@@ -143,10 +142,10 @@ while_turn fr e a w0 o on off w behind out before turn r eo ht ha n k b x eb et 
 pub no_turn : (fr : Frame) (test step : Option Value) (a : Statement) (w : Ways) → Turns fr test step a w w
 no_turn fr test step a w = record { leads = λ out u. u }
 
-pub leads_from : (fr : Frame) (test step : Option Value) (a : Statement) (o : Option (List AbsValue)) (first so_far : Ways) → first.normal ≡ o → ((out : Ways) → Unrolls fr test step a so_far out → Unrolls fr test step a first out) → Leads fr test step a o so_far
-leads_from fr test step a o first so_far e f = record { leads = λ out u. let P : Option (List AbsValue) → Type 0 = λ o. Loops fr test step a o out in subst P e (f out u).loops }
+pub leads_from : (fr : Frame) (test step : Option Value) (a : Statement) (o : Option Known) (first so_far : Ways) → first.normal ≡ o → ((out : Ways) → Unrolls fr test step a so_far out → Unrolls fr test step a first out) → Leads fr test step a o so_far
+leads_from fr test step a o first so_far e f = record { leads = λ out u. let P : Option Known → Type 0 = λ o. Loops fr test step a o out in subst P e (f out u).loops }
 
-pub unrolled_as : (fr : Frame) (test step : Option Value) (a : Statement) (o : Option (List AbsValue)) (so_far w2 out : Ways) → Leads fr test step a o so_far → Loops fr test step a so_far.normal w2 → WaysImply (first_ways so_far) out → WaysImply w2 out → Loops fr test step a o out
+pub unrolled_as : (fr : Frame) (test step : Option Value) (a : Statement) (o : Option Known) (so_far w2 out : Ways) → Leads fr test step a o so_far → Loops fr test step a so_far.normal w2 → WaysImply (first_ways so_far) out → WaysImply w2 out → Loops fr test step a o out
 unrolled_as fr test step a o so_far w2 out h g f1 f2 = h.leads out (record {
   loops = record {
     runs = λ d n s c. weaker fr.listed (turns n (evaluate_or fr.program (calling fr.program d) test) (execute fr.program (calling fr.program d) fr.objects a) (evaluate_or fr.program (calling fr.program d) step) s) (Leaves fr w2) (Leaves fr out) (g.runs d n s c)

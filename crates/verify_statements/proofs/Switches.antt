@@ -8,8 +8,7 @@ use Rattle.typed_ast.specs.declared.statements.Statement as held
 use Rattle.typed_ast.specs.View.{statement_of, statements_of}
 use Rattle.csem.specs.Statements.{labels_at, labels_of}
 use Rattle.verify_logic.specs.declared.abstract_values.Interval.{Interval}
-use Rattle.verify_logic.specs.declared.abstract_values.AbsValue.{AbsValue}
-use Rattle.verify_logic.specs.States.{Frame, Implies}
+use Rattle.verify_logic.specs.States.{Known, Frame, Implies}
 use Rattle.verify_logic.specs.Judgements.{Evaluates}
 use Rattle.verify_logic.specs.Statements.{Ways, Executes, Enters, Follows, Renews, has_default}
 use Rattle.verify_logic.proofs.StatementRules.{enters_none, enters_label, enters_statement, switch_rule, switch_ways, with_normal}
@@ -54,34 +53,34 @@ no_label typed.continue e = refl
 no_label typed.return_nothing e = refl
 no_label (typed.return_value t x) e = refl
 
-pub label_one : (fr : Frame) (entry : Option (List AbsValue)) (so_far : Ways) (b : Bool) (a : Statement) (w : Ways) → b ≡ is_label a → b ≡ true → EntersLabel fr entry so_far a w → EntersOne fr entry so_far a w
+pub label_one : (fr : Frame) (entry : Option Known) (so_far : Ways) (b : Bool) (a : Statement) (w : Ways) → b ≡ is_label a → b ≡ true → EntersLabel fr entry so_far a w → EntersOne fr entry so_far a w
 label_one fr entry so_far b a w eb et h = let q = label_at a (sym eb ∙ et) in record {
   leads = λ more out k. enters_label fr entry so_far a q.0 h.both w more out q.1 h.jumped h.behind h.follows k;
 }
 
-pub statement_one : (fr : Frame) (entry : Option (List AbsValue)) (so_far : Ways) (b : Bool) (a : Statement) (w : Ways) → b ≡ is_label a → b ≡ false → Follows fr so_far a w → EntersOne fr entry so_far a w
+pub statement_one : (fr : Frame) (entry : Option Known) (so_far : Ways) (b : Bool) (a : Statement) (w : Ways) → b ≡ is_label a → b ≡ false → Follows fr so_far a w → EntersOne fr entry so_far a w
 statement_one fr entry so_far b a w eb ef h = record { leads = λ more out k. enters_statement fr entry so_far a w more out (no_label a (sym eb ∙ ef)) h k }
 
-pub label_follows : (fr : Frame) (entry copy : Option (List AbsValue)) (so_far before : Ways) (both : Option (List AbsValue)) (a : Statement) (w : Ways) → copy ≡ entry → Implies copy both → Implies so_far.normal both → before ≡ with_normal both so_far → Follows fr before a w →
+pub label_follows : (fr : Frame) (entry copy : Option Known) (so_far before : Ways) (both : Option Known) (a : Statement) (w : Ways) → copy ≡ entry → Implies copy both → Implies so_far.normal both → before ≡ with_normal both so_far → Follows fr before a w →
     EntersLabel fr entry so_far a w
 label_follows fr entry copy so_far before both a w ec hc hs eb h =
-    let P : Option (List AbsValue) → Type 0 = λ o. Implies o both in
+    let P : Option Known → Type 0 = λ o. Implies o both in
     let Q : Ways → Type 0 = λ v. Follows fr v a w in
     record { both = both; jumped = subst P ec hc; behind = hs; follows = subst Q eb h }
 
 -- ---- the statements of a switch, one by one
 
-pub one_less : (fr : Frame) (entry : Option (List AbsValue)) (xs : List held.Statement) (x : held.Statement) (more : List held.Statement) (w w2 out : Ways) → xs ≡ x ∷ more → EntersOne fr entry w (statement_of x) w2 →
+pub one_less : (fr : Frame) (entry : Option Known) (xs : List held.Statement) (x : held.Statement) (more : List held.Statement) (w w2 out : Ways) → xs ≡ x ∷ more → EntersOne fr entry w (statement_of x) w2 →
     Enters fr entry w2 (statements_of (map statement_of more)) out → Enters fr entry w (statements_of (map statement_of xs)) out
 one_less fr entry xs x more w w2 out e h k =
     let P : List held.Statement → Type 0 = λ xs. Enters fr entry w (statements_of (map statement_of xs)) out in
     subst P (sym e) (h.leads (statements_of (map statement_of more)) out k)
 
-pub none_left : (fr : Frame) (entry : Option (List AbsValue)) (xs : List held.Statement) (w : Ways) → length xs ≡ 0 → Enters fr entry w (statements_of (map statement_of xs)) w
+pub none_left : (fr : Frame) (entry : Option Known) (xs : List held.Statement) (w : Ways) → length xs ≡ 0 → Enters fr entry w (statements_of (map statement_of xs)) w
 none_left fr entry [] w e = enters_none fr entry w
 none_left fr entry (x ∷ xs) w e = absurd (cc e)
 
-pub enters_all : (fr : Frame) (entry : Option (List AbsValue)) (all : Statements) (nothing w : Ways) → Enters fr entry nothing all w → EntersAll fr entry all w
+pub enters_all : (fr : Frame) (entry : Option Known) (all : Statements) (nothing w : Ways) → Enters fr entry nothing all w → EntersAll fr entry all w
 enters_all fr entry all nothing w h = record { nothing = nothing; enters = h }
 
 -- ---- default
@@ -120,7 +119,7 @@ default_there xs n x b lt ex eb et = let P : held.Statement → Type 0 = λ y. i
 
 -- ---- the whole
 
-pub switch_as : (fr : Frame) (t : IntType) (e : Value) (first count : ℕ) (all : Statements) (o : Option (List AbsValue)) (i : Interval) (o2 o3 : Option (List AbsValue)) (w : Ways) (both out : Option (List AbsValue)) (any : Bool) → Evaluates fr e o i o2 → Renews fr first count o2 o3 →
+pub switch_as : (fr : Frame) (t : IntType) (e : Value) (first count : ℕ) (all : Statements) (o : Option Known) (i : Interval) (o2 o3 : Option Known) (w : Ways) (both out : Option Known) (any : Bool) → Evaluates fr e o i o2 → Renews fr first count o2 o3 →
     EntersAll fr o3 all w → Implies w.normal both → Implies w.broken both → (any ≡ true → has_default (labels_of all) ≡ true) → Implies both out → (any ≡ false → Implies o3 out) → Executes fr (typed.switch t e first count all) o (switch_ways out w)
 switch_as fr t e first count all o i o2 o3 w both out any he hr h n b d bo x =
     switch_rule fr t e first count all o i o2 o3 h.nothing w out he hr h.enters (implies_then w.normal both out n bo) (implies_then w.broken both out b bo) (λ q. missing any refl q)

@@ -1,5 +1,5 @@
 -- What is shown of first values of objects of a block, elements and rows among them (6.7.9).
-use Rattle.std.specs.Prelude.{◌≡◌, ℕ, zero, suc, ◌+◌, List, [], ◌∷◌, Option, true}
+use Rattle.std.specs.Prelude.{◌≡◌, ℕ, zero, suc, ◌+◌, List, ◌∷◌, Option, true}
 use Rattle.ctypes.specs.declared.types.IntType.{IntType}
 use Rattle.typing_spec.specs.Program.{Initialiser, Initialisers, no_initialisers}
 use Rattle.csem.specs.Store.{Tree, Array, Row, no_parts, and_part, parts, Store, Reference, put}
@@ -8,10 +8,10 @@ use Rattle.csem.specs.Statements.{initialise, initialise_all}
 use Rattle.csem.specs.Meaning.{calling}
 use Rattle.verify_logic.specs.declared.abstract_values.Interval.{Interval}
 use Rattle.verify_logic.specs.declared.abstract_values.AbsValue.{AbsValue}
-use Rattle.verify_logic.specs.States.{Frame, EachPart, TreeIs, Reaches, Ends, Entails, Refers, Contents, Replaces}
+use Rattle.verify_logic.specs.States.{Known, Frame, EachPart, TreeIs, Reaches, Ends, Refers, Contents, Replaces}
 
 -- where nothing is said of object x but that its elements are such values
-pub record Takes (o : Option (List AbsValue)) (x : ℕ) (k : AbsValue) : Type 0 where
+pub record Takes (o : Option Known) (x : ℕ) (k : AbsValue) : Type 0 where
   pub contents : Contents o x k
   pub replaces : Replaces o x k o
 
@@ -24,7 +24,7 @@ pub record Filled (j : Interval) (rest : List ℕ) (before after : Store) (r : R
   pub is : TreeIs (full j) rest tree
   pub put_there : after ≡ put before r tree
 
-pub record Fills (fr : Frame) (i : Initialiser) (t : IntType) (x : ℕ) (rest : List ℕ) (o : Option (List AbsValue)) (j : Interval) : Type 0 where
+pub record Fills (fr : Frame) (i : Initialiser) (t : IntType) (x : ℕ) (rest : List ℕ) (o : Option Known) (j : Interval) : Type 0 where
   pub runs : (d : ℕ) (r : Reference) (s : State) → Refers fr x rest r → Reaches fr o s → Ends fr.listed (initialise fr.program (calling fr.program d) i t rest r s) (λ u s2. Reaches fr o s2 × Filled j rest s.store s2.store r)
 
 -- the first parts of a row
@@ -41,15 +41,15 @@ pub record FilledRow (j : Interval) (n : ℕ) (inner : List ℕ) (before after :
   pub put_there : after ≡ put before r (Array row)
 
 -- where the first i of n elements or rows have their values in the interval, these initialisers give the others theirs
-pub record FillsAll (fr : Frame) (all : Initialisers) (t : IntType) (x n i : ℕ) (inner : List ℕ) (o : Option (List AbsValue)) (j j2 : Interval) : Type 0 where
+pub record FillsAll (fr : Frame) (all : Initialisers) (t : IntType) (x n i : ℕ) (inner : List ℕ) (o : Option Known) (j j2 : Interval) : Type 0 where
   pub runs : (d m : ℕ) (r : Reference) (before : Store) (row : Row) (s : State) → i + m ≡ n → Refers fr x (n ∷ inner) r → Reaches fr o s → s.store ≡ put before r (Array row) → parts row ≡ n → FirstParts (TreeIs (full j) inner) i row →
       Ends fr.listed (initialise_all fr.program (calling fr.program d) all t m i inner r s) (λ u s2. Reaches fr o s2 × FilledRow j2 n inner before s2.store r)
 
 -- where no initialiser is left
-pub record FillsEnd (fr : Frame) (t : IntType) (x n i : ℕ) (inner : List ℕ) (o : Option (List AbsValue)) (j j2 : Interval) : Type 0 where
+pub record FillsEnd (fr : Frame) (t : IntType) (x n i : ℕ) (inner : List ℕ) (o : Option Known) (j j2 : Interval) : Type 0 where
   pub rest : FillsAll fr no_initialisers t x n i inner o j j2
 
 -- where none of them has its values yet
-pub record FillsFrom (fr : Frame) (given : Initialisers) (t : IntType) (x n : ℕ) (inner : List ℕ) (o : Option (List AbsValue)) (j : Interval) : Type 0 where
+pub record FillsFrom (fr : Frame) (given : Initialisers) (t : IntType) (x n : ℕ) (inner : List ℕ) (o : Option Known) (j : Interval) : Type 0 where
   pub first : Interval
   pub all : FillsAll fr given t x n 0 inner o first j

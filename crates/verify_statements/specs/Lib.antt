@@ -3,3 +3,4 @@ pub mod Loops
 pub mod Switches
 pub mod Quiet
 pub mod Fills
+pub mod Rows

@@ -1,16 +1,15 @@
 -- What is shown of loops (6.8.5).
-use Rattle.std.specs.Prelude.{ℕ, ℤ, List, Option}
+use Rattle.std.specs.Prelude.{ℕ, ℤ, Option}
 use Rattle.typing_spec.specs.Program.{Value, Statement}
 use Rattle.csem.specs.Machine.{State}
 use Rattle.csem.specs.Expressions.{evaluate_or}
 use Rattle.csem.specs.Statements.{execute, turns}
 use Rattle.csem.specs.Meaning.{calling}
-use Rattle.verify_logic.specs.declared.abstract_values.AbsValue.{AbsValue}
-use Rattle.verify_logic.specs.States.{Frame, ValueIs, Reaches, Ends, Implies}
+use Rattle.verify_logic.specs.States.{Known, Frame, ValueIs, Reaches, Ends, Implies}
 use Rattle.verify_logic.specs.Statements.{Ways, Leaves}
 
 -- a loop that begins with its test, whatever the number of its turns
-pub record Loops (fr : Frame) (test step : Option Value) (a : Statement) (before : Option (List AbsValue)) (w : Ways) : Type 0 where
+pub record Loops (fr : Frame) (test step : Option Value) (a : Statement) (before : Option Known) (w : Ways) : Type 0 where
   pub runs : (d n : ℕ) (s : State) → Reaches fr before s →
       Ends fr.listed (turns n (evaluate_or fr.program (calling fr.program d) test) (execute fr.program (calling fr.program d) fr.objects a) (evaluate_or fr.program (calling fr.program d) step) s) (Leaves fr w)
 
@@ -25,5 +24,5 @@ pub record Turns (fr : Frame) (test step : Option Value) (a : Statement) (so_far
   pub leads : (out : Ways) → Unrolls fr test step a next out → Unrolls fr test step a so_far out
 
 -- its first turns
-pub record Leads (fr : Frame) (test step : Option Value) (a : Statement) (before : Option (List AbsValue)) (so_far : Ways) : Type 0 where
+pub record Leads (fr : Frame) (test step : Option Value) (a : Statement) (before : Option Known) (so_far : Ways) : Type 0 where
   pub leads : (out : Ways) → Unrolls fr test step a so_far out → Loops fr test step a before out

@@ -1,9 +1,8 @@
 -- What is shown of a switch (6.8.1, 6.8.4.2).
-use Rattle.std.specs.Prelude.{ℕ, List, Option, Bool, true, false}
+use Rattle.std.specs.Prelude.{Option, Bool, true, false}
 use Rattle.typing_spec.specs.Program as typed
 use Rattle.typing_spec.specs.Program.{Statement, Statements}
-use Rattle.verify_logic.specs.declared.abstract_values.AbsValue.{AbsValue}
-use Rattle.verify_logic.specs.States.{Frame, Implies}
+use Rattle.verify_logic.specs.States.{Known, Frame, Implies}
 use Rattle.verify_logic.specs.Statements.{Ways, Enters, Follows}
 
 abbrev pub is_default : Statement → Bool
@@ -45,17 +44,17 @@ is_label typed.return_nothing = false
 is_label (typed.return_value t e) = false
 
 -- this statement of a switch may be jumped to with what is known before them, or follows what was executed so far
-pub record EntersOne (fr : Frame) (entry : Option (List AbsValue)) (so_far : Ways) (a : Statement) (w : Ways) : Type 0 where
+pub record EntersOne (fr : Frame) (entry : Option Known) (so_far : Ways) (a : Statement) (w : Ways) : Type 0 where
   pub leads : (more : Statements) (out : Ways) → Enters fr entry w more out → Enters fr entry so_far (typed.and_statement a more) out
 
 -- this label is jumped to, or follows
-pub record EntersLabel (fr : Frame) (entry : Option (List AbsValue)) (so_far : Ways) (a : Statement) (w : Ways) : Type 0 where
-  pub both : Option (List AbsValue)
+pub record EntersLabel (fr : Frame) (entry : Option Known) (so_far : Ways) (a : Statement) (w : Ways) : Type 0 where
+  pub both : Option Known
   pub jumped : Implies entry both
   pub behind : Implies so_far.normal both
   pub follows : Follows fr (record so_far { normal = both }) a w
 
 -- the statements of a switch, of which none was executed before
-pub record EntersAll (fr : Frame) (entry : Option (List AbsValue)) (all : Statements) (w : Ways) : Type 0 where
+pub record EntersAll (fr : Frame) (entry : Option Known) (all : Statements) (w : Ways) : Type 0 where
   pub nothing : Ways
   pub enters : Enters fr entry nothing all w

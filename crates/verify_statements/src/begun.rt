@@ -1,6 +1,6 @@
 //! Objects of a block begin, and get their first values (6.2.4p6, 6.7.9).
 
-ghost use Rattle.std.specs.Prelude.{◌≡◌, length, map, IfOk, IsTrue, Some, slice_get};
+ghost use Rattle.std.specs.Prelude.{◌≡◌, ◌∷◌, [], length, map, IfOk, IsTrue, Some, slice_get};
 ghost use Rattle.typing_spec.specs.Types as types;
 ghost use Rattle.typing_spec.specs.Program as typed;
 ghost use Rattle.typed_ast.specs.View.{initialiser_of, object_type_of, value_of};
@@ -9,6 +9,7 @@ ghost use Rattle.verify_expressions.specs.Views.{frame_of, state_of};
 ghost use Rattle.verify_statements.specs.Ways.{ways_of};
 
 use crate::initialisers::{Filling, anything, filled, opened};
+use crate::rows::{completed, row_filled, short_row};
 use crate::ways::{Left, only};
 use ctypes::IntType;
 use typed_ast::{Initialiser, ObjectType, Value};
@@ -41,7 +42,7 @@ fn renewed(scope: &Scope<'_>, state: AbsState, n: usize) -> Result<AbsState, Sto
         return Err(Stop::Unfollowed(None));
     }
     let k = uninitialised();
-    let state2 = replaced(state, x, k)?;
+    let state2 = replaced(scope.alloc, state, x, k)?;
     Ok(state2)
 }
 
@@ -101,7 +102,7 @@ fn defined_by(
     let state2 = renewed(scope, state, n)?;
     let v = evaluate(scope, state2, e)?;
     let interval = conversion(ty, v.interval);
-    let state3 = written(scope, v.state, x, interval)?;
+    let state3 = written(scope, v.state, x, None, interval)?;
     Ok(only(state3))
 }
 
@@ -130,8 +131,46 @@ fn array_begun(
     };
     let j = filled(scope, &filling, &object.lengths, i)?;
     let new = initialised(j);
-    let state3 = replaced(wide, x, new)?;
+    let state3 = replaced(scope.alloc, wide, x, new)?;
     Ok(only(state3))
+}
+
+/// Object `n` of the call, an array of `length` elements, gets a first value, element by element.
+fn row_begun(
+    scope: &Scope<'_>,
+    state: AbsState,
+    n: usize,
+    object: &ObjectType,
+    length: u32,
+    i: &Initialiser,
+) -> Result<Left, Stop>
+    requires there { slice_get (frame_of scope.now).objects n ≡ Some (object_type_of object.now) }
+    requires row { (object_type_of object.now).lengths ≡ length ∷ [] }
+    ensures { IfOk result (λ r. Executes (frame_of scope.now) (typed.define n (initialiser_of i.now)) (state_of state) (ways_of r)) }
+{
+    let Some(x) = add_usize(base(scope), n) else {
+        return Err(Stop::Unfollowed(None));
+    };
+    let state2 = renewed(scope, state, n)?;
+    let state3 = row_filled(scope, state2, x, length, object.element, i)?;
+    let state4 = completed(scope, state3, x, length);
+    Ok(only(state4))
+}
+
+fn object_defined(
+    scope: &Scope<'_>,
+    state: AbsState,
+    n: usize,
+    object: &ObjectType,
+    i: &Initialiser,
+) -> Result<Left, Stop>
+    requires { slice_get (frame_of scope.now).objects n ≡ Some (object_type_of object.now) }
+    ensures { IfOk result (λ r. Executes (frame_of scope.now) (typed.define n (initialiser_of i.now)) (state_of state) (ways_of r)) }
+{
+    match short_row(&state, &object.lengths, i) {
+        None => array_begun(scope, state, n, object, i),
+        Some(length) => row_begun(scope, state, n, object, length, i),
+    }
 }
 
 /// A list, a text or a value in braces for the object (6.7.9p14, p17).
@@ -145,7 +184,7 @@ fn array_defined(
 {
     match scope.objects.get(n) {
         None => Err(Stop::Unfollowed(None)),
-        Some(object) => array_begun(scope, state, n, object, i),
+        Some(object) => object_defined(scope, state, n, object, i),
     }
 }
 

@@ -48,7 +48,7 @@ fn taking(alloc: Global, wide: AbsState, x: usize, k: AbsValue) -> Result<AbsSta
         return Err(Stop::Unfollowed(None));
     }
     let copy = copied(alloc, &wide)?;
-    let again = replaced(copy, x, k)?;
+    let again = replaced(alloc, copy, x, k)?;
     let kept = imply(&again, &wide);
     if !kept {
         return Err(Stop::Unfollowed(None));
@@ -64,7 +64,7 @@ pub fn opened(alloc: Global, state: &AbsState, x: usize, k: AbsValue) -> Result<
     ensures takes { IfOk result (λ r. Takes (state_of r) x k) }
 {
     let first = copied(alloc, state)?;
-    let other = replaced(first, x, k)?;
+    let other = replaced(alloc, first, x, k)?;
     let wide = taking(alloc, other, x, k)?;
     let implied = imply(state, &wide);
     if !implied {

@@ -6,6 +6,7 @@ mod begun;
 mod effects;
 mod initialisers;
 mod labels;
+mod rows;
 mod statements;
 mod ways;
 mod widening;

@@ -18,7 +18,7 @@ use srcset::Pos;
 use typed_ast::{ForControl, Statement, Value};
 use verify_expressions::{
     AbsState, Scope, Stop, Tested, copied, enter_loop, evaluate, first_guess, imply, is_reached,
-    joined, leave_loop, may_unroll, recalled, remember, take_step, test, unreachable,
+    joined, leave_loop, may_unroll, recalled, remember, take_statement, test, unreachable,
 };
 use verify_intervals::{conversion, initialised, uninitialised};
 
@@ -145,7 +145,7 @@ fn never_executed(scope: &Scope<'_>, state: &AbsState, a: &Statement) -> Left
 pub fn statement(scope: &Scope<'_>, state: AbsState, a: &Statement) -> Result<Left, Stop>
     ensures { IfOk result (λ r. Executes (frame_of scope.now) (statement_of a.now) (state_of state) (ways_of r)) }
 {
-    let goes_on = take_step(scope);
+    let goes_on = take_statement(scope, &state);
     if !goes_on {
         return Err(Stop::Unfollowed(None));
     }

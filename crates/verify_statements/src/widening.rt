@@ -1,7 +1,8 @@
 //! Guesses of what holds at each turn of a loop. Nothing rests on them: a guess is tested before it is used.
 
-use verify_expressions::{AbsState, Scope, Stop, copied, joined};
-use verify_logic::{AbsValue, Interval};
+use verify_expressions::{AbsState, Known, Scope, Stop, copied, joined};
+use verify_intervals::initialised;
+use verify_logic::{AbsValue, Fact, Interval};
 
 /// Where bounds move that keep growing, beside the lengths of arrays: the bounds of the types, and 0 and 1 between them.
 const STEPS: [i64; 12] = [
@@ -18,6 +19,10 @@ const STEPS: [i64; 12] = [
     2147483647,
     4294967295,
 ];
+
+/// For how many turns the lengths of arrays are bounds too: where arrays have many lengths, a bound that went from one to the next would be
+/// moved more often than guesses are tried.
+const NEAR_TURNS: u32 = 10;
 
 fn floor(v: i64) -> i64 {
     let mut found = i64::MIN;
@@ -53,8 +58,12 @@ fn length_ceiling(v: i64, lengths: &[u32], best: i64) -> i64 {
     found
 }
 
-fn ceiling(scope: &Scope<'_>, v: i64) -> i64 {
+/// The next bound above: of a type, or among the lengths of arrays as long as these are `near`.
+fn ceiling(scope: &Scope<'_>, v: i64, near: bool) -> i64 {
     let mut found = type_ceiling(v);
+    if !near {
+        return found;
+    }
     for lengths in scope.outer {
         found = length_ceiling(v, lengths, found);
     }
@@ -64,14 +73,14 @@ fn ceiling(scope: &Scope<'_>, v: i64) -> i64 {
     found
 }
 
-fn wider(scope: &Scope<'_>, old: AbsValue, new: AbsValue) -> AbsValue {
+fn wider(scope: &Scope<'_>, old: AbsValue, new: AbsValue, near: bool) -> AbsValue {
     let low = if new.interval.low < old.interval.low {
         floor(new.interval.low)
     } else {
         new.interval.low
     };
     let high = if old.interval.high < new.interval.high {
-        ceiling(scope, new.interval.high)
+        ceiling(scope, new.interval.high, near)
     } else {
         new.interval.high
     };
@@ -85,11 +94,12 @@ fn each_wider(
     scope: &Scope<'_>,
     olds: &[AbsValue],
     news: &[AbsValue],
+    near: bool,
 ) -> Result<Vec<AbsValue>, Stop> {
     let mut out = Vec::new(scope.alloc);
     for i in 0..news.len() {
         let k = if i < olds.len() {
-            wider(scope, olds[i], news[i])
+            wider(scope, olds[i], news[i], near)
         } else {
             news[i]
         };
@@ -100,14 +110,54 @@ fn each_wider(
     Ok(out)
 }
 
-fn moved(scope: &Scope<'_>, old: &AbsState, new: AbsState) -> Result<AbsState, Stop> {
+/// The fact of the same element, which most often stands at the same place.
+fn same_fact(olds: &[Fact], new: Fact, near: usize) -> Option<Interval> {
+    for n in near..olds.len() {
+        if olds[n].object == new.object && olds[n].index == new.index {
+            return Some(olds[n].interval);
+        }
+    }
+    None
+}
+
+fn facts_wider(
+    scope: &Scope<'_>,
+    olds: &[Fact],
+    news: &[Fact],
+    near: bool,
+) -> Result<Vec<Fact>, Stop> {
+    let mut out = Vec::new(scope.alloc);
+    for n in 0..news.len() {
+        let new = news[n];
+        let interval = match same_fact(olds, new, n) {
+            None => new.interval,
+            Some(old) => wider(scope, initialised(old), initialised(new.interval), near).interval,
+        };
+        let Ok(()) = out.push(Fact {
+            object: new.object,
+            index: new.index,
+            interval,
+        }) else {
+            return Err(Stop::Memory);
+        };
+    }
+    Ok(out)
+}
+
+fn known_wider(scope: &Scope<'_>, olds: &Known, news: &Known, near: bool) -> Result<Known, Stop> {
+    let objects = each_wider(scope, &olds.objects, &news.objects, near)?;
+    let facts = facts_wider(scope, &olds.facts, &news.facts, near)?;
+    Ok(Known { objects, facts })
+}
+
+fn moved(scope: &Scope<'_>, old: &AbsState, new: AbsState, near: bool) -> Result<AbsState, Stop> {
     match new.objects {
         None => Ok(AbsState { objects: None }),
         Some(news) => match &old.objects {
             None => Ok(AbsState {
                 objects: Some(news),
             }),
-            Some(olds) => match each_wider(scope, olds, &news) {
+            Some(olds) => match known_wider(scope, olds, &news, near) {
                 Err(stop) => Err(stop),
                 Ok(out) => Ok(AbsState { objects: Some(out) }),
             },
@@ -129,6 +179,6 @@ pub fn widened(
     if turn < 2 {
         Ok(both)
     } else {
-        moved(scope, &kept, both)
+        moved(scope, &kept, both, turn < NEAR_TURNS)
     }
 }

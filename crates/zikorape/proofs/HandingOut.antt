@@ -1,4 +1,4 @@
--- What is given of a text.
+-- The part of a text that is written to the caller's buffers.
 use Rattle.std.proofs.Common.{◌≡◌, List, [], ℕ, subst, inl, inr}
 use Rattle.srcset.specs.Files.{Files}
 use Rattle.srcset.specs.declared.fault.Fault.{Fault}
@@ -23,17 +23,17 @@ told texts lengths refusal fault e h =
 pub no_set : (given : FilesGiven) (status : ℕ) (Does : Files → List ℕ → List ℕ → Type 0) (out message : Buffer) → HandsOut (NoSet given status) out message → HandsOut (OverFiles given status Does) out message
 no_set given status Does out message h = hands_out _ _ out message h (λ output line m. inl m)
 
--- what was done of a text that is the name
+-- the result for a text that is the name
 pub over_set : (given : FilesGiven) (status : ℕ) (Does : List ℕ → Files → List ℕ → List ℕ → Type 0) (text name : List ℕ) (set : Files) (out message : Buffer)
     → AreGiven given.texts given.lengths set → text ≡ name → HandsOut (Does text set) out message → HandsOut (OverFiles given status (Does name)) out message
 over_set given status Does text name set out message g e h = hands_out _ _ out message h (λ output line m. inr (set, g, subst (λ n. Does n set output line) e m))
 
--- what was done without files
+-- the result without files
 pub over_none : (Does : List ℕ → Files → List ℕ → List ℕ → Type 0) (text name : List ℕ) (set : Files) (out message : Buffer)
     → text ≡ name → set ≡ [] → HandsOut (Does text set) out message → HandsOut (Does name []) out message
 over_none Does text name set out message e f h = hands_out _ _ out message h (λ output line m. subst (λ n. Does n [] output line) e (subst (λ s. Does text s output line) f m))
 
--- ---- what is handed out
+-- ---- the output and the line handed out
 
 -- an output that is this text, and a line
 pub handed : (P : List ℕ → List ℕ → Type 0) (out message : Buffer) (output text line : List ℕ) → output ≡ text → Got out output → Got message line → P text line → HandsOut P out message

@@ -1,4 +1,4 @@
--- What was performed over a port and writers that were new.
+-- The effect of a command over a port and writers that were new.
 use Rattle.std.proofs.Common.{◌≡◌, ℕ, List, [], Some, subst}
 use Rattle.io_ports.specs.Port.{PortView}
 use Rattle.io_ports.specs.Memory.{MemoryView, port_of}

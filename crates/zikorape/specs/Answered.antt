@@ -1,4 +1,4 @@
--- What a call answers: a status, an output and a line.
+-- The result of a call: a status, an output and a line.
 use Rattle.std.specs.Prelude.{◌≡◌, ◌≢◌, ◌⊎◌, ◌==◌, ℕ, List, [], ◌∷◌, ◌++◌, Some, codes, decimal, length, if◌then◌else◌}
 use Rattle.srcset.specs.Files.{Files}
 use Rattle.srcset.specs.declared.fault.Fault.{Fault}
@@ -48,9 +48,9 @@ abbrev pub OverFiles : FilesGiven → ℕ → (Files → List ℕ → List ℕ �
 OverFiles given status Does output line =
     NoSet given status output line ⊎ ((set : Files) × AreGiven given.texts given.lengths set × Does set output line)
 
--- ---- what `compile` answers
+-- ---- the result of `compile`
 
--- 0, and `text` says of the program that was compiled with this stack what the output is; or 1, and the line of a fault for which the set
+-- 0, and `text` maps the program that was compiled with this stack to the output; or 1, and the line of a fault for which the set
 -- may be refused
 abbrev pub CompiledWith : ℕ → (Built → List ℕ) → List ℕ → ℕ → Files → List ℕ → List ℕ → Type 0
 CompiledWith stack text name status set output line =
@@ -83,7 +83,7 @@ entries_text (e ∷ rest) = entry_text e ++ entries_text rest
 abbrev pub frames_text : Built → List ℕ
 frames_text built = entries_text (frames_of built)
 
--- ---- what `perform` does
+-- ---- the effect of `perform`
 
 -- all of the input is left, and nothing was put
 abbrev pub fresh : List ℕ → PortView
@@ -93,16 +93,16 @@ fresh input = record { input = Some input; output = Some []; failures = 0 }
 abbrev pub for_memory : PortFault → Type 0
 for_memory fault = fault ≡ port_fault.Memory
 
--- what was written is the output where all of it was, and else there is none
+-- the output is the text written where all of it was written, and else there is none
 abbrev pub whole : ℕ → List ℕ → List ℕ
 whole status written = if status == 0 then written else []
 
--- the command was carried out, and what it wrote is the output
+-- the command was carried out, and the text that it wrote is the output
 abbrev pub Writes : Cmd → List ℕ → ℕ → Files → List ℕ → List ℕ → Type 0
 Writes command name status set output line =
     (written : List ℕ) × ((after : MemoryView) × Performs usual_stack command set name [] for_memory (fresh []) (port_of after) (said written) (said line) status × (output ≡ whole status written))
 
--- the command was carried out over this input, and what it put is the output; or there was no memory for the input
+-- the command was carried out over this input, and the bytes that it put are the output; or there was no memory for the input
 abbrev pub Puts : Cmd → List ℕ → List ℕ → List ℕ → ℕ → Files → List ℕ → List ℕ → Type 0
 Puts command name file input status set output line =
     ((written : List ℕ) × ((after : MemoryView) × Performs usual_stack command set name file for_memory (fresh input) (port_of after) (said written) (said line) status × (output ≡ after.output)))

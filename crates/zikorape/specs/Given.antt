@@ -1,4 +1,4 @@
--- What a caller gives: source files, as their texts one after another and the lengths of these.
+-- The files that a caller gives: their texts one after another, and the lengths of these.
 use Rattle.std.specs.Prelude.{◌≡◌, ◌⊎◌, ℕ, ◌+◌, List, [], ◌∷◌, ◌++◌, map, length, if◌then◌else◌}
 use Rattle.std.specs.Str.{is_utf8, IsUtf8}
 use Rattle.srcset.specs.Files.{Files, add_fault}

@@ -1,14 +1,14 @@
--- What a caller gets in a buffer.
+-- The contents of a caller's buffer after a call.
 use Rattle.std.specs.Prelude.{◌≡◌, ℕ, List, ◌++◌, length, take, drop}
 
--- a buffer before a call and after it, and the length that the call tells
+-- a buffer before a call and after it, and the length that the call reports
 pub record Buffer : Type 0 where
   pub before : List ℕ
   pub after : List ℕ
   pub told : ℕ
 
--- the buffer has the text as far as there is room, and behind it what it had; and the length of the text is told: a buffer
--- of fewer bytes was too small, and one of so many is large enough
+-- the buffer has the text as far as there is room, and after it its old contents; and the length of the text is reported: a buffer
+-- of fewer bytes was too small, and one of at least that size is large enough
 pub record Got (buffer : Buffer) (text : List ℕ) : Type 0 where
   pub told_is : buffer.told ≡ length text
   pub bytes_are : buffer.after ≡ take (length buffer.before) text ++ drop (length text) buffer.before

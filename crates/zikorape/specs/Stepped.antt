@@ -1,4 +1,4 @@
--- What a caller sees of a machine at an instruction.
+-- A caller's view of a machine at an instruction.
 use Rattle.std.specs.Prelude.{◌≡◌, ◌⊎◌, ◌<◌, ◌≤◌, ℕ, ◌+◌, List, [], Some, Ok, length, slice_index}
 use Rattle.rv32.specs.Space.{Space}
 use Rattle.rv32.specs.Step.{Machine}
@@ -19,7 +19,7 @@ use Rattle.machine_kept.specs.declared.stepping.Halt.{Halt}
 
 -- ---- numbers
 
--- 0 where it goes on, 1 where it ended, 2 where it trapped, 3 when out of memory
+-- 0 where it continues, 1 where it ended, 2 where it trapped, 3 when out of memory
 abbrev pub outcome_number : Outcome → ℕ
 outcome_number outcome.Budget = 0
 outcome_number (outcome.Ended status) = 1
@@ -48,8 +48,8 @@ pub record Shows (window : Window) (s : Space) : Type 0 where
 
 -- ---- how far
 
--- the file has an image, from which so many instructions over the input, at most `count`, come to this machine, output and outcome.
--- They are as few as they can be: before the last of them the run went on and was not to halt; where it goes on behind them,
+-- the file has an image, from which `standing.steps` instructions over the input, at most `count`, reach this machine, output and outcome.
+-- They are as few as they can be: before the last of them the run went on and was not to halt; where it goes on after them,
 -- they are `count`, or it is to halt there
 pub record Stands (file input : List ℕ) (count : ℕ) (halt : Halt) (answer : ℕ) (standing : Standing) (window : Window) (out : Buffer) : Type 0 where
   pub image : Image

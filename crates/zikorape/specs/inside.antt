@@ -1,2 +1,2 @@
--- What only proofs and private clauses need.
+-- Definitions that only proofs and private clauses need.
 pub mod Refusing

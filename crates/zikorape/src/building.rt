@@ -1,4 +1,4 @@
-//! What `compile` answers: the executable file, or the weights of its functions.
+//! The output of `compile`: the executable file, or the weights of its functions.
 
 ghost use Rattle.std.specs.Prelude.{◌≡◌, ◌++◌, IfOk, OnOk, take, map, codes, decimal};
 ghost use Rattle.cc.specs.Compiled.{shown_entry};

@@ -1,4 +1,4 @@
-//! A set of source files from what a caller gives.
+//! A set of source files from the texts that a caller gives.
 
 ghost use Rattle.std.specs.Prelude.{◌≡◌, ◌≤◌, ◌↔◌, ◌++◌, ◌∷◌, ◌^◌, [], IsTrue, MatchOption, MatchResult, OnOk, IfErr, length};
 ghost use Rattle.zikorape.specs.Given.{AreGiven, FailsToGive, IsFaultOfFile, total, text_or_empty};

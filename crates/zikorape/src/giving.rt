@@ -1,4 +1,4 @@
-//! What a caller gets: as much of each text as his buffers have room for.
+//! Writes to a caller's buffers: as much of each text as they have room for.
 
 ghost use Rattle.std.specs.Prelude.{◌≡◌, [], length, IfOk};
 ghost use Rattle.zikorape.specs.Got.{Buffer, Got, HandsOut};
@@ -19,7 +19,7 @@ pub struct Sizes {
     pub message: u64,
 }
 
-/// Writes the text as far as there is room, and answers how long it is. What is behind it stays.
+/// Writes the text as far as there is room, and returns its length. The bytes after it stay.
 pub fn give(text: &[u8], room: &mut [u8]) -> u64
     ensures { Got (record { before = room.old; after = room.new; told = result }) text.now }
 {

@@ -1,7 +1,7 @@
 //! The compiler for programs in C and other languages: its commands over slices of bytes, with no state between calls.
 //!
 //! `include/zikorape.h` has each function as C sees it. Each takes the buffers of its caller, fills them as far as there
-//! is room, and tells how much room its answer needs.
+//! is room, and reports how much room its output needs.
 #![tactic(auto)]
 
 mod building;
@@ -71,7 +71,7 @@ pub extern "C" fn zk_build(
     }
 }
 
-/// The same with a stack of so many bytes, a multiple of 4,096 from 4,096 to 16,777,216; for another number it answers 256.
+/// The same with a stack of `stack` bytes, a multiple of 4,096 from 4,096 to 16,777,216; for another number it returns 256.
 #[unsafe(no_mangle)]
 pub extern "C" fn zk_build_with(
     alloc: Global,
@@ -150,8 +150,8 @@ pub extern "C" fn zk_warn(
     }
 }
 
-/// Whether the program in the file `main` does anything undefined, on any input, and how much of its stack it takes: 0 where it is defined and the stack suffices,
-/// 3 where that was not shown; with the places and the verdict as JSON, an object a line. It has no clause but that it is safe.
+/// Whether the program in the file `main` has undefined behaviour, on any input, and how much of its stack it takes: 0 where it is defined and the stack
+/// suffices, 3 where that was not shown; with the places and the verdict as JSON, an object a line. It has no clause but that it is safe.
 #[unsafe(no_mangle)]
 pub extern "C" fn zk_verify(
     alloc: Global,
@@ -188,7 +188,7 @@ pub extern "C" fn zk_verify(
     }
 }
 
-/// Why the program in the file `main` is refused, as JSON, an object a fault, the one that the compiler answers first; an empty text where it
+/// Why the program in the file `main` is refused, as JSON, an object for each fault, the one that the compiler reports first; an empty text where it
 /// is not. It has no clause but that it is safe.
 #[unsafe(no_mangle)]
 pub extern "C" fn zk_explain(
@@ -226,8 +226,9 @@ pub extern "C" fn zk_explain(
     }
 }
 
-/// What the program in the file `main` does undefined over this input, within at most `max` ticks, explained, as JSON: the values that make it undefined, and the calls
-/// that are active there. An empty text, and the line of why the program stopped, where it does nothing undefined. It has no clause but that it is safe.
+/// The undefined behaviour of the program in the file `main` over this input, within at most `max` ticks, explained, as JSON: the values
+/// that make it undefined, and the calls that are active there. An empty text, and the line of why the program stopped, where it has none. It has no clause
+/// but that it is safe.
 #[unsafe(no_mangle)]
 pub extern "C" fn zk_explain_run(
     alloc: Global,
@@ -267,7 +268,7 @@ pub extern "C" fn zk_explain_run(
 }
 
 /// The bytes that an executable file loads: 0 as they are, 1 as Intel's hexadecimal records, 2 as Verilog's `$readmemh` reads them. For
-/// another number it answers 256. It has no clause but that it is safe.
+/// another number it returns 256. It has no clause but that it is safe.
 #[unsafe(no_mangle)]
 pub extern "C" fn zk_image(
     alloc: Global,
@@ -361,7 +362,8 @@ pub extern "C" fn zk_list(
 }
 
 /// A form of the program in the file `main`, as JSON: 0 its tokens after preprocessing, 1 its syntax tree, 2 its typed program, 3 its
-/// three-address code, 4 its flat code, 5 the items that its file is assembled from. For another number it answers 256. It has no clause but that it is safe.
+/// three-address code, 4 its flat code, 5 the items that its file is assembled from. For another number it returns 256. It has no clause
+/// but that it is safe.
 #[unsafe(no_mangle)]
 pub extern "C" fn zk_form(
     alloc: Global,
@@ -383,7 +385,7 @@ pub extern "C" fn zk_form(
     }
 }
 
-/// Does what the program in the file `main` means over this input, for at most `max` ticks.
+/// Interprets the program in the file `main` over this input, for at most `max` ticks.
 #[unsafe(no_mangle)]
 pub extern "C" fn zk_interpret(
     alloc: Global,
@@ -416,8 +418,8 @@ pub extern "C" fn zk_interpret(
     }
 }
 
-/// What the program in the file `main` does over this input, for at most `max` ticks, as JSON lines, from the tick `from` on. Where the input is open, which is
-/// to say where `is_open` is not 0, a read behind it is answered by 257: the run waits for input. It has no clause but that it is safe.
+/// A trace of the program in the file `main` over this input, for at most `max` ticks, as JSON lines, from the tick `from` on. Where the
+/// input is open, that is, where `is_open` is not 0, a read after it returns 257: the run waits for input. It has no clause but that it is safe.
 #[unsafe(no_mangle)]
 pub extern "C" fn zk_trace(
     alloc: Global,
@@ -476,7 +478,7 @@ pub extern "C" fn zk_run(
 }
 
 /// Runs the executable file over this input for `count` instructions, or to where it stops before, or, once it has done
-/// `after`, to where the instruction at `halt` is next; and shows the machine: 0 where it goes on, 1 where it ended, 2 where it
+/// `after`, to where the instruction at `halt` is next; and shows the machine: 0 where it continues, 1 where it ended, 2 where it
 /// trapped, 3 where memory ran out for the output, 4 where the file is not loaded.
 #[unsafe(no_mangle)]
 pub extern "C" fn zk_step(
@@ -522,7 +524,7 @@ pub unsafe extern "C" fn zk_machine_place(alloc: Global, at: *mut u8)
     ptr::write(at as *mut Kept, Kept::new(alloc))
 }
 
-/// Asks the machine that is kept there what has this number, with two numbers more, and answers it.
+/// Sends the machine that is kept there the request with this number, with two more numbers, and returns the result.
 #[unsafe(no_mangle)]
 pub unsafe extern "C" fn zk_machine_ask(at: *mut u8, number: u32, a: u64, b: u64) -> u64
     ghost old: { KeptMachine }
@@ -533,7 +535,7 @@ pub unsafe extern "C" fn zk_machine_ask(at: *mut u8, number: u32, a: u64, b: u64
     kept.serve(number, a, b)
 }
 
-/// Gives back what the machine that is kept there took of the heap; its memory is the caller's again.
+/// Frees the heap memory of the machine that is kept there; its own memory is the caller's again.
 #[unsafe(no_mangle)]
 pub unsafe extern "C" fn zk_machine_clear(at: *mut u8)
     ghost old: { KeptMachine }
@@ -548,7 +550,7 @@ fn end(machine: Kept) {
     mem::drop(machine)
 }
 
-/// The text of the fault with this number, which is empty where there is none; answers how long it is.
+/// The text of the fault with this number, which is empty where there is none; returns its length.
 #[unsafe(no_mangle)]
 pub extern "C" fn zk_message(code: u16, out: &mut [u8]) -> u64
     ensures { Got (record { before = out.old; after = out.new; told = result }) (message_of code) }
@@ -556,7 +558,7 @@ pub extern "C" fn zk_message(code: u16, out: &mut [u8]) -> u64
     give(message(code).as_bytes(), out)
 }
 
-/// The version; answers how long its text is.
+/// The version; returns the length of its text.
 #[unsafe(no_mangle)]
 pub extern "C" fn zk_version(out: &mut [u8]) -> u64
     ensures { Got (record { before = out.old; after = out.new; told = result }) version }

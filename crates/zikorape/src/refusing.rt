@@ -14,7 +14,7 @@ use std::alloc::Global;
 /// The status where the lengths of the files do not add up to those of their texts.
 pub const NO_FILES: u32 = 256;
 
-/// Why what a caller gives is no set of files.
+/// Why a caller's files are no set of files.
 #[derive(Drop)]
 pub enum Refusal {
     /// The lengths do not add up to those of the texts.
@@ -36,7 +36,7 @@ pub fn given(alloc: Global, texts: &[u8], files: &[FileLengths]) -> Result<FileS
     }
 }
 
-/// Tells why there is no set, and answers the status.
+/// Reports why there is no set, and returns the status.
 pub fn refuse(
     alloc: Global,
     refusal: &Refusal,

@@ -1,4 +1,4 @@
-//! The executable file of a program with a stack that the caller asks for.
+//! The executable file of a program with a stack of the caller's choice.
 
 ghost use Rattle.std.specs.Prelude.{◌≡◌};
 ghost use Rattle.zikorape.specs.Got.{Buffer, HandsOut};
@@ -12,7 +12,7 @@ use crate::refusing::{NO_FILES, given, refuse};
 use cc::StackSize;
 use std::alloc::Global;
 
-/// The executable file of the program in the file `main` of the files, with a stack of so many bytes.
+/// The executable file of the program in the file `main` of the files, with a stack of `stack` bytes.
 pub fn build_stacked(
     alloc: Global,
     texts: &[u8],

@@ -1,4 +1,4 @@
-//! Where a machine stands after so many instructions.
+//! The state of a machine after a number of instructions.
 
 ghost use Rattle.std.specs.Prelude.{◌≡◌, ◌⊎◌, [], IfOk};
 ghost use Rattle.srcset.specs.Codes.{number_of};
@@ -13,10 +13,10 @@ use sim::Outcome;
 use srcset::Code;
 use std::alloc::{AllocError, Global};
 
-/// The answer where the file is not loaded.
+/// The result where the file is not loaded.
 const NOT_LOADED: u32 = 4;
 
-/// What is seen of a machine.
+/// The visible state of a machine.
 #[repr(C)]
 #[derive(Clone, Copy)]
 pub struct Standing {
@@ -74,7 +74,7 @@ fn port_over(alloc: Global, input: &[u8]) -> Result<MemPort, AllocError>
     Ok(MemPort::new(alloc, input))
 }
 
-/// Tells why the file is not loaded.
+/// Reports why the file is not loaded.
 fn fail(code: Code, standing: &mut Standing) -> u32
     ensures answer { result ≡ 4 }
     ensures standing { standing.new ≡ record standing.old { detail = number_of code; output = 0 } }
@@ -96,7 +96,7 @@ fn number(outcome: Outcome) -> u32
     }
 }
 
-/// What there is to tell of an outcome.
+/// The detail of an outcome.
 fn detail(outcome: Outcome) -> u32
     ensures { result ≡ detail_of outcome }
 {

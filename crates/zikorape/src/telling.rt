@@ -1,5 +1,5 @@
-//! What is told of a program beside its file: its faults explained, its warnings, what verifying shows, and the images of a file. Nothing here has a clause
-//! but that it is safe.
+//! Reports on a program in addition to its file: its faults explained, its warnings, the result of verifying, and the images of a file.
+//! Nothing here has a clause but that it is safe.
 
 use crate::files::{FileLengths, text_or_empty};
 use crate::giving::{OUT_OF_MEMORY, Sizes, hand_fault, hand_out};
@@ -15,10 +15,10 @@ use srcset::{Code, Fault, FileSet};
 use std::alloc::{AllocError, Global};
 use verify_report::{Asked as Question, USUAL_EFFORT, verify_sources};
 
-/// The answer where there is no such form.
+/// The result where there is no such form.
 const NO_FORM: u32 = 256;
 
-/// The answer where a program was not shown to be defined.
+/// The result where a program was not shown to be defined.
 const NOT_SHOWN: u32 = 3;
 
 /// The warnings of that program, as JSON.
@@ -61,8 +61,8 @@ pub fn tell_faults(
     hand_text(faults, out, message, sizes)
 }
 
-/// What a run of that program does undefined, explained, as JSON; nothing, and the line of why the program stopped, where it does not. The status is that of
-/// the run.
+/// The undefined behaviour of a run of that program, explained, as JSON; nothing, and the line of why the program stopped, where there is
+/// none. The status is that of the run.
 pub fn tell_act(
     alloc: Global,
     set: &FileSet,
@@ -91,7 +91,8 @@ pub fn tell_act(
     }
 }
 
-/// Whether that program does anything undefined, on any input, and how much of its stack it takes, as JSON; 0 where it is defined and the stack suffices, 3 where that was not shown.
+/// Whether that program has undefined behaviour, on any input, and how much of its stack it takes, as JSON; 0 where it is defined and the stack
+/// suffices, 3 where that was not shown.
 pub fn tell_verdict(
     alloc: Global,
     set: &FileSet,

@@ -1,14 +1,14 @@
-//! A run of the interpreter, told as JSON lines.
+//! A trace of a run of the interpreter, as JSON lines.
 
 use crate::giving::{Sizes, hand_fault, hand_out};
 use srcset::FileSet;
 use std::alloc::Global;
 use trace_json::{Asked, trace_lines};
 
-/// The answer where the run waits for input.
+/// The result where the run waits for input.
 const WAITS: u32 = 257;
 
-/// What the program of the set does, as it is asked.
+/// The trace of the program of the set, as requested.
 pub fn tell_trace(
     alloc: Global,
     set: &FileSet,

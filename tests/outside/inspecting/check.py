@@ -258,8 +258,118 @@ def lines():
         check('source: a file that is not in the set', [line for line in said if line.startswith('#')] == ['# made.y:7', '# b.c:2  int main(void) { return far(1); }'], said)
         if there('gdb-multiarch') and there('qemu-riscv32'):
             check('gdb: steps', stepped(work, len(STEP_ORDER) - 1) == STEP_ORDER, stepped(work, len(STEP_ORDER) - 1))
-            said = told(work, 17347, ['break s.c:21', 'continue', 'print (int)total', 'bt 1'])
+            said = told(work, 17347, ['break s.c:21', 'continue', 'print total', 'bt 1'])
             check('gdb: a line and an object', '$1 = 7' in said and 'main () at s.c:21' in said, said)
+
+# Programs for `info locals`: for each its files, where it is stopped, what is asked there, and the answer, by hand from the program.
+LOCALS = [
+    ({'s.c': """static unsigned table[2][3] = { { 1, 2, 3 }, { 4, 5, 6 } };
+static int sum(const int row[], unsigned char n, int m[][3]) {
+    int total = 0;
+    for (int i = 0; i < n; i++) {
+        int square = row[i] * row[i];
+        total += square;
+    }
+    return total + m[1][2];
+}
+int main(void) {
+    int m[2][3] = { { 1, -2, 3 }, { 4, 5, 60 } };
+    char c = 'x';
+    signed char s = -3;
+    short h = -300;
+    _Bool b = 1;
+    const unsigned big = 4000000000u;
+    unsigned long wide = 7;
+    int total = sum(m[1], 2, m);
+    {
+        int total = 7;
+        c += total;
+    }
+    {
+        char c = 'y';
+        s = c - 'a';
+    }
+    table[1][2] = total + c + s + h + b;
+    return (table[1][2] + big + wide) & 255;
+}
+"""}, [
+        ('s.c:6', 'info locals', ['square = 16', 'i = 0', 'total = 0']),
+        ('s.c:6', 'info args', ['row = 0x*', "n = 2 '\\002'", 'm = 0x*']),
+        ('s.c:6', 'print *row@2', ['$1 = {4, 5}']),
+        ('s.c:6', 'print m[1]', ['$1 = {4, 5, 60}']),
+        ('s.c:6', 'ptype m', ['type = int (*)[3]']),
+        ('s.c:6', 'ptype row', ['type = const int *']),
+        ('s.c:6', 'ptype sum', ['type = int (const int *, unsigned char, int (*)[3])']),
+        ('s.c:8', 'info locals', ['total = 41']),
+        ('s.c:21', 'info locals', ['total = 7', 'm = {{1, -2, 3}, {4, 5, 60}}', "c = 120 'x'", "s = -3 '\\375'", 'h = -300', 'b = true', 'big = 4000000000', 'wide = 7', 'total = 101']),
+        ('s.c:25', 'print c', ["$1 = 121 'y'"]),
+        ('s.c:27', 'print c', ["$1 = 127 '\\177'"]),
+        ('s.c:28', 'print table', ['$1 = {{1, 2, 3}, {4, 5, 4294967249}}']),
+        ('s.c:28', 'ptype table', ['type = unsigned int [2][3]']),
+        ('s.c:28', 'whatis big', ['type = const unsigned int']),
+    ]),
+    # more parameters than registers for them, and more variables than registers that calls keep
+    ({'s.c': """int deep(int a, int b, int c, int d, int e, int f, int g, int h, int i, short j[2]) {
+    int v0 = a + 1, v1 = b + 1, v2 = c + 1, v3 = d + 1, v4 = e + 1, v5 = f + 1, v6 = g + 1, v7 = h + 1, v8 = i + 1, v9 = j[1];
+    for (int turn = 0; turn < 2; turn++)
+        v0 += v1 + v2 + v3 + v4 + v5 + v6 + v7 + v8 + v9 + a + b + c + d + e + f + g + h + i;
+    return v0;
+}
+int main(void) {
+    short pair[2] = { 10, -20 };
+    return deep(1, 2, 3, 4, 5, 6, 7, 8, 9, pair) & 255;
+}
+"""}, [
+        ('s.c:3', 'info args', ['a = 1', 'b = 2', 'c = 3', 'd = 4', 'e = 5', 'f = 6', 'g = 7', 'h = 8', 'i = 9', 'j = 0x*']),
+        ('s.c:5', 'info locals', ['v0 = 156', 'v1 = 3', 'v2 = 4', 'v3 = 5', 'v4 = 6', 'v5 = 7', 'v6 = 8', 'v7 = 9', 'v8 = 10', 'v9 = -20']),
+        ('s.c:5', 'print j[0]', ['$1 = 10']),
+        ('s.c:9', 'info locals', ['pair = {10, -20}']),
+    ]),
+    # a program of several files, with names by macros and an object of a block with static storage
+    ({'s.c': """#include "count.h"
+#define VALUE value
+int main(void) {
+    int VALUE = 5;
+    while (VALUE > 3)
+        VALUE -= counted(1);
+    switch (VALUE) {
+        int inside;
+    case 3:
+        inside = VALUE * 2;
+        return inside;
+    }
+    return 0;
+}
+""", 'count.h': """static int counted(int by)
+{
+    static int calls = 40;
+    calls += by;
+    return calls - 40 > 0;
+}
+"""}, [
+        ('count.h:4', 'print calls', ['$1 = 40']),
+        ('count.h:5', 'print calls', ['$1 = 41']),
+        ('count.h:5', 'info args', ['by = 1']),
+        ('s.c:7', 'info locals', ['value = 3']),
+        ('s.c:11', 'info locals', ['inside = 6', 'value = 3']),
+    ]),
+]
+
+def variables():
+    """The parameters and the variables of functions, by gdb at a statement, against what the program gives them."""
+    if not (there('gdb-multiarch') and there('qemu-riscv32')):
+        return
+    for number, (files, asked) in enumerate(LOCALS):
+        with tempfile.TemporaryDirectory() as work:
+            for name, text in files.items():
+                put(work, name, text)
+            cc(work, 'build', *files, '-o', 's')
+            cc(work, 'symbols', *files, '-o', 's.sym.elf')
+            for step, (place, words, wanted) in enumerate(asked):
+                said = told(work, 17348 + step, ['break ' + place, 'continue', 'echo >>>\\n', words, 'echo <<<\\n'])
+                lines = said.partition('>>>\n')[2].partition('<<<')[0].splitlines()
+                holds = len(lines) == len(wanted) and all(line.startswith(row[:-1]) if row.endswith('*') else line == row for line, row in zip(lines, wanted))
+                check('gdb: variables %d, %s at %s' % (number, words, place), holds, said)
 
 def told(work, port, words):
     """What gdb tells of the program under qemu."""
@@ -369,7 +479,7 @@ def debugged(work):
     try:
         said = subprocess.run(['gdb-multiarch', '-batch', '-ex', 'set architecture riscv:rv32', '-ex', 'symbol-file a.sym.elf', '-ex', 'target remote :17345', '-ex', 'break twice', '-ex', 'continue', '-ex', 'bt 1', '-ex', 'kill'],
                               cwd=work, stdin=subprocess.DEVNULL, stdout=subprocess.PIPE, stderr=subprocess.STDOUT, timeout=60).stdout.decode()
-        return re.search(r'Breakpoint 1, (0x[0-9a-f]+ in )?twice \(\) at a\.c:2', said) is not None
+        return re.search(r'Breakpoint 1, (0x[0-9a-f]+ in )?twice \(x=120\) at a\.c:2', said) is not None
     finally:
         server.kill()
         server.wait()
@@ -753,7 +863,7 @@ def surroundings():
 
 
 def cases(_):
-    return harness.parts(frames, labels, sizes, objects, lines, symbols, image, traces, statements, by_hand, everywhere, objects_of_json, refused, kept, terminals, surroundings)
+    return harness.parts(frames, labels, sizes, objects, lines, variables, symbols, image, traces, statements, by_hand, everywhere, objects_of_json, refused, kept, terminals, surroundings)
 
 
 if __name__ == '__main__':

@@ -66,6 +66,7 @@ UNDEFINED = {
     'an element by two names': ('static int a[2] = { 1, 1 };\nint f(int b[]) { a[1] = 0;\n  return 1 / b[1]; }\nint main(void) { return f(a); }', 3),
     'an array that begins again': ('int main(void) { for (int i = 0; i < 2; i++) { int a[2]; if (i == 0) a[0] = 1;\n  if (i == 1) return a[0]; } return 0; }', 2),
     'a text without its end': ('int main(void) { char s[3] = "abc"; int i = 0;\n  while (s[i] != 0) i++;\n  return i; }', 2),
+    'a list in its order': ('int main(void) { int x = 1, a[2] = { x = 0, x };\n  return 1 / a[1]; }', 2),
     'an element that its own list reads': ('int main(void) { int a[2] = { 1,\n  a[1] };\n  return a[0]; }', 2),
     'an element that many turns change': ('int main(void) { int a[2] = { 1, 2 }; for (unsigned i = 0; i < 100000; i++) a[0] = 0;\n  return 1 / a[0]; }', 2),
     'the zero behind a static list': ('static int a[3] = { 2 };\nint main(void) {\n  return 10 / a[2]; }', 3),
@@ -294,6 +295,8 @@ def written():
     for depth in (3, 8, 60):
         status, out, err = verified([('a.c', nest(depth).encode() + b'\n')])
         check('a nest of %d loops' % depth, err == '' and status == 0 and out.startswith('a.c: defined on every input; stack at most ') or depth == 60 and status == 3 and 'not followed' in out, status, out, err)
+    many = ''.join('static char a%d[%d];\n' % (n, n) for n in range(1, 41)) + 'int rv_getbyte(void);\nint main(void) { unsigned n = 0; while (rv_getbyte() >= 0) n++; return n & 1; }\n'
+    check('arrays of forty lengths', verified([('a.c', many.encode())])[0] == 0)
     check('a fault', verified([('a.c', b'int main(void) { return x; }\n')])[0::2] == (1, 'a.c:1: 528 undeclared name\n'))
 
 

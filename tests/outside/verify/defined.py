@@ -49,6 +49,21 @@ DEFINED = {
     'a call in each turn': 'int twice(int n) { return n + n; }\nint main(void) { int s = 0; for (int i = 0; i < 5; i++) s += twice(i); return 20 / (s - 19); }',
     'turns without a test': 'int main(void) { int n = 0; for (;;) { n = n + 1; if (n > 5) return 10 / (n - 5); } }',
     'a flag that ends the turns': 'int main(void) { int done = 0, n = 0; while (!done) { n++; if (n + n > 10) done = 1; } return 10 / (n - 5) + 10 / !(n - 6) + 10 / (!n - 1); }',
+    'an array that a loop fills': 'int main(void) { int a[4]; for (int i = 0; i < 4; i++) a[i] = i + 1; return 12 / a[2] + 12 / (a[0] + a[3] - 4); }',
+    'two elements of three': 'int main(void) { int a[3]; a[0] = 1; a[2] = 5; return 10 / (a[2] - a[0] - 3); }',
+    'elements of a table with a 0': 'static const int table[4] = { 3, 0, 0, 7 };\nint main(void) { return 21 / table[0] + 21 / table[3]; }',
+    'the zeros behind a static list': 'static int a[3] = { 2 };\nint main(void) { return 10 / (a[0] - a[2] - 1); }',
+    'up to the end of a text': 'void rv_putbyte(int c);\nint main(void) { char s[] = "abc"; for (int i = 0; s[i] != 0; i++) rv_putbyte(s[i]); return 0; }',
+    'up to the end of a literal': 'void rv_putbyte(int c);\nvoid say(const char s[]) { for (int i = 0; s[i] != 0; i++) rv_putbyte(s[i]); }\nint main(void) { say("hello"); say(""); return 0; }',
+    'elements that calls write': 'void f(int a[], int n) { a[n] = n; }\nint main(void) { int a[2]; f(a, 0); f(a, 1); return 10 / (a[1] - a[0]); }',
+    'an element that is left alone': 'int rv_getbyte(void);\nint main(void) { int a[3] = { 5, 6, 7 }, n = rv_getbyte() & 1; a[n] = 0; return 10 / a[2]; }',
+    'a list that calls': 'int f(int n) { return n + 1; }\nint main(void) { int a[2] = { f(1), f(2) }; return 6 / (a[1] - a[0]); }',
+    'a list that assigns': 'int main(void) { int x = 0, a[2] = { x = 3, x + 1 }; return 12 / (a[1] - a[0]) + 12 / x; }',
+    'the rest of a list': 'int main(void) { int a[4] = { 1, 2 }; return 10 / (a[0] + a[3]); }',
+    'an element on each of two ways': 'int rv_getbyte(void);\nint main(void) { int a[2] = { 1, 1 }; if (rv_getbyte() < 0) a[0] = 4; else a[1] = 5; return 20 / a[0] + 20 / a[1]; }',
+    'elements that are changed in place': 'int main(void) { int a[2] = { 1, 2 }; a[0]++; a[1] += a[0]; return 12 / (a[1] - a[0] - 1); }',
+    'an element that many turns leave alone': 'int main(void) { unsigned n = 0; int a[2] = { 1, 2 }; for (unsigned i = 0; i < 100000; i++) n += a[1]; return 10 / a[0] + (n & 1); }',
+    'any element of an array that a loop fills': 'int rv_getbyte(void);\nint main(void) { int a[4]; for (int i = 0; i < 4; i++) a[i] = i + 1; return 12 / a[rv_getbyte() & 3]; }',
     'a comparison that is decided': 'int main(void) { int n = 3; return 10 / (n + n > 5) + 10 / (n + n <= 6) + 10 / (n - 1 == 2) + 10 / ((n + 4 != 6) + (n + n < 6)); }',
     'an array of one element for a result': 'void both(int a, int b, int sum[], int less[]) { sum[0] = a + b; less[0] = a - b; }\nint main(void) { int s[1], d[1]; both(17, 5, s, d); return 10 / (s[0] - 21) + 10 / (d[0] - 11); }',
     'rows of one element': 'int main(void) { int m[1][1]; m[0][0] = 3; m[0][0]++; return 10 / (m[0][0] - 3); }',
@@ -69,7 +84,7 @@ EDITS = {
     'LANGUAGE/sum.c': [('unsigned number[1], sum = 0;', 'unsigned number[1] = { 0 }, sum = 0;'), BY_PLACES],
     'LANGUAGE/words.c': [('int words = 0, c;', 'unsigned words = 0;\n    int c;'), ('return words;', 'return (int)words;')],
     'LANGUAGE/sort.c': [('unsigned char item[ROOM];', 'unsigned char item[ROOM] = { 0 };')],
-    'LANGUAGE/records.c': [('text[i] != 0;', 'i < NAME_SIZE && text[i] != 0;'), ('write_text("\\n");', "rv_putbyte('\\n');")],
+    'LANGUAGE/records.c': [('text[i] != 0;', 'i < NAME_SIZE && text[i] != 0;')],
     'bench/search.c': [('text[i + j] == word[j]', 'text[(i + j) % 4000] == word[j]')],
     'bench/sieve.c': [('int count = 0;', 'unsigned count = 0;'), ('return count & 127;', 'return (int)(count & 127);')],
     'bench/sort.c': [("""    int i = low;
@@ -99,7 +114,5 @@ EDITS = {
         list[at] = moved;
     }
 """)],
-    'bench/sha256.c': [('unsigned w[64];', 'unsigned w[64] = { 0 };'), ('unsigned s[8];', 'unsigned s[8] = { 0 };')],
-    'examples/hello.c': [("text[i] != '\\0';", "i < 7 && text[i] != '\\0';")],
     'examples/collatz.c': [BY_PLACES],
 }

@@ -22,7 +22,7 @@ pub record AllAre (homes : List ℕ) (x n : ℕ) : Type 0 where
 pub record AllInside (homes : List ℕ) (x n : ℕ) : Type 0 where
   pub all : (l : ℕ) → l < n → slice_index homes l < x
 
--- item k, which names only labels of the table, made one table of the other: a mark puts k where the end was
+-- item k, which names only labels of the table, turns one table into the other: a mark stores k where the end was
 abbrev pub IsNoted : (was now : List ℕ) (end k : ℕ) → Item → Type 0
 IsNoted was now end k (Mark l) = (l < length was) × (slice_index was l ≡ end) × (now ≡ slice_set was l k)
 IsNoted was now end k (Plain i) = now ≡ was
@@ -33,7 +33,7 @@ IsNoted was now end k (Constant rd v) = (v < 2 ^ 32) × (now ≡ was)
 IsNoted was now end k (LabelAddress rd l) = (l < length was) × (now ≡ was)
 IsNoted was now end k (DataAddress rd o) = (o < 0x10000000) × (now ≡ was)
 
--- an item stands against the table
+-- an item violates a condition of the table
 abbrev pub IsUnfit : List ℕ → ℕ → Item → Type 0
 IsUnfit homes end (Mark l) = l < length homes → slice_index homes l ≡ end → ⊥
 IsUnfit homes end (Plain i) = ⊥

@@ -50,7 +50,7 @@ abbrev pub code : (ℕ → ℕ) → ℕ → (ℕ → Bool) → ℕ → List Item
 code env seg L base xs zero = []
 code env seg L base xs (suc n) = code env seg L base xs n ++ item_code env seg (L n) (place L base xs n) (item_at xs n)
 
--- where label l stands
+-- the address of label l
 abbrev pub address : List ℕ → List ℕ → ℕ → ℕ
 address homes places l = slice_index places (slice_index homes l)
 
@@ -85,12 +85,12 @@ pub record IsGood (homes places : List ℕ) : Type 0 where
 abbrev pub whole_code : List ℕ → List Bool → List ℕ → ℕ → List Item → List Instr
 whole_code homes long places base xs = code (address homes places) (data_start (slice_index places (length xs))) (longs long) base xs (length xs)
 
--- each instruction is what its word decodes to
+-- each instruction is the decoding of its word
 abbrev pub Decoding : List Instr → Type 0
 Decoding [] = Unit {0}
 Decoding (i ∷ is) = (decode_of (word_of i) ≡ Some i) × Decoding is
 
--- the words of the instructions were written after what was there
+-- the words of the instructions were written after the earlier contents
 pub record Writes (was now : List ℕ) (is : List Instr) : Type 0 where
   pub bytes : now ≡ was ++ bytes_of (map word_of is)
   pub decoding : Decoding is

@@ -1,4 +1,4 @@
--- What an inner refusal says.
+-- The postconditions of an inner step that fails.
 use Rattle.srcset.specs.declared.code.Code.{Code}
 use Rattle.srcset.specs.declared.code.Code.TheVariants as code
 use Rattle.asm.specs.declared.refusal.Refusal.{Refusal}
@@ -10,7 +10,7 @@ code_of Far = code.JumpLimit
 code_of Memory = code.OutOfMemory
 code_of Write = code.CannotWrite
 
--- a refusal for a jump stands only where P
+-- an error for a jump occurs only where P
 abbrev pub IfFar : Type 0 → Refusal → Type 0
 IfFar P Far = P
 IfFar P Memory = Unit {0}

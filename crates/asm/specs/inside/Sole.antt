@@ -1,4 +1,4 @@
--- That a table is one has one proof at most.
+-- `IsTable` is a proposition: it has at most one proof.
 use Rattle.std.specs.Prelude.{ℕ, List}
 use Rattle.std.proofs.Props.{props}
 use Rattle.asm.specs.declared.item.Item.{Item}

@@ -1,4 +1,4 @@
--- Why a command stops, before it is told.
+-- Why a command stops, before it is reported.
 use Rattle.std.specs.Prelude.{◌≡◌, List, ℕ}
 use Rattle.srcset.specs.Files.{Files}
 use Rattle.srcset.specs.declared.fault.Fault.{Fault}
@@ -19,13 +19,13 @@ use Rattle.cc_backend.specs.Made.{AreItemsOf}
 use Rattle.cc.specs.Compiled.{HasProgram}
 use Rattle.cc.specs.Refused.{IsRefused}
 
--- the fault that tells it, where the command names this file; only the copy of the name may run out of memory
+-- the fault that reports it, where the command names this file; only the copy of the name may run out of memory
 abbrev pub IsToldAs : List ℕ → Stop → Fault → Type 0
 IsToldAs name Memory fault = IsMemoryFault fault
 IsToldAs name (At code line) fault = IsFaultOrMemory fault code name line
 IsToldAs name (Told told) fault = fault ≡ told
 
--- it was told already, with such a fault
+-- it was reported already, with such a fault
 abbrev pub IsTold : (Fault → Type 0) → Stop → Type 0
 IsTold P Memory = ⊥
 IsTold P (At code line) = ⊥
@@ -37,11 +37,11 @@ IsMemory Memory = Unit {0}
 IsMemory (At code line) = ⊥
 IsMemory (Told told) = IsMemoryFault told
 
--- each fault that tells it is one for which this main file is refused
+-- each fault that reports it is one for which this main file is refused
 abbrev pub Stops : (stack : ℕ) → Files → List ℕ → Stop → Type 0
 Stops stack set name stop = (fault : Fault) → IsToldAs name stop fault → IsRefused stack set name fault
 
--- why a file was not read or not put whole, by what the port refused
+-- why a file was not read or not put whole, by the fault of the port
 abbrev pub port_stop : PortFault → Stop
 port_stop port_fault.Memory = Memory
 port_stop port_fault.Read = At CannotRead 0

@@ -1,4 +1,4 @@
--- What comes of a stream of preprocessing tokens that a lexer reads to its end.
+-- The outcome of a stream of preprocessing tokens that a lexer reads to its end.
 use Rattle.std.specs.Prelude.{◌≡◌, ◌⊎◌, true, List, [], ◌++◌, None, is_some}
 use Rattle.srcset.specs.declared.refusal.Refusal.{Refusal}
 use Rattle.srcset.specs.declared.refusal.Refusal.TheVariants.{Memory, At, Told}
@@ -10,7 +10,7 @@ use Rattle.pp.specs.declared.stream.Pp.{Pp}
 use Rattle.pp.specs.Phase4.{Phase4}
 use Rattle.pp.specs.Stream.{IsRest, fault_meant}
 
--- what was left of phase 4, where names had the first numbers, is these tokens and no fault; names have the second ones now
+-- the rest of phase 4, where names had the first numbers, is these tokens and no fault; names have the second ones now
 abbrev pub IsWhole : (old new : Texts) → Pp → List Token → Type 0
 IsWhole old new stream front =
     (texts : Texts) (whole : Phase4) → KeepsNumbers new texts → IsRest old texts stream whole → whole ≡ record { tokens = front; fault = None }
@@ -39,7 +39,7 @@ Follows now texts stream front whole =
     (rest : Phase4) × IsRest now texts stream rest × (rest.fault ≡ whole.fault)
     × ((front ++ rest.tokens ≡ whole.tokens) ⊎ ((rest.tokens ≡ []) × (is_some rest.fault ≡ true)))
 
--- a lexer has read what came
+-- a lexer has read all tokens so far
 pub record ReadsSome (old now : Texts) (entry stream : Pp) (lexer : Lexer) : Type 0 where
   pub front : List Token
   pub read : HasRead now front lexer

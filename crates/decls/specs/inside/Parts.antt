@@ -10,7 +10,7 @@ use Rattle.typing_spec.specs.Initialisers.{past_init}
 use Rattle.typing_spec.specs.Linkage.{StorageClass}
 use Rattle.typing_spec.specs.Declarations.{length_from, sized, begun, finished, function_at}
 
--- the scope behind an initialiser, if there is one
+-- the scope after an initialiser, if there is one
 abbrev pub past_given : Scope → Option Init → Scope
 past_given s None = s
 past_given s (Some i) = past_init s i

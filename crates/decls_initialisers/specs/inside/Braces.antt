@@ -1,4 +1,4 @@
--- Lists and string literals in braces, where so many string literals stand before.
+-- Lists and string literals in braces, after a number of string literals.
 use Rattle.std.specs.Prelude.{ℕ, Bool, true, false, List, Option, Some, None}
 use Rattle.srcset.specs.declared.refusal.Pos.{Pos}
 use Rattle.ctypes.specs.declared.types.IntType.{IntType}

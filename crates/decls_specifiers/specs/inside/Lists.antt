@@ -13,7 +13,7 @@ class_before no_class = []
 class_before by_extern = by_extern ∷ []
 class_before by_static = by_static ∷ []
 
--- the value of an enumerator whose name is fresh, and the scope behind it
+-- the value of an enumerator whose name is fresh, and the scope after it
 abbrev pub enumerator_read : Scope → ℤ → EnumeratorTree → Verdict ℤ
 enumerator_read s next e = provided (typed.fresh_enumerator s e.at e.name) (typed.value_of_enumerator s next e.at e.value)
 

@@ -1,4 +1,4 @@
--- What the temporaries hold, as far as the code itself tells it.
+-- The contents of the temporaries, as far as the code itself determines them.
 use Rattle.std.specs.Prelude.{◌==◌, ℕ, List, set, get_or, replicate}
 use Rattle.rv32.specs.declared.instr.RegisterOp.{RegisterOp}
 use Rattle.rv32.specs.declared.instr.RegisterOp.TheVariants as register_op
@@ -76,7 +76,7 @@ computed o (operand.Cell c) y = known.Unknown
 computed o (operand.Constant a) y = result_with o a y
 computed o (operand.Argument k) y = known.Unknown
 
--- what is known behind an instruction
+-- the facts known after an instruction
 abbrev pub behind : List Known → Instruction → List Known
 behind facts instruction.Nothing = facts
 behind facts (instruction.Move d x) = learned facts d (known_of facts x)

@@ -43,7 +43,7 @@ all_marked marks (x ∷ xs) = all_marked (marked marks x) xs
 abbrev pub AreMarked : List Bool → List Instruction → Type 0
 AreMarked marks xs = (k to : ℕ) (x : Instruction) → slice_get xs k ≡ Some x → jump_of x ≡ Some to → is_marked marks to ≡ true
 
--- ---- forward: by what is known
+-- ---- forward: by the known facts
 
 abbrev pub fresh : Bool → List Known → List Known
 fresh m facts = if m then nothing else facts
@@ -55,7 +55,7 @@ forward area marks i facts (x ∷ xs) =
     simpler area (fresh (is_marked marks i) facts) x
     ∷ forward area marks (i + 1) (behind (fresh (is_marked marks i) facts) (simpler area (fresh (is_marked marks i) facts) x)) xs
 
--- ---- without what nobody reads
+-- ---- without dead stores
 
 abbrev pub near : List Instruction → List Instruction
 near xs = take (min (length xs) 16) xs

@@ -1,4 +1,4 @@
--- What stands in the place of an instruction, by what is known before it.
+-- The replacement of an instruction, by the facts known before it.
 use Rattle.std.specs.Prelude.{ℕ, ◌+◌, ◌*◌, ◌^◌, ◌==◌, ◌&&◌, nat_lt, not, Bool, true, false, if◌then◌else◌, List, Option, Some, None}
 use Rattle.std.specs.Int.{w32, trailing_zeros}
 use Rattle.rv32.specs.declared.instr.RegisterOp.{RegisterOp}
@@ -150,7 +150,7 @@ simpler_element area k d x (operand.Cell c) size = element d x (operand.Cell c) 
 simpler_element area k d x (operand.Constant n) size = numbered area k d x n size
 simpler_element area k d x (operand.Argument j) size = element d x (operand.Argument j) size
 
--- ---- instructions, in a function whose arrays have so many bytes
+-- ---- instructions, in a function whose arrays have `area` bytes
 
 abbrev pub simpler : ℕ → List Known → Instruction → Instruction
 simpler area facts instruction.Nothing = instruction.Nothing

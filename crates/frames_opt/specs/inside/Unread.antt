@@ -20,7 +20,7 @@ is_through k (location.Statics o) = false
 is_through k (location.Frame o) = false
 is_through k (location.At x) = names k x
 
--- it reads temporary k, or what comes behind it is not known
+-- it reads temporary k, or its continuation is not known
 abbrev pub reads : ℕ → Instruction → Bool
 reads k instruction.Nothing = false
 reads k (instruction.Move d x) = names k x

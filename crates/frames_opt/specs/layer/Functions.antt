@@ -7,7 +7,7 @@ use Rattle.frames_opt.specs.Simplified.{IsSimplified}
 use Rattle.frames_opt.specs.inside.Facts.{nothing}
 use Rattle.frames_opt.specs.inside.Passes.{AreMarked, forward, swept}
 
--- code that went through both passes, in a function whose arrays have so many bytes
+-- code that went through both passes, in a function whose arrays have `area` bytes
 pub record IsImproved (area : ℕ) (old new : List Instruction) : Type 0 where
   pub marks : List Bool
   pub are : AreMarked marks old

@@ -1,10 +1,10 @@
--- What a part of a program that is evaluated at once comes to: what is left of the run behind it.
-use Rattle.std.specs.Prelude.{◌≡◌, ◌≢◌, Bool, true, ℕ, ◌+◌, ℤ, List, map, Option, Some, None, Result, Ok, Err, ⊤}
+-- The result of a part of a program that is evaluated at once: the rest of the run after it.
+use Rattle.std.specs.Prelude.{◌≡◌, ◌≢◌, Bool, true, ℕ, ◌+◌, ◌-◌, ℤ, List, length, map, nat_lt, Option, Some, None, Result, Ok, Err, ⊤}
 use Rattle.typing_spec.specs.Program as typed
 use Rattle.typed_ast.specs.View.{program_of, object_type_of}
 use Rattle.csem.specs.History.{Entry}
 use Rattle.csem.specs.Machine as machine
-use Rattle.csem.specs.Machine.{State, Run, Goes, Stops, then_do, tick}
+use Rattle.csem.specs.Machine.{State, Run, Goes, Stops, then_do, choose, tick}
 use Rattle.interp_store.specs.declared.scene.Scene.{Scene}
 use Rattle.interp_store.specs.declared.stop.Stop.{Stop}
 use Rattle.interp_store.specs.declared.stop.Stop.TheVariants as stop
@@ -13,7 +13,7 @@ use Rattle.interp_store.specs.layer.Agrees.{state_in}
 use Rattle.interp_store.specs.layer.Presents.{call_in}
 use Rattle.csem.specs.Store.{Reference, whole}
 use Rattle.csem.specs.Expressions.{find, evaluate}
-use Rattle.csem.specs.Statements.{Flow, Normal, Broken, Continued, Returned, execute, execute_all}
+use Rattle.csem.specs.Statements.{Flow, Normal, Broken, Continued, Returned, after_switch, labels_at, labels_of, label_for, execute, execute_all, execute_from}
 use Rattle.typing_spec.specs.Types.{ObjectType}
 use Rattle.interp_eval.specs.declared.clock.Clock.{Clock}
 use Rattle.interp_eval.specs.declared.clock.Scope.{Scope}
@@ -26,11 +26,11 @@ pub record Course : Type 0 where
   pub input : List ℕ
   pub history : List Entry
 
--- with so many ticks left
+-- with n ticks left
 abbrev pub state_at : Course → Scene → ℕ → State
 state_at c scene n = state_in scene (record { clock = n; input = c.input; history = c.history })
 
--- where so many ticks are spent, a part of the run and what follows it are what is left
+-- where `spent` ticks are spent, a part of the run and its continuation are the rest of the run
 pub record Leads {A : Type 0} (c : Course) (spent : ℕ) (scene : Scene) (part : State → Run A) (rest : A → State → Run Found) : Type 0 where
   pub is_left : (n : ℕ) → then_do (part (state_at c scene n)) rest ≡ c.whole (n + spent)
 
@@ -41,7 +41,7 @@ StopsBy c limit (why.Undefined act at) spent scene = (n : ℕ) → c.whole (n + 
 StopsBy c limit why.Memory spent scene = ⊤
 StopsBy c limit why.Elsewhere spent scene = ⊤
 
--- what follows gets the value, or the run stops
+-- the continuation gets the value, or the run stops
 abbrev pub Comes : {A B : Type 0} → (A → B) → Course → (B → State → Run Found) → ℕ → Option A → Clock → Scene → Type 0
 Comes view c rest limit (Some a) clock scene = (n : ℕ) → rest (view a) (state_at c scene n) ≡ c.whole (n + clock.spent)
 Comes view c rest limit None clock scene = StopsBy c limit clock.why clock.spent scene
@@ -51,7 +51,7 @@ abbrev pub Does : {A B : Type 0} → (A → B) → Scope → (typed.Program → 
 Does view scope part old before result new after = (c : Course) (rest : _ → State → Run Found) →
     Leads c old.spent before (part (program_of scope.program.now)) rest → Comes view c rest scope.limit result new after
 
--- with so many ticks allowed, in this program
+-- with at most `limit` ticks, in this program
 abbrev pub DoesIn : {A B : Type 0} → (A → B) → ℕ → typed.Program → (typed.Program → State → Run B) → Clock → Scene → Option A → Clock → Scene → Type 0
 DoesIn view limit p part old before result new after = (c : Course) (rest : _ → State → Run Found) →
     Leads c old.spent before (part p) rest → Comes view c rest limit result new after
@@ -63,7 +63,7 @@ Idles (why.Undefined act at) spent limit = ⊥
 Idles why.Memory spent limit = ⊤
 Idles why.Elsewhere spent limit = ⊥
 
--- what a leaf gives
+-- the value of a leaf
 abbrev pub Gives : {A : Type 0} → Result A Stop → Option A → Why → Type 0
 Gives (Ok a) r w = r ≡ Some a
 Gives (Err stop.Memory) r w = (r ≡ None) × (w ≡ why.Memory)
@@ -103,6 +103,24 @@ way_out Continued = None
 way_out Broken = Some Normal
 way_out (Returned v) = Some (Returned v)
 
+-- ---- switches (6.8.4.2)
+
+-- the statements from the label of this number on
+abbrev pub from_label : Option ℕ → typed.Statements → typed.Statements
+from_label label typed.no_statements = typed.no_statements
+from_label None (typed.and_statement a more) = typed.no_statements
+from_label (Some k) (typed.and_statement a more) =
+    choose (nat_lt k (length (labels_at a))) (typed.and_statement a more) (from_label (Some (k - length (labels_at a))) more)
+
+-- those from the label on to which this value jumps
+abbrev pub selected : ℤ → typed.Statements → State → Run typed.Statements
+selected v all s = then_do (label_for v (labels_of all) 0 None s) (λ label s. Goes (from_label label all) s)
+
+-- the effect of a switch in its block
+abbrev pub jumped : List ObjectType → ℤ → typed.Statements → typed.Program → State → Run Flow
+jumped objects v all p s =
+    then_do (label_for v (labels_of all) 0 None s) (λ label s. then_do (execute_from p (call_in p) objects label all s) after_switch)
+
 -- ---- whole objects and their elements
 
 -- a name designates a whole object
@@ -110,7 +128,7 @@ abbrev pub Designates : Option ℕ → Reference → Type 0
 Designates None r = ⊤
 Designates (Some n) r = r ≡ whole n
 
--- a place is a whole object, behind the tick of its name
+-- a place is a whole object, after the tick of its name
 abbrev pub IsWhole : Option ℕ → Run Reference → State → Type 0
 IsWhole None run s = ⊤
 IsWhole (Some n) run s = run ≡ tick s (λ s. Goes (whole n) s)

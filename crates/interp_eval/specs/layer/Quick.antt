@@ -1,4 +1,4 @@
--- Which parts are evaluated at once: those that call nothing, and have no switch and no initialiser but single values.
+-- Which parts are evaluated at once: those that call nothing, and have no initialiser but single values.
 use Rattle.std.specs.Prelude.{Bool, true, false, ◌&&◌, Option, Some, None}
 use Rattle.typing_spec.specs.Program as typed
 use Rattle.typing_spec.specs.Program.{Place, Value, Initialiser, Statement, Statements}
@@ -48,7 +48,7 @@ abbrev mutual
   quick_statement (typed.block first count all) = quick_all all
   quick_statement (typed.branch e a) = quick e && quick_statement a
   quick_statement (typed.branches e a b) = quick e && quick_statement a && quick_statement b
-  quick_statement (typed.switch t e first count all) = false
+  quick_statement (typed.switch t e first count all) = quick e && quick_all all
   quick_statement (typed.case v) = true
   quick_statement typed.default = true
   quick_statement (typed.while e a) = quick e && quick_statement a

@@ -1,4 +1,4 @@
--- The laws of the machine with a stack of its own: what is left of a run is the same behind each step, so that the run of a program
+-- The laws of the machine with an explicit stack: the remainder of a run is the same after each step, so that the run of a program
 -- is that of the definition.
 use Rattle.std.specs.Prelude.{◌≡◌, ℕ, List, [], ◌++◌, Bool, slice_get}
 use Rattle.srcset.specs.declared.refusal.Pos.{Pos}
@@ -11,12 +11,12 @@ use Rattle.interp_store.specs.layer.Frames.{Found, a_flow, Node, enters, calls, 
 use Rattle.interp_store.specs.layer.Presents.{given, present, after, resume, resumed, Real, call_in}
 use Rattle.interp_store.specs.layer.Steps.{entered, left, entered_call, called}
 
--- each node takes one tick, and what it comes to is what is left of it
+-- each node takes one tick, and its result is its remainder
 abbrev pub NodeEnters : Type 0
 NodeEnters = (p : Program) (call : Calling) → Real p call → (n : Node) (s : State) →
     present p call (enters n) s ≡ tick s (λ s. resumed p call (entered p n s))
 
--- a frame that gets what it waited for takes none
+-- a frame that receives the result it waited for takes none
 abbrev pub FrameLeaves : Type 0
 FrameLeaves = (p : Program) (call : Calling) → Real p call → (f : Frame) (x : Found) (s : State) → after p call f x s ≡ resumed p call (left p f x s)
 
@@ -29,11 +29,11 @@ CallActs = (p : Program) (call : Calling) → Real p call → (at : Pos) (callee
 abbrev pub StackResumes : Type 0
 StackResumes = (p : Program) (call : Calling) (fs gs : List Frame) (r : Run Found) → resume p call (fs ++ gs) r ≡ resume p call fs (resume p call gs r)
 
--- calls nested as deep as the ticks allow, and loops of as many turns, are what these laws ask of a call
+-- calls nested as deep as the ticks allow, and loops of as many turns, satisfy the assumptions of these laws on a call
 abbrev pub CallIsReal : Type 0
 CallIsReal = (p : Program) → Real p (call_in p)
 
--- the run of a program is what is left when main is called from nothing
+-- the run of a program is the remainder when main is called from nothing
 abbrev pub RunBegins : Type 0
 RunBegins = (p : Program) (n : ℕ) (input : List ℕ) →
     given (λ v. a_flow (Returned v)) (cstep n p input) ≡ resumed p (call_in p) (entered_call p to_end (slice_get p.functions p.main) p.main [] (start n p input))

@@ -1,4 +1,4 @@
--- How what the code does agrees with the steps of the definition.
+-- How the results of the code agree with the steps of the definition.
 use Rattle.std.specs.Prelude.{◌≡◌, ℕ, List, ◌++◌, map, ℤ, pos, negsuc, nat_lt, Option, Some, None, Result, Ok, Err}
 use Rattle.typing_spec.specs.Program as typed
 use Rattle.typing_spec.specs.Operators.{operated}
@@ -20,7 +20,7 @@ use Rattle.interp_store.specs.layer.Frames as on
 use Rattle.interp_store.specs.layer.Frames.{Moved, moves, halts}
 use Rattle.interp_store.specs.layer.Views.{kept_of, step_of}
 
--- what a state has beside the store: the clock, the input left and the history are not the code's
+-- the rest of a state, apart from the store: the clock, the input left and the history are not the code's
 pub record Outside : Type 0 where
   pub clock : ℕ
   pub input : List ℕ
@@ -36,7 +36,7 @@ state_in s o = record {
   history = o.history;
 }
 
--- what a part of a run came to in code, which ends with this state
+-- the code's result of a part of a run, which ends with this state
 abbrev pub Runs : {A B : Type 0} → (A → B) → Run B → Result A Stop → State → Type 0
 Runs view run (Ok a) s = run ≡ Goes (view a) s
 Runs view run (Err stop.Memory) s = Unit {0}
@@ -70,7 +70,7 @@ abbrev pub onto : List on.Frame → Moved → Moved
 onto fs (moves pushed step s) = moves (fs ++ pushed) step s
 onto fs (halts e s) = halts e s
 
--- what a step came to in code, which ends with these frames and this state
+-- the code's result of a step, which ends with these frames and this state
 abbrev pub Agrees : Moved → Result Step Stop → List on.Frame → State → Type 0
 Agrees moved (Ok x) gs s = moved ≡ moves gs (step_of x) s
 Agrees moved (Err stop.Memory) gs s = Unit {0}

@@ -1,4 +1,4 @@
--- What waits on a stack of the machine's own, and what comes next.
+-- The frames on the machine's explicit stack, and the next step.
 use Rattle.std.specs.Prelude.{ℕ, ℤ, Bool, List, Option}
 use Rattle.srcset.specs.declared.refusal.Pos.{Pos}
 use Rattle.ctypes.specs.declared.types.IntType.{IntType}
@@ -12,20 +12,20 @@ use Rattle.csem.specs.Machine.{State, Ending}
 use Rattle.csem.specs.Expressions.{Passed}
 use Rattle.csem.specs.Statements.{Flow}
 
--- what a part of the program gives to what waits for it
+-- the result that a part of the program passes to the frame that waits for it
 pub data Found : Type 0 where
   a_value : (v : ℤ) → Found
   a_place : (r : Reference) → Found
   a_flow : (flow : Flow) → Found
   initialised : Found
 
--- what is done once so many ticks are spent: characters of string literal n put, elements made zero, a function's body entered
+-- the operation after a number of ticks is spent: characters of string literal n stored, elements made zero, a function's body entered
 pub data Late : Type 0 where
   puts_text : (t : IntType) (count n : ℕ) (r : Reference) → Late
   puts_zeros : (count i : ℕ) (lengths : List ℕ) (r : Reference) → Late
   enters_body : (objects : List ObjectType) (body : Statement) → Late
 
--- what takes the next tick; a statement has the objects of its function beside it, and a switch the value that is looked for
+-- a node, which takes the next tick; a statement has the objects of its function with it, and a switch the value that is looked for
 pub data Node : Type 0 where
   place : (a : Place) → Node
   value : (e : Value) → Node
@@ -36,18 +36,18 @@ pub data Node : Type 0 where
   switch_block : (objects : List ObjectType) (v : ℤ) (first count : ℕ) (all : Statements) → Node
   case_test : (objects : List ObjectType) (v c : ℤ) (labels : List (Option ℤ)) (n : ℕ) (default : Option ℕ) (all : Statements) → Node
 
--- what comes next: a node, what one gave, or a call
+-- the next step: a node, the result of one, or a call
 pub data Step : Type 0 where
   enters : (n : Node) → Step
   leaves : (x : Found) → Step
   calls : (at : Pos) (callee : Callee) (used : Bool) (passed : List Passed) → Step
 
--- what a call's end goes back to: an expression, which may use its value, or the end of the run
+-- the return target of a call: an expression, which may use its value, or the end of the run
 pub data Back : Type 0 where
   to_caller : (at : Pos) (used : Bool) → Back
   to_end : Back
 
--- what waits
+-- the waiting frames
 pub data Frame : Type 0 where
   -- places
   indexes : (at : Pos) (index : Value) → Frame
@@ -70,7 +70,7 @@ pub data Frame : Type 0 where
   then_value : (b : Value) → Frame
   number_passed : (at : Pos) (callee : Callee) (used : Bool) (t : IntType) (more : Arguments) (done : List Passed) → Frame
   array_passed : (at : Pos) (callee : Callee) (used : Bool) (more : Arguments) (done : List Passed) → Frame
-  -- a call, with what the caller had: how many objects lived, its own from `base` on, its arrays
+  -- a call, with its caller's state: how many objects lived, its own from `base` on, its arrays
   returns : (back : Back) (is_main : Bool) (count base : ℕ) (arrays : List Reference) → Frame
   -- initialisers
   gives : (t : IntType) (r : Reference) → Frame
@@ -89,7 +89,7 @@ pub data Frame : Type 0 where
   for_starts : (objects : List ObjectType) (start test : Option Value) (a : Statement) (step : Option Value) → Frame
   gives_back : (t : IntType) → Frame
 
--- what a step comes to: frames that wait, the innermost last, what comes next, and the state; or the end of the run
+-- the result of a step: the waiting frames, the innermost last, the next step, and the state; or the end of the run
 pub data Moved : Type 0 where
   moves : (pushed : List Frame) (step : Step) (s : State) → Moved
   halts : (e : Ending) (s : State) → Moved

@@ -1,4 +1,4 @@
--- What is left of a run: what comes next, and the frames that wait for it.
+-- The remainder of a run: the next step, and the frames that wait for it.
 use Rattle.std.specs.Prelude.{◌≡◌, ℕ, suc, ◌-◌, ℤ, pos, List, [], ◌∷◌, ◌++◌, take, Option, Some, None, Bool, slice_get}
 use Rattle.srcset.specs.declared.refusal.Pos.{Pos}
 use Rattle.ctypes.specs.Types.{truth, of_truth, converted}
@@ -14,7 +14,7 @@ use Rattle.csem.specs.Meaning.{value_left, call_defined, calling, end_with}
 use Rattle.interp_store.specs.layer.Frames as on
 use Rattle.interp_store.specs.layer.Frames.{Found, a_value, a_place, a_flow, initialised, Late, puts_text, puts_zeros, enters_body, Node, Step, enters, leaves, calls, Back, to_caller, to_end, Frame, Moved, moves, halts}
 
--- what is given, as what is found
+-- the result of a run, as a `Found`
 abbrev pub given : {A : Type 0} → (A → Found) → Run A → Run Found
 given as_found (Goes a s) = Goes (as_found a) s
 given as_found (Stops e s) = Stops e s
@@ -22,16 +22,16 @@ given as_found (Stops e s) = Stops e s
 abbrev pub done : Unit {0} → Found
 done u = initialised
 
--- the caller goes on with its own objects
+-- the caller continues with its own objects
 abbrev pub back_at : ℕ → ℕ → List Reference → State → State
 back_at count base arrays s = record s { store = take count s.store; base = base; arrays = arrays; history = Left ∷ s.history }
 
 module _ (p : Program) (call : Calling) where
-  -- the turns of a loop, of which its ticks are enough
+  -- the turns of a loop; its ticks suffice for them
   abbrev pub loop : List ObjectType → Option Value → Statement → Option Value → State → Run Flow
   loop objects test a step s = turns s.clock (evaluate_or p call test) (execute p call objects a) (evaluate_or p call step) s
 
-  -- what is left of a turn
+  -- the remainder of a turn
   abbrev pub stepped : List ObjectType → Option Value → Statement → Option Value → State → Run Flow
   stepped objects test a step s = then_do (evaluate_or p call step s) (λ w s. loop objects test a step s)
 
@@ -72,7 +72,7 @@ module _ (p : Program) (call : Calling) where
   present (leaves x) s = Goes x s
   present (calls at callee used passed) s = given a_value (call_of call at callee used passed s)
 
-  -- ---- what a frame does with what is found
+  -- ---- the step of a frame with its result
 
   abbrev pub goes_back : Back → Option ℤ → State → Run Found
   goes_back (to_caller at used) v s = given a_value (call_value used at v s)
@@ -144,12 +144,12 @@ module _ (p : Program) (call : Calling) where
   resume [] r = r
   resume (f ∷ fs) r = then_do (resume fs r) (after f)
 
-  -- what a step came to
+  -- the remainder of the run after a step
   abbrev pub resumed : Moved → Run Found
   resumed (moves pushed step s) = resume pushed (present step s)
   resumed (halts e s) = Stops e s
 
-  -- what a call has to be, so that a call is its function's body, and the turns of a loop follow one another
+  -- the assumptions on a call, so that a call is its function's body, and the turns of a loop follow one another
   pub record Real : Type 0 where
     pub begins : (f : ℕ) (passed : List Passed) (s : State) → call f passed s ≡ call_defined p call (slice_get p.functions f) f passed s
     pub again : (objects : List ObjectType) (test : Option Value) (a : Statement) (step : Option Value) (s : State) →

@@ -1,4 +1,4 @@
--- The steps of the machine with a stack of its own: what a node does once its tick is spent, and what a frame does with what it
+-- The steps of the machine with an explicit stack: the step of a node once its tick is spent, and the step of a frame with the result it
 -- waited for. Each is a step of the code.
 use Rattle.std.specs.Prelude.{ℕ, zero, suc, ◌-◌, ◌*◌, ℤ, pos, List, [], ◌∷◌, ◌++◌, length, Option, Some, None, Bool, nat_eq, nat_lt, slice_get}
 use Rattle.srcset.specs.declared.refusal.Pos.{Pos}
@@ -17,7 +17,7 @@ use Rattle.interp_store.specs.layer.Frames as on
 use Rattle.interp_store.specs.layer.Frames.{Found, a_value, a_place, a_flow, initialised, Late, puts_text, puts_zeros, enters_body, Node, Step, enters, leaves, calls, Back, to_caller, to_end, Frame, Moved, moves, halts}
 use Rattle.interp_store.specs.layer.Presents.{back_at}
 
--- what is given at once
+-- a result that is given at once
 abbrev pub at_once : {A : Type 0} → (A → Found) → Run A → Moved
 at_once as_found (Goes a s) = moves [] (leaves (as_found a)) s
 at_once as_found (Stops e s) = halts e s
@@ -28,7 +28,7 @@ goes x s = moves [] (leaves x) s
 abbrev pub waits : Frame → Node → State → Moved
 waits f n s = moves (f ∷ []) (enters n) s
 
--- the same, and a frame outside that waits for what comes of it
+-- the same, with an outer frame that waits for its result
 abbrev pub behind : Frame → Moved → Moved
 behind f (moves pushed step s) = moves (f ∷ pushed) step s
 behind f (halts e s) = halts e s
@@ -84,7 +84,7 @@ sought objects v (None ∷ labels) n default all s = sought objects v labels (su
 sought objects v (Some c ∷ labels) n default all s = moves [] (enters (on.case_test objects v c labels n default all)) s
 
 module _ (p : Program) where
-  -- ---- what waits for ticks alone
+  -- ---- operations that wait for ticks alone
 
   abbrev pub came_late : Late → State → Moved
   came_late (puts_text t count n r) s = goes initialised (characters t count 0 (text_or_none (slice_get p.literals n)) r s)
@@ -218,7 +218,7 @@ module _ (p : Program) where
   left_initialised on.defined s = goes (a_flow Normal) s
   left_initialised other s = goes initialised s
 
-  -- a frame, with what it waited for
+  -- a frame, with the result it waited for
   abbrev pub left : Frame → Found → State → Moved
   left f (a_value v) s = left_by_value f v s
   left f (a_place r) s = left_by_place f r s
@@ -227,7 +227,7 @@ module _ (p : Program) where
 
   -- ---- calls
 
-  -- of a function; what is given back to the caller, or ends the run
+  -- of a function; the return to the caller, or the end of the run
   abbrev pub entered_call : Back → Option Function → ℕ → List Passed → State → Moved
   entered_call back None f passed s = went_back back None s
   entered_call back (Some g) f passed s =

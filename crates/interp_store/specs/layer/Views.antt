@@ -139,7 +139,7 @@ frame_of (frame.Control f) = control_frame f
 frame_of (frame.Flow f) = flow_frame f
 frame_of (frame.Initialiser f) = initialiser_frame f
 
--- ---- frames as the stack keeps them
+-- ---- frames as the stack stores them
 
 abbrev pub call_frame : Call → on.Frame
 call_frame c = on.returns (on.to_caller (record { file = c.file; line = c.line }) c.used) c.is_main c.count c.base []

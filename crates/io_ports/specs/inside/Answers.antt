@@ -1,4 +1,4 @@
--- What the answer of a reader means where one byte was asked for, and how often it is asked.
+-- The meaning of the result of a reader where one byte was requested, and how often it is tried.
 use Rattle.std.specs.Prelude.{ℕ, ◌==◌, if◌then◌else◌, Option, Some, None, Result, Ok, Err}
 use Rattle.io_ports.specs.declared.port.PortFault.{PortFault}
 use Rattle.io_ports.specs.declared.port.PortFault.TheVariants.{Read}

@@ -29,7 +29,7 @@ abbrev pub with_meaning : Texts → Result Meaning Code → Texts
 with_meaning texts (Ok m) = with_texts texts (texts_in m)
 with_meaning texts (Err code) = texts
 
--- a string literal that may not be whole, before the tokens behind it
+-- a string literal that may not be complete, before the tokens after it
 abbrev pub pending_before : Option Pos → List ℕ → List CToken → List CToken
 pending_before None bytes cs = cs
 pending_before (Some p) bytes cs = before (record { meaning = text bytes; pos = p }) cs
@@ -43,7 +43,7 @@ abbrev pub begins_text : List CToken → Bool
 begins_text [] = false
 begins_text (c ∷ cs) = is_text c.meaning
 
--- the tokens so far, and `rest` of those behind them, are `total`; the table took up their texts
+-- the tokens so far, and `rest` of those after them, are `total`; the table took up their texts
 pub record Carries (old texts : Texts) (stored : Stored) (rest total : CTokens) : Type 0 where
   pub done : List CToken
   pub done_is : AreTokensOf texts done stored.tokens.items
@@ -61,12 +61,12 @@ abbrev pub PassesText : Texts → Stored → Stored → Pos → Result (List ℕ
 PassesText texts stored stored' pos r =
     (old : Texts) (rest total : CTokens) → Carries old texts stored (put pos (as_text r) rest) total → Carries old texts stored' rest total
 
--- the token comes last
+-- the token is appended
 pub record IsPushed (old new : Stored) (t : Token) : Type 0 where
   pub tokens_are : new.tokens.items ≡ old.tokens.items ++ t ∷ []
   pub pending_is : new.pending ≡ old.pending
 
--- whatever is carried up to what begins with no string literal is carried there still
+-- if `rest` begins with no string literal, tokens carried before are still carried after
 abbrev pub Closes : Texts → Stored → Texts → Stored → Type 0
 Closes texts stored texts' stored' =
     (old : Texts) (rest total : CTokens) → begins_text rest.tokens ≡ false → Carries old texts stored rest total → Carries old texts' stored' rest total
@@ -89,6 +89,6 @@ ends_in_literal [] = false
 ends_in_literal (t ∷ []) = is_literal t.kind
 ends_in_literal (t ∷ u ∷ ts) = ends_in_literal (u ∷ ts)
 
--- a string literal that stands last is pending
+-- a last string literal is pending
 abbrev pub IsSettled : Stored → Type 0
 IsSettled stored = stored.pending ≡ None → ends_in_literal stored.tokens.items ≡ false

@@ -5,7 +5,7 @@ use Rattle.rv32.specs.declared.memory.Segment.{Segment}
 use Rattle.loader.specs.declared.header.LoadHeader.{LoadHeader}
 use Rattle.loader.specs.File.{byte_of}
 
--- s is what l loads
+-- s is the segment that l loads
 pub record IsLoaded (file : List ℕ) (l : LoadHeader) (s : Segment) : Type 0 where
   pub start : s.start ≡ l.address
   pub len : vec_len s.bytes ≡ l.memory_size

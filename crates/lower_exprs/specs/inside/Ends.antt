@@ -12,7 +12,7 @@ one_before zero true = 1
 one_before zero false = 0
 one_before (suc n) calls = suc (suc n)
 
--- where the last one stands that calls, counted from 1
+-- the position of the last one that calls, counted from 1
 abbrev pub calling_in : List Given → ℕ
 calling_in [] = 0
 calling_in (g ∷ gs) = one_before (calling_in gs) (given_calls g)

@@ -1,4 +1,4 @@
--- Arguments one by one: where each waits for those behind it, and how it goes into its temporary.
+-- Arguments one by one: where each waits for those after it, and how it goes into its temporary.
 use Rattle.std.specs.Prelude.{◌≡◌, ◌<◌, ◌+◌, ℕ, List, [], ◌∷◌, length}
 use Rattle.typing_spec.specs.Program.{Place, Arguments}
 use Rattle.typed_ast.specs.View.{Given, number_given, array_given, arguments_of}
@@ -12,7 +12,7 @@ use Rattle.lower_exprs.specs.declared.places.Free.{Free}
 use Rattle.lower_exprs.specs.layer.Sizes.{value_size, place_size, wait_shape}
 use Rattle.lower_exprs.specs.layer.Written.{WroteFinds, WroteValue}
 
--- how many instructions one has, beside those behind it
+-- the number of instructions of one, without those after it
 abbrev pub given_size : Given → Arguments → ℕ
 given_size (number_given u e) more =
     plus (value_size e (wait_shape e (arguments_write more) (arguments_call more))) (loads_size (keeps u e) (waits_in e (arguments_write more) (arguments_call more) 0 0))

@@ -16,7 +16,7 @@ use Rattle.lower_ops.specs.layer.FormSizes.{ends_size, then_size, operates_size,
 
 -- ---- expressions
 
--- what becomes of a value that waits
+-- the shape of a value that waits
 abbrev pub wait_shape : Value → (ℕ → Bool) → Bool → Shape
 wait_shape e written has_calls = shape_of (mode_of (waits_in e written has_calls 0 0))
 

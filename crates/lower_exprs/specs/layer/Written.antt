@@ -1,4 +1,4 @@
--- What it is to write the code of an expression.
+-- The meaning of writing the code of an expression.
 use Rattle.std.specs.Prelude.{ℕ, Bool, true, false, ◌||◌, List}
 use Rattle.ctypes.specs.declared.types.IntType.{IntType}
 use Rattle.ctypes.specs.declared.operators.BinOp.{BinOp}
@@ -40,7 +40,7 @@ OneNumber w size a b g t k pc pc2 =
 abbrev pub truth_size : Value → Value → ℕ
 truth_size a b = plus 1 (plus (value_size a shape.Jump) (plus (value_size b shape.Jump) truths_size))
 
--- ---- each of the two cases of what reads or changes a place
+-- ---- each of the two cases of an expression that reads or changes a place
 
 abbrev pub WroteReadObject : (x : ℕ) → Mode → (old new : List Instruction) → Type 0
 WroteReadObject x m old new =

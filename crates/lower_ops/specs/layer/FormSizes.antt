@@ -52,7 +52,7 @@ operates_size o shape.Local = then_size o shape.Local
 operates_size o shape.Object = then_size o shape.Object
 operates_size o shape.Jump = compares_size o
 
--- ---- conversions; `size` is that of the expression, r what becomes of it till then
+-- ---- conversions; `size` is that of the expression, r is the shape of its mode until the conversion
 
 abbrev pub converts_size : Bool → (Shape → ℕ) → (r g : Shape) → ℕ
 converts_size true size r g = size g
@@ -88,7 +88,7 @@ loads_size false o = 1
 loads_size true (operand.Temporary j) = 0
 loads_size true o = 1
 
--- ---- what lies in memory
+-- ---- parts of memory
 
 abbrev pub parts_size : Spot → ℕ
 parts_size (place.At o) = 1

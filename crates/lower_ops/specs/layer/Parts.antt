@@ -1,4 +1,4 @@
--- Parts of the typed program and modes as the code's values hold them, and what it is to write a part of code.
+-- Parts of the typed program and modes as the code's values hold them, and the meaning of writing a part of code.
 use Rattle.std.specs.Prelude.{◌≡◌, ℕ, ◌+◌, ◌<◌, Bool, false, min, List, ◌++◌, length, Option, Some, None}
 use Rattle.tac_code.specs.declared.code.Instruction.{Instruction}
 use Rattle.tac_code.specs.declared.code.Target.TheVariants as target
@@ -8,7 +8,7 @@ use Rattle.lower_ops.specs.declared.modes.Mode.TheVariants as mode
 use Rattle.lower_ops.specs.declared.modes.Shape.{Shape}
 use Rattle.lower_ops.specs.declared.modes.Shape.TheVariants as shape
 
--- whether what has the value is written to
+-- whether the object that has the value is written to
 abbrev pub is_written : Option ℕ → (ℕ → Bool) → Bool
 is_written None written = false
 is_written (Some x) written = written x
@@ -20,7 +20,7 @@ meant mode.Nowhere = Nowhere
 meant (mode.To g) = To g
 meant (mode.If sense to) = If sense to
 
--- what of a mode decides how many instructions there are
+-- the part of a mode that decides the number of instructions
 abbrev pub shape_of : Mode → Shape
 shape_of Nowhere = shape.Nowhere
 shape_of (To (target.Temporary j)) = shape.Local
@@ -28,18 +28,18 @@ shape_of (To (target.Kept j)) = shape.Local
 shape_of (To (target.Object x)) = shape.Object
 shape_of (If sense to) = shape.Jump
 
--- ---- numbers of instructions, as far as a word counts
+-- ---- numbers of instructions, saturating at 2^64 - 1
 
 unfoldable pub plus : ℕ → ℕ → ℕ
 plus m n = min (m + n) 18446744073709551615
 
--- ---- code that was written behind other code
+-- ---- code that was written after other code
 
 pub record Begins (old new : List Instruction) : Type 0 where
   pub rest : List Instruction
   pub is : new ≡ old ++ rest
 
--- n instructions were written, of which P holds, whatever comes behind them; the whole is no longer than a word counts
+-- n instructions were written that satisfy P, whatever follows them; the whole has fewer than 2^62 instructions
 pub record Wrote (P : List Instruction → ℕ → ℕ → Type 0) (n : ℕ) (old new : List Instruction) : Type 0 where
   pub begins : Begins old new
   pub grows : length new ≡ length old + n

@@ -9,7 +9,7 @@ use Rattle.typed_ast.specs.View.{program_of, function_of}
 use Rattle.lower_correct.specs.Places.{size_of_type, size_of_place}
 use Rattle.lower_ops.specs.declared.row_sizes.Scope.{Scope}
 
--- of what is n elements deep in such an object
+-- the size of a part that is n elements deep in such an object
 abbrev pub deep_size : ℕ → Option DeclaredType → ℕ
 deep_size zero t = size_of_type t
 deep_size (suc n) t = deep_size n (row_type t)

@@ -1,4 +1,4 @@
--- What is wrong with a definition, by the numbers of names.
+-- The faults of a definition, by the numbers of names.
 use Rattle.std.specs.Prelude.{ℕ, List, [], ◌∷◌, length, slice_get, nat_lt, nat_le, Bool, true, false, not, ◌&&◌, ◌||◌, Option, Some, None, is_some, codes}
 use Rattle.std.specs.List.{list_any}
 use Rattle.std.specs.Str.{bytes_eq}
@@ -19,7 +19,7 @@ is_number_reserved texts n = is_text_reserved (slice_get texts n)
 abbrev pub is_replaced : BodyToken → Bool
 is_replaced x = is_spelled (codes "__VA_ARGS__") x.token
 
--- `pending` where a `#` stands before the list
+-- `pending` where a `#` precedes the list
 abbrev pub lone_hash_after : Bool → List BodyToken → Bool
 lone_hash_after pending [] = pending
 lone_hash_after pending (x ∷ xs) = (pending && not (is_some x.parameter)) || lone_hash_after (is_hash x.token) xs
@@ -31,7 +31,7 @@ abbrev pub begins_joint : List BodyToken → Bool
 begins_joint [] = false
 begins_joint (x ∷ xs) = is_joint x.token
 
--- `last` where a `##` stands before the list
+-- `last` where a `##` precedes the list
 abbrev pub ends_joint : Bool → List BodyToken → Bool
 ends_joint last [] = last
 ends_joint last (x ∷ xs) = ends_joint (is_joint x.token) xs
@@ -75,7 +75,7 @@ abbrev pub places_of : Option NumberedParameters → ℕ
 places_of None = 0
 places_of (Some p) = places p
 
--- the first fault, by what the tests say, how many parameters and macros there are, and whether the name has a macro
+-- the first fault, by the results of the tests, the counts of parameters and macros, and whether the name has a macro
 abbrev pub first_fault : Bool → Bool → Bool → Bool → ℕ → Bool → Bool → ℕ → Option Code
 first_fault reserved variable hash joint parameters differ known count =
     first_of (
@@ -87,7 +87,7 @@ first_fault reserved variable hash joint parameters differ known count =
     (differ, code.MacroRedefined) ∷
     (not known && nat_le max_macros count, code.MacroLimit) ∷ [])
 
--- what is wrong with a macro under this number
+-- the fault of a macro under this number
 abbrev pub fault : Texts → Table → ℕ → NumberedMacro → Option Code
 fault texts table n m =
     first_fault (has_reserved texts n m) (is_variable_outside m) (is_hash_lone m) (is_joint_amiss m) (places_of m.parameters)

@@ -1,8 +1,8 @@
--- What a new macro does to the table.
+-- The effect of a new macro on the table.
 use Rattle.std.specs.Prelude.{◌≡◌, ℕ, ◌+◌, cond, length, nat_eq, Option, Some, None}
 use Rattle.macros.specs.Table.{NumberedMacro, Table, numbered}
 
--- the macro stands under the number, if none stood there
+-- the macro is entered under the number, if none was there
 pub record IsPut (old : Table) (n : ℕ) (x : NumberedMacro) (new : Table) : Type 0 where
   pub looks : (q : ℕ) → numbered new q ≡ cond (nat_eq n q) (Some x) (numbered old q)
   pub longer : length new ≡ length old + 1

@@ -36,7 +36,7 @@ IsRead texts numbers variadic len (Some r) = AreNumbered texts numbers r.names �
 abbrev pub KeepsTables : Texts → Texts → Type 0
 KeepsTables old new = (table : Table) (macros : Macros) → IsTable old table macros → IsTable new table macros
 
--- no number stands twice, or among those before
+-- no number occurs twice, or among those before
 abbrev pub distinct_from : List ℕ → List ℕ → Bool
 distinct_from seen [] = true
 distinct_from seen (n ∷ ns) = not (list_any (nat_eq n) seen) && distinct_from (seen ++ n ∷ []) ns
@@ -47,7 +47,7 @@ macro_if true names variadic body =
     Some (record { parameters = Some (record { names = names; variadic = variadic }); body = body })
 macro_if false names variadic body = None
 
--- the place of a name that is among so many or is __VA_ARGS__ behind them
+-- the place of a name that is among `count` names or is __VA_ARGS__ after them
 abbrev pub place_behind : Option ℕ → Bool → ℕ → Option ℕ
 place_behind (Some i) variable count = Some i
 place_behind None true count = Some count

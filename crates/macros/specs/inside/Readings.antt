@@ -1,4 +1,4 @@
--- What the code reads of parameters.
+-- The result of the code that reads parameters.
 use Rattle.std.specs.Prelude.{◌≡◌, ◌≤◌, ℕ, Option, Some, None}
 use Rattle.srcset.specs.NameTable.{Texts}
 use Rattle.macros.specs.declared.reading.Reading.{Reading}

@@ -12,7 +12,7 @@ Firsts = List (ℕ × ℕ)
 abbrev pub first_of : Firsts → ℕ → Option ℕ
 first_of firsts name = lookup (nat_eq name) firsts
 
--- the number stands under the name, if none stood there
+-- the number is stored under the name, if none was
 abbrev pub NotesBy : Option ℕ → Firsts → ℕ → ℕ → Firsts → Type 0
 NotesBy None old name number new = (q : ℕ) → first_of new q ≡ cond (nat_eq name q) (Some number) (first_of old q)
 NotesBy (Some f) old name number new = new ≡ old

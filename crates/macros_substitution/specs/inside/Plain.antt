@@ -35,7 +35,7 @@ all_held arguments full ps = flat_map (put_held arguments full) ps
 abbrev pub KeepsUsed : List HeldPiece → List (Vec HiddenToken Global) → List (Vec HiddenToken Global) → Type 0
 KeepsUsed ps old new = (i : ℕ) → list_any (expanded_held i) ps ≡ true → held_at i new ≡ held_at i old
 
--- a piece's tokens are put behind those that are done; what the rest uses is kept
+-- a piece's tokens are appended to those that are done; the arguments that the rest uses are kept
 pub record PutsPiece (arguments old new : List (Vec HiddenToken Global)) (p : HeldPiece) (rest : List HeldPiece) (before after : List HiddenToken) : Type 0 where
   pub done : after ≡ before ++ put_held arguments old p
   pub keeps : KeepsUsed rest old new

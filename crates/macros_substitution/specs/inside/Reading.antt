@@ -32,7 +32,7 @@ expanded_held i (Placemarker space) = false
 abbrev pub tokens_held : List HiddenToken → List Token
 tokens_held xs = map (λ x. x.token) xs
 
--- what a `#` with this mark makes of these tokens
+-- the string literal that a `#` with this mark makes of these tokens
 abbrev pub string_made : Bool → List Token → Pos → Result Piece Code
 string_made space argument at = stringized argument at >>= λ s. Ok (one (record { token = record s { space_before = space }; hides = [] }))
 
@@ -57,7 +57,7 @@ piece_in beside x at = if is_joint x.token then joint else parameter_in beside x
 abbrev pub read : Call → Bool → List Token → Result (List Piece) Code
 read call after xs = strings_made call xs >>= λ ps. Ok (sides after ps)
 
--- one piece is read, of so many tokens; or the rest is refused
+-- one piece is read, with the number of its tokens; or the rest is refused
 abbrev pub ReadsNext : Texts → Sets → Call → Bool → List Token → Result (HeldPiece × ℕ) Refusal → Type 0
 ReadsNext texts sets call after xs (Ok found) =
     read call after xs ≡ in_front (piece_as texts sets found.0) (read call (joint_held found.0) (drop found.1 xs))

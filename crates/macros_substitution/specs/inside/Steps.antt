@@ -1,4 +1,4 @@
--- What the steps of the code do.
+-- The effect of the steps of the code.
 use Rattle.std.specs.List.{flat_map}
 use Rattle.std.specs.Prelude.{◌≡◌, ℕ, List, [], ◌∷◌, ◌++◌, Bool, true, false, Result, Ok, Err}
 use Rattle.srcset.specs.declared.refusal.Pos.{Pos}
@@ -43,17 +43,17 @@ JoinsTo texts sets at (Err Memory) answer = Unit {0}
 JoinsTo texts sets at (Err (At code pos)) answer = (pos ≡ at) × (answer ≡ Err code)
 JoinsTo texts sets at (Err (Told code pos text)) answer = ⊥
 
--- what comes of the hand and the pieces that follow
+-- the result of the hand and the pieces that follow
 abbrev pub resumed : Texts → Sets → Hand → List Piece → Pos → Result (List Piece) Code
 resumed texts sets Nothing ps at = joints_done ps at
 resumed texts sets (Left p) ps at = all_joined (piece_as texts sets p) ps at
 resumed texts sets (HandJoining p) ps at = all_joined (piece_as texts sets p) (joint ∷ ps) at
 
--- the tokens of these pieces behind those that are done
+-- the tokens of these pieces after those that are done
 abbrev pub behind_done : List Hidden → Result (List Piece) Code → Result (List Hidden) Code
 behind_done done answer = answer >>= λ ps. Ok (done ++ tokens_of ps)
 
--- what the pass comes to, with these pieces to follow
+-- the result of the pass, with these pieces to follow
 abbrev pub going : Texts → Sets → Joining → List Piece → Pos → Result (List Hidden) Code
 going texts sets j ps at = behind_done (hidden_all texts sets j.done.items) (resumed texts sets j.hand ps at)
 
@@ -66,7 +66,7 @@ pub record JoiningIn (count : ℕ) (j : Joining) : Type 0 where
   pub done : AreIn count j.done.items
   pub hand : HandIn count j.hand
 
--- the pass went on past these pieces, or its answer is a refusal
+-- the pass continues after these pieces, or its result is a refusal
 abbrev pub GoesOn : Texts → Sets → Pos → Joining → List Piece → Result Joining Refusal → List Piece → Type 0
 GoesOn texts sets at j ps (Ok k) behind = going texts sets j (ps ++ behind) at ≡ going texts sets k behind at
 GoesOn texts sets at j ps (Err Memory) behind = Unit {0}

@@ -1,4 +1,4 @@
--- What the functions that read statements answer.
+-- The results of the functions that read statements.
 use Rattle.std.specs.Prelude.{◌≡◌, ℕ, true, Option, None, List, map, Result, Ok, Err}
 use Rattle.lexer.specs.declared.token.Token.{Token}
 use Rattle.lexer.specs.declared.token.Kind.TheVariants as kind
@@ -25,7 +25,7 @@ AnswersStmt d ts (Err f) = FailsOf (SpellsStmt None) EndsStmt stmt_depth d ts f
 abbrev pub StandsStmt : ℕ → List Token → Refusal → Type 0
 StandsStmt d ts f = StandsOf SpellsStmt stmt_depth d ts f
 
--- what a block consists of, after its brace, and the brace that closes it
+-- the items of a block, after its brace, and the brace that closes it
 abbrev pub SpellsBody : Option (List Token) → Pieces → List Token → List Token → Type 0
 SpellsBody b ps ts rest = (t1 : List Token) × SpellsPieces b ps ts t1 × Sign b sign.BraceClose t1 rest
 

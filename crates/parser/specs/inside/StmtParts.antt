@@ -1,4 +1,4 @@
--- The parts of which statements are put together (ISO/IEC 9899:2011 6.8), and what the functions that read them answer.
+-- The parts that make up statements (ISO/IEC 9899:2011 6.8), and the results of the functions that read them.
 use Rattle.std.specs.Prelude.{ℕ, max, Option, None, List, Result, Ok, Err}
 use Rattle.lexer.specs.declared.token.Token.{Token}
 use Rattle.lexer.specs.declared.token.Kind.{Kind}
@@ -56,12 +56,12 @@ SpellsClosed s b e ts rest = (t1 : List Token) × Spells b e ts t1 × Sign b s t
 abbrev pub SpellsEnded : Punctuator → Option (List Token) → Option Tree → List Token → List Token → Type 0
 SpellsEnded s b e ts rest = (t1 : List Token) × SpellsOption b e ts t1 × Sign b s t1 rest
 
--- what ends a do statement (6.8.5.2)
+-- the end of a do statement (6.8.5.2)
 abbrev pub SpellsDoEnd : Option (List Token) → Tree → List Token → List Token → Type 0
 SpellsDoEnd b e ts rest = (t1 : List Token) × (t2 : List Token) × Mark b (kind.Keyword keyword.While) ts t1 × SpellsTest b e t1 t2
     × Sign b sign.Semicolon t2 rest
 
--- what stands in the parentheses of a for statement (6.8.5.3)
+-- the parts in the parentheses of a for statement (6.8.5.3)
 pub record ForHeadTree : Type 0 where
   pub start : StartTree
   pub test : Option Tree
@@ -104,7 +104,7 @@ abbrev pub EndsPiece : PieceTree → List Token → Type 0
 EndsPiece (declaration_item d) rest = Unit {0}
 EndsPiece (statement_item s) rest = EndsStmt s rest
 
--- ---- answers
+-- ---- results
 
 abbrev pub AnswersClosed : Punctuator → ℕ → List Token → Result Part Refusal → Type 0
 AnswersClosed s d ts (Ok p) = ReadsOf (SpellsClosed s None) Anywhere depth d ts (tree_of p.expr) p.depth p.rest.now

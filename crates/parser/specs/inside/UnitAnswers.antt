@@ -1,4 +1,4 @@
--- What the functions that read external declarations answer.
+-- The results of the functions that read external declarations.
 use Rattle.std.specs.Prelude.{◌≡◌, ℕ, ◌+◌, ◌<◌, ◌≤◌, None, ◌⊎◌, List, map, Result, Ok, Err}
 use Rattle.srcset.specs.declared.refusal.Pos.{Pos}
 use Rattle.srcset.specs.declared.refusal.Refusal.{Refusal as Fault}
@@ -29,7 +29,7 @@ pub record ReadsBody (ts : List Token) (at : Pos) (ps : Pieces) (rest : List Tok
   pub height : ℕ
   pub reads : ReadsOf (SpellsBody None) Anywhere pieces_depth 2 inside ps height rest
 
--- behind a brace, no body stands
+-- after a brace, there is no body
 pub record FailsBody (ts : List Token) (f : Refusal) : Type 0 where
   pub fails : (at : Pos) (inside : List Token) → Own (kind.Punctuator sign.BraceOpen) at ts inside → FailsOf (SpellsBody None) Anywhere pieces_depth 2 inside f
   pub stands : (at : Pos) (inside : List Token) → Own (kind.Punctuator sign.BraceOpen) at ts inside → StandsOf SpellsBody pieces_depth 2 inside f
@@ -61,13 +61,13 @@ IsLocated ts (Syntax left) f = (at : Pos) × HasTokenAt ts at × (f ≡ fault.At
 IsLocated ts (Depth at) f = f ≡ fault.At DepthLimit at
 IsLocated ts Memory f = f ≡ fault.Memory
 
--- one external declaration more is within the limits of nodes, and so many nodes are read
+-- one external declaration more is within the limits of nodes, and `after` nodes are read
 pub record Counts (before : ℕ) (e : ExternalTree) (after : ℕ) : Type 0 where
   pub small : IsSmall e
   pub total : after ≡ before + external_nodes e
   pub few : after ≤ program_node_limit
 
--- it is not, and that is said at this place
+-- it is not, and that is reported at this place
 abbrev pub CountsTooMany : ℕ → ExternalTree → Pos → Fault → Type 0
 CountsTooMany before e at f = ((f ≡ fault.At FunctionNodeLimit at) × (IsSmall e → ⊥)) ⊎ ((f ≡ fault.At ProgramNodeLimit at)
     × (program_node_limit < before + external_nodes e))

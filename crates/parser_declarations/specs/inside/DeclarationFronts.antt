@@ -1,4 +1,4 @@
--- What the functions that read the parts of a declaration answer.
+-- The postconditions of the functions that parse the parts of a declaration.
 use Rattle.std.specs.Prelude.{◌≡◌, ℕ, ◌+◌, Option, None, List, ◌∷◌, map, Result, Ok, Err}
 use Rattle.srcset.specs.declared.refusal.Pos.{Pos}
 use Rattle.lexer.specs.declared.token.Token.{Token}
@@ -24,7 +24,7 @@ use Rattle.parser_declarations.specs.inside.ItemAnswers.{SpellsItemList}
 
 -- ---- static assertions
 
--- the text of an assertion, behind the comma and up to the semicolon
+-- the text of an assertion, after the comma and up to the semicolon
 abbrev pub SpellsText : Option (List Token) → ℕ → List Token → List Token → Type 0
 SpellsText b n ts rest = (t1 : List Token) × (t2 : List Token) × (t3 : List Token) × Sign b sign.Comma ts t1 × Mark b (kind.StringLiteral n) t1 t2
     × Sign b sign.ParenClose t2 t3 × Sign b sign.Semicolon t3 rest
@@ -42,7 +42,7 @@ AnswersAsserted d at ts (Err f) = (scope : Scope) → FailsOf (SpellsDeclaration
 abbrev pub StandsAsserted : ℕ → Pos → List Token → Refusal → Type 0
 StandsAsserted d at ts f = (scope : Scope) → StandsOf (λ b. SpellsDeclaration b scope) declaration_depth d (Behind keyword.StaticAssert at ts) f
 
--- ---- what follows the specifiers at file scope
+-- ---- the tokens after the specifiers at file scope
 
 pub data TailTree : Type 0 where
   listing : (is : List ItemTree) → TailTree
@@ -52,7 +52,7 @@ abbrev pub SpellsTail : TailTree → List Token → List Token → Type 0
 SpellsTail (listing is) ts rest = SpellsItemList None File is ts rest
 SpellsTail (defining at n ps) ts rest = SpellsItem None File (function at n ps) ts rest
 
--- this brace stands there
+-- the front is this brace
 abbrev pub BraceAt : Pos → List Token → Type 0
 BraceAt at rest = (after : List Token) × Own (kind.Punctuator sign.BraceOpen) at rest after
 
@@ -81,12 +81,12 @@ abbrev pub IsObject : ItemTree → Type 0
 IsObject (object at n sizes init) = Unit {0}
 IsObject (function at n ps) = ⊥
 
--- the whole front, from its specifiers and what follows them
+-- the whole front, from its specifiers and the tail after them
 abbrev pub head_tree : Pos → List SpecifierTree → TailTree → HeadTree
 head_tree start ss (listing is) = whole (declared start ss is)
 head_tree start ss (defining at n ps) = opening (record { start = start; specifiers = ss; at = at; name = n; parameters = ps })
 
--- how deep specifiers of this depth are in it: those of a function definition lie below its node
+-- how deep specifiers of this depth are in it: those of a function definition are under its node
 abbrev pub specifiers_height : ℕ → TailTree → ℕ
 specifiers_height k (listing is) = k
 specifiers_height k (defining at n ps) = k + 1

@@ -1,4 +1,4 @@
--- What the functions answer that read the parts of declarations: enumerators, specifiers, sizes, parameters.
+-- The postconditions of the functions that parse the parts of declarations: enumerators, specifiers, sizes, parameters.
 use Rattle.std.specs.Prelude.{◌≡◌, ℕ, Option, None, Some, List, ◌∷◌, map, Result, Ok, Err}
 use Rattle.srcset.specs.declared.refusal.Pos.{Pos}
 use Rattle.lexer.specs.declared.token.Token.{Token}
@@ -26,7 +26,7 @@ use Rattle.parser_grammar.specs.layer.Answer.{ReadsOf, FailsOf, StandsOf, Anywhe
 
 -- ---- enumerators
 
--- neither a value nor an operator within one goes on here
+-- neither a value nor an operator within one continues here
 abbrev pub EndsEnumerator : EnumeratorTree → List Token → Type 0
 EndsEnumerator e rest = Stops 1 rest
 
@@ -51,7 +51,7 @@ StandsEnumerators d ts f = StandsOf SpellsEnumeratorList enumerators_depth d ts 
 
 -- ---- one specifier of a declaration
 
--- a list of enumerators does not go on here
+-- a list of enumerators does not continue here
 abbrev pub EndsSpecifier : SpecifierTree → List Token → Type 0
 EndsSpecifier s rest = NotFront (kind.Punctuator sign.BraceOpen) rest
 
@@ -76,7 +76,7 @@ IsNoneAlone scope k = (s : SpecifierTree) (at : Pos) (ts rest : List Token) → 
 
 -- ---- one size
 
--- a size or none, and the bracket behind it
+-- a size or none, and the bracket after it
 abbrev pub SpellsClosedBound : Option (List Token) → Option Tree → List Token → List Token → Type 0
 SpellsClosedBound b e ts rest = (t1 : List Token) × SpellsBound b e ts t1 × Sign b sign.BracketClose t1 rest
 
@@ -89,7 +89,7 @@ StandsBound d ts f = StandsOf SpellsClosedBound option_depth d ts f
 
 -- ---- one parameter
 
--- neither a specifier nor a name nor a size goes on here
+-- neither a specifier nor a name nor a size continues here
 pub record EndsParameter (p : ParameterTree) (rest : List Token) : Type 0 where
   pub no_type : BeginsType rest → ⊥
   pub no_name : (n : ℕ) → NotFront (kind.Identifier n) rest
@@ -102,11 +102,11 @@ AnswersParameter d ts (Err f) = FailsOf (SpellsParameter None) EndsParameter par
 abbrev pub StandsParameter : ℕ → List Token → Refusal → Type 0
 StandsParameter d ts f = StandsOf SpellsParameter parameter_depth d ts f
 
--- the last token of the first specifier stands at this place
+-- the last token of the first specifier is at this place
 abbrev pub EndsFirstAt : Pos → List Token → Type 0
 EndsFirstAt at ts = (s : TypeSpecifier) (rest : List Token) → SpellsSpecifier s ts rest → (last : Kind) × Reaches ts (record { kind = last; pos = at } ∷ rest)
 
--- the name that stands there, and its place; or none, and the place where the specifiers start
+-- the name at the front, and its place; or none, and the place where the specifiers start
 abbrev pub NameThere : Pos → Pos → Option ℕ → List Token → List Token → Type 0
 NameThere start at None ts rest = (at ≡ start) × (ts ≡ rest) × ((n : ℕ) → NotFront (kind.Identifier n) ts)
 NameThere start at (Some n) ts rest = Own (kind.Identifier n) at ts rest

@@ -1,4 +1,4 @@
--- What the functions that read initialisers answer.
+-- The postconditions of the functions that parse initialisers.
 use Rattle.std.specs.Prelude.{ℕ, Option, None, List, map, Result, Ok, Err}
 use Rattle.srcset.specs.declared.refusal.Pos.{Pos}
 use Rattle.lexer.specs.declared.token.Token.{Token}
@@ -16,7 +16,7 @@ use Rattle.parser_grammar.specs.Declarations.{Trailing, SpellsInit, SpellsInits,
 use Rattle.parser_expressions.specs.ExpressionAnswers.{Stops}
 use Rattle.parser_grammar.specs.layer.Answer.{ReadsOf, FailsOf, StandsOf, Anywhere}
 
--- no assignment expression goes on here
+-- no assignment expression continues here
 abbrev pub EndsInit : Init → List Token → Type 0
 EndsInit i rest = Stops 1 rest
 

@@ -1,4 +1,4 @@
--- What the functions that read declarators answer.
+-- The postconditions of the functions that parse declarators.
 use Rattle.std.specs.Prelude.{◌≡◌, ℕ, Option, None, List, ◌∷◌, map, Result, Ok, Err}
 use Rattle.lexer.specs.declared.token.Token.{Token}
 use Rattle.lexer.specs.declared.token.Punctuator.TheVariants as sign
@@ -14,7 +14,7 @@ use Rattle.parser_grammar.specs.Declarations.{SpellsMoreOf, SpellsItem, SpellsIt
 use Rattle.parser_expressions.specs.ExpressionAnswers.{Stops}
 use Rattle.parser_grammar.specs.layer.Answer.{ReadsOf, FailsOf, StandsOf, Anywhere}
 
--- neither an assignment expression nor a declarator goes on here
+-- neither an assignment expression nor a declarator continues here
 abbrev pub EndsItem : ItemTree → List Token → Type 0
 EndsItem i rest = Stops 1 rest
 
@@ -25,7 +25,7 @@ AnswersItem scope d ts (Err f) = FailsOf (SpellsItem None scope) EndsItem item_d
 abbrev pub StandsItem : Scope → ℕ → List Token → Refusal → Type 0
 StandsItem scope d ts f = StandsOf (λ b. SpellsItem b scope) item_depth d ts f
 
--- the items behind the first, and the semicolon
+-- the items after the first, and the semicolon
 abbrev pub SpellsFurther : Option (List Token) → Scope → List ItemTree → List Token → List Token → Type 0
 SpellsFurther b scope is ts rest = (t1 : List Token) × SpellsMoreOf (SpellsItem b scope) b is ts t1 × Sign b sign.Semicolon t1 rest
 

@@ -1,4 +1,4 @@
--- What the functions that read specifiers, sizes and parameters answer.
+-- The postconditions of the functions that parse specifiers, sizes and parameters.
 use Rattle.std.specs.Prelude.{ℕ, ◌<◌, Option, None, List, [], ◌∷◌, map, length, Result, Ok, Err}
 use Rattle.lexer.specs.declared.token.Token.{Token}
 use Rattle.lexer.specs.declared.token.Kind.{Kind}
@@ -30,7 +30,7 @@ pub record SpellsSomeSpecifiers (scope : Scope) (ss : List SpecifierTree) (ts re
   pub some : 0 < length ss
   pub spells : SpellsDeclarationSpecifiers None scope ss ts rest
 
--- no further specifier stands there, and no list of enumerators, which would belong to the last one
+-- the front is no further specifier, and no list of enumerators, which would belong to the last one
 abbrev pub EndsSpecifiers : List SpecifierTree → List Token → Type 0
 EndsSpecifiers ss rest = (BeginsSpecifier rest → ⊥) × NotFront (kind.Punctuator sign.BraceOpen) rest
 
@@ -45,7 +45,7 @@ StandsDeclarationSpecifiers scope d ts f = StandsOf (λ b. SpellsDeclarationSpec
 
 -- ---- sizes and parameters
 
--- sizes go on with each bracket
+-- each bracket continues the sizes
 abbrev pub EndsBounds : List (Option Tree) → List Token → Type 0
 EndsBounds es rest = NotFront (kind.Punctuator sign.BracketOpen) rest
 

@@ -1,4 +1,4 @@
--- What the functions answer that read the arguments of a call (ISO/IEC 9899:2011 6.5.2.2) and the name of a type in
+-- The postconditions of the functions that parse the arguments of a call (ISO/IEC 9899:2011 6.5.2.2) and the name of a type in
 -- parentheses (6.5.3.4, 6.5.4), each up to the closing parenthesis.
 use Rattle.std.specs.Prelude.{ℕ, Option, None, List, map, Result, Ok, Err}
 use Rattle.lexer.specs.declared.token.Token.{Token}

@@ -1,4 +1,4 @@
--- What the functions of the parser answer, whatever they read.
+-- The results of the functions of the parser, for all categories.
 use Rattle.std.specs.Prelude.{◌≡◌, ℕ, ◌+◌, ◌<◌, ◌≤◌, Option, Some, List, ◌∷◌}
 use Rattle.srcset.specs.declared.refusal.Pos.{Pos}
 use Rattle.lexer.specs.declared.token.Token.{Token}
@@ -8,7 +8,7 @@ use Rattle.parser_grammar.specs.declared.refusal.Refusal.TheVariants.{Syntax, De
 use Rattle.parser_grammar.specs.Tokens.{Reaches}
 use Rattle.tree.specs.Limits.{depth_limit}
 
--- what stands against a tree of depth k that lies below d nodes
+-- the reason against a tree of depth k that is nested in d nodes
 abbrev pub Excuses : Refusal → ℕ → ℕ → Type 0
 Excuses (Syntax left) d k = ⊥
 Excuses (Depth at) d k = depth_limit < d + k
@@ -17,7 +17,7 @@ Excuses Memory d k = Unit {0}
 -- Below, `spells` says which trees of a category spell which fronts of a list, `ends` where one can end, before
 -- these tokens; `height` is its depth.
 
--- the tree x at the front of the list, and no other; it lies below d nodes and is k deep
+-- the tree x at the front of the list, and no other; it is nested in d nodes and is k deep
 pub record ReadsOf {A : Type 0} (spells : A → List Token → List Token → Type 0) (ends : A → List Token → Type 0) (height : A → ℕ) (d : ℕ) (ts : List Token)
     (x : A) (k : ℕ) (rest : List Token) : Type 0 where
   pub spelled : spells x ts rest
@@ -40,12 +40,12 @@ pub record PassesOf {A : Type 0} (begun : Option (List Token) → A → List Tok
   pub reaches : Reaches ts (record { kind = last; pos = at } ∷ cut)
   pub deep : depth_limit < d + height tree
 
--- the refusal stands: of a depth, some begun tree passes it
+-- the refusal is correct: of a depth, some begun tree passes it
 abbrev pub StandsOf : {A : Type 0} (begun : Option (List Token) → A → List Token → List Token → Type 0) (height : A → ℕ) → ℕ → List Token → Refusal → Type 0
 StandsOf begun height d ts (Syntax left) = Unit {0}
 StandsOf begun height d ts (Depth at) = PassesOf begun height d ts at
 StandsOf begun height d ts Memory = Unit {0}
 
--- what ends in a token of its own can end anywhere
+-- a tree that ends in a token of its own can end anywhere
 abbrev pub Anywhere : {A : Type 0} → A → List Token → Type 0
 Anywhere x rest = Unit {0}

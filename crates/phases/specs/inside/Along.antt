@@ -1,10 +1,10 @@
--- How far a loop over the characters of a text has come.
+-- The progress of a loop over the characters of a text.
 use Rattle.std.specs.Prelude.{◌≡◌, ℕ, ◌+◌, Bool, Option, None, Some, List}
 use Rattle.phases.specs.declared.cursor.Cursor.{Cursor}
 use Rattle.phases.specs.inside.Reading.{Spans, Reads}
 use Rattle.phases.specs.Text.{Char, bytes_of}
 
--- of so many characters, so many are read and so many are left
+-- of `total` characters, `n` are read and `left` remain
 pub record Along (from : Cursor) (total : ℕ) (n : ℕ) (at : Cursor) (left : ℕ) : Type 0 where
   pub spans : Spans from n at
   pub sum_is : total ≡ n + left

@@ -3,7 +3,7 @@ use Rattle.std.specs.Prelude.{◌≡◌, ℕ, zero, suc, ◌==◌, ◌&&◌, Boo
 use Rattle.phases.specs.declared.cursor.Hopeless.{Hopeless}
 use Rattle.phases.specs.inside.Lexical.{to_close}
 
--- none of these quotes among so many characters is closed
+-- no quote `q` among the first `m` characters is closed
 abbrev pub unclosed_for : ℕ → ℕ → List ℕ → Bool
 unclosed_for q zero bs = true
 unclosed_for q (suc m) [] = true

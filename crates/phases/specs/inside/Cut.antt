@@ -1,4 +1,4 @@
--- Token lines, one behind another in one list.
+-- Token lines, one after another in one list.
 use Rattle.std.specs.Prelude.{◌≡◌, ℕ, zero, suc, ◌≤◌, List, [], ◌∷◌, slice_range}
 use Rattle.phases.specs.Token.{Token}
 
@@ -7,7 +7,7 @@ abbrev pub cut : ℕ → List ℕ → List Token → List (List Token)
 cut start [] tokens = []
 cut start (e ∷ es) tokens = slice_range tokens start e ∷ cut e es tokens
 
--- the ends stand in order, none below `start`, and the last of them is `last` (`start` where there is none)
+-- the ends are in order, none below `start`, and the last of them is `last` (`start` where there is none)
 abbrev pub Ascend : ℕ → List ℕ → ℕ → Type 0
 Ascend start [] last = start ≡ last
 Ascend start (e ∷ es) last = (start ≤ e) × Ascend e es last

@@ -1,4 +1,4 @@
--- What finding a front of a text says.
+-- Postconditions of finding a front of a text.
 use Rattle.std.specs.Prelude.{◌≡◌, ℕ, ◌<◌, Bool, Option, Some, drop, slice_index}
 use Rattle.phases.specs.declared.cursor.Cursor.{Cursor}
 use Rattle.phases.specs.declared.cursor.Step.{Step}
@@ -10,12 +10,12 @@ use Rattle.phases.specs.declared.token.Kind.{Kind}
 use Rattle.phases.specs.declared.token.Piece.{Piece}
 use Rattle.phases.specs.inside.Reading.{bytes_at, Spans, IsStep}
 
--- the front has so many characters
+-- the front has `n` characters
 pub record IsFront (from : Cursor) (n : ℕ) (s : Span) : Type 0 where
   pub count_is : s.count ≡ n
   pub spans : Spans from s.count s.after
 
--- so many, and at least one
+-- the front has `n` characters, and at least one
 pub record IsSomeFront (from : Cursor) (n : ℕ) (s : Span) : Type 0 where
   pub count_is : s.count ≡ n
   pub spans : Spans from s.count s.after
@@ -39,14 +39,14 @@ pub record IsLexeme (from : Cursor) (t : Kind × ℕ) (x : Lexeme) : Type 0 wher
   pub spans : Spans from x.span.count x.span.after
   pub some : 0 < x.span.count
 
--- what stands at the front
+-- the piece at the front
 pub record IsPiece (from : Cursor) (t : Piece × ℕ) (x : Front) : Type 0 where
   pub piece_is : x.piece ≡ t.0
   pub count_is : x.span.count ≡ t.1
   pub spans : Spans from x.span.count x.span.after
   pub some : 0 < x.span.count
 
--- the byte ahead and the text behind it, or 0 at the end
+-- the byte ahead and the text after it, or 0 at the end
 pub record IsAhead (from : Cursor) (s : Step) : Type 0 where
   pub byte_is : s.byte ≡ slice_index (bytes_at from) 0
   pub rest_is : bytes_at s.next ≡ drop 1 (bytes_at from)

@@ -1,4 +1,4 @@
--- The token grammar of whole texts with the flags of a scanner: whether a byte stands behind a backslash.
+-- The token grammar of whole texts with the flags of a scanner: whether a byte follows a backslash.
 use Rattle.std.specs.Prelude.{◌≡◌, ℕ, ◌<◌, ◌≤◌, ◌==◌, ◌&&◌, ◌||◌, nat_lt, Bool, true, false, not, if◌then◌else◌, List, [], ◌∷◌, length, take, drop}
 use Rattle.phases.specs.declared.token.Kind.{Kind}
 use Rattle.phases.specs.declared.token.Kind.TheVariants.{Identifier, Number, CharacterConstant, StringLiteral, HeaderName, Punctuator, Other}
@@ -35,7 +35,7 @@ is_punctuator (a ∷ b ∷ c ∷ []) = is_triple a b c
 is_punctuator (a ∷ b ∷ c ∷ d ∷ []) = is_quadruple a b c d
 is_punctuator (a ∷ b ∷ c ∷ d ∷ e ∷ bs) = false
 
--- the text is no token of any kind that may stand at this place
+-- the text is no token of any kind that may occur at this place
 pub record IsNoToken (place : Place) (text : List ℕ) : Type 0 where
   pub no_identifier : is_identifier text ≡ false
   pub no_number : is_number text ≡ false
@@ -58,7 +58,7 @@ is_of HeaderName text = is_header text
 is_of Punctuator text = is_punctuator text
 is_of Other text = is_one text
 
--- so long a front is there, and it is a token of this kind
+-- there is a front of this length, and it is a token of this kind
 pub record IsWhole (t : Kind × ℕ) (text : List ℕ) : Type 0 where
   pub some : 0 < t.1
   pub room : t.1 ≤ length text

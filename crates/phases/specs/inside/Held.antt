@@ -1,4 +1,4 @@
--- The token that its parts make, with a spelling that is lent, or owned by it and its copies.
+-- The token of its parts, with a spelling that is borrowed, or owned by it and its copies.
 use Rattle.std.specs.Rc.{rc_slice_items}
 use Rattle.phases.specs.declared.token.Held.{Held}
 use Rattle.phases.specs.declared.token.Held.TheVariants.{Lent, Owned}

@@ -1,11 +1,11 @@
--- How far a literal is read, byte by byte.
+-- The state of a literal that is read byte by byte.
 use Rattle.std.specs.Prelude.{ℕ, ◌==◌, Bool, false, if◌then◌else◌, List}
 use Rattle.phases.specs.declared.kinds.Quote.{Quote}
 use Rattle.phases.specs.declared.kinds.Quote.TheVariants.{Open, Escaped, Closed, Broken}
 use Rattle.phases.specs.Characters.{newline, backslash}
 use Rattle.phases.specs.Grammar.{is_empty, closes_quote, escapes}
 
--- a byte that is no newline behind what was read
+-- the state after one more byte, which is no newline
 abbrev pub quote_with : Quote → ℕ → ℕ → Quote
 quote_with Open quote b = if b == quote then Closed else if b == backslash then Escaped else Open
 quote_with Escaped quote b = Open
@@ -15,7 +15,7 @@ quote_with Broken quote b = Broken
 abbrev pub quote_after : Quote → ℕ → ℕ → Quote
 quote_after state quote b = if b == newline then Broken else quote_with state quote b
 
--- whether what follows closes it
+-- whether the following bytes close it
 abbrev pub closes_from : Quote → ℕ → List ℕ → Bool
 closes_from Open quote bs = closes_quote quote bs
 closes_from Escaped quote bs = escapes quote bs

@@ -43,7 +43,7 @@ to_close close escapes escaped (b ∷ bs) =
     else if closes close escaped b then Some 1
     else one_more (to_close close escapes (escapes_next escapes escaped b) bs)
 
--- an opening byte and what it takes through the closing one, if that is more than `least`
+-- the length of an opening byte and of the bytes through the closing one, if these are more than `least`
 abbrev pub closed_over : ℕ → Option ℕ → ℕ
 closed_over least None = 0
 closed_over least (Some n) = if nat_lt least n then suc n else 0
@@ -53,7 +53,7 @@ enclosed from close least escapes [] = 0
 enclosed from close least escapes (b ∷ bs) =
     if b == from then closed_over least (to_close close escapes false bs) else 0
 
--- with so many bytes in front of it, if there is any
+-- with `k` more bytes in front, if the length is not 0
 abbrev pub behind : ℕ → ℕ → ℕ
 behind k zero = 0
 behind k (suc n) = k + suc n
@@ -75,7 +75,7 @@ one_of b bytes = list_any (λ c. c == b) bytes
 abbrev pub is_single : ℕ → Bool
 is_single a = one_of a (codes "[](){}.&*+-~!/%<>^|?:;=,#")
 
--- what may follow this byte in a punctuator of two
+-- the bytes that may follow this byte in a punctuator of two
 unfoldable pub seconds : ℕ → List ℕ
 seconds a =
     if a == 45 then codes ">-=" else if a == 43 then codes "+=" else if a == 38 then codes "&="

@@ -1,4 +1,4 @@
--- What stands at the front of a text, as a scanner finds it, byte by byte.
+-- The piece at the front of a text, as a scanner finds it, byte by byte.
 use Rattle.std.specs.Prelude.{ℕ, suc, ◌==◌, ◌&&◌, Bool, true, false, if◌then◌else◌, List, [], ◌∷◌, drop}
 use Rattle.phases.specs.declared.token.Place.{Place}
 use Rattle.phases.specs.declared.token.Piece.{Piece}
@@ -21,7 +21,7 @@ comment_len star (b ∷ bs) = if ends_comment star b then (true, 1) else also (c
 abbrev pub comment_piece : Bool × ℕ → Piece × ℕ
 comment_piece t = (if t.0 then Gap else Unclosed, suc (suc t.1))
 
--- what stands at the front of a text, by its first byte and the rest, and how long it is
+-- the piece at the front of a text, by its first byte and the rest, and its length
 abbrev pub front : Place → ℕ → List ℕ → Piece × ℕ
 front place b bs =
     if b == 10 then (Newline, 1)

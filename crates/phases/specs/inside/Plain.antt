@@ -1,4 +1,4 @@
--- Bytes that stand for themselves.
+-- Bytes that denote themselves.
 use Rattle.std.specs.Prelude.{ℕ, ◌==◌, ◌||◌, Bool, not}
 
 -- no part of a trigraph, a splice or the end of a line begins with this byte

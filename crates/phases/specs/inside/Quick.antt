@@ -1,4 +1,4 @@
--- Pieces that are seen from the bytes alone.
+-- Pieces that the raw bytes alone determine.
 use Rattle.std.specs.Prelude.{ℕ, ◌==◌, ◌&&◌, ◌||◌, Bool}
 use Rattle.phases.specs.inside.Lexical.{is_digit}
 

@@ -1,4 +1,4 @@
--- What reading a text character by character says.
+-- Postconditions of reading a text character by character.
 use Rattle.std.specs.Prelude.{◌≡◌, ℕ, ◌+◌, ◌≤◌, ◌<◌, false, List, [], ◌∷◌, ◌++◌, length}
 use Rattle.phases.specs.declared.cursor.Cursor.{Cursor}
 use Rattle.phases.specs.declared.cursor.Step.{Step}
@@ -29,22 +29,22 @@ pub record Skips (from : Cursor) (to : Cursor) : Type 0 where
   pub least : length to.rest.now ≤ length from.rest.now
   pub plain : length from.rest.now ≡ length to.rest.now → from.rest.now ≡ to.rest.now
 
--- the step ends no line behind a backslash
+-- no splice begins with this step
 abbrev pub IsNoSplice : Step → Type 0
 IsNoSplice s = is_splice (char_of s) (mapped_at s.next) ≡ false
 
--- no splice stands at this place
+-- no splice begins at this place
 abbrev pub IsPastSplices : Cursor → Type 0
 IsPastSplices c = (s : Step) → MapsTo c s → IsNoSplice s
 
--- the step is a backslash, and the line ends directly behind it, before this place
+-- the step is a backslash, and the line ends directly after it, before this place
 pub record EndsSplice (s : Step) (to : Cursor) : Type 0 where
   pub is_backslash : s.byte ≡ 92
   pub line : ℕ
   pub text_is : mapped_at s.next ≡ record { byte = 10; line = line } ∷ mapped_at to
   pub least : length to.rest.now < length s.next.rest.now
 
--- these characters stand between these places; where each takes one byte, they are the bytes
+-- these characters lie between these places; where each takes one byte, they are the bytes
 pub record Reads (from : Cursor) (front : List Char) (to : Cursor) : Type 0 where
   pub text_is : text_at from ≡ front ++ text_at to
   pub least : length front + length to.rest.now ≤ length from.rest.now
@@ -54,7 +54,7 @@ pub record Reads (from : Cursor) (front : List Char) (to : Cursor) : Type 0 wher
 abbrev pub IsStep : Cursor → Step → Type 0
 IsStep from s = Reads from (char_of s ∷ []) s.next
 
--- so many characters stand between these places
+-- `n` characters lie between these places
 pub record Spans (from : Cursor) (n : ℕ) (to : Cursor) : Type 0 where
   pub front : List Char
   pub count : length front ≡ n

@@ -40,7 +40,7 @@ pub record IsSureStep (from : Cursor) (s : Step) : Type 0 where
   pub line_is : s.line ≡ from.line
   pub next_line_is : s.next.line ≡ next_line s.byte from.line
 
--- plain bytes with no `stop` among them stand between these places
+-- plain bytes with no `stop` among them lie between these places
 pub record IsRun (from : Cursor) (stop : ℕ) (s : Span) : Type 0 where
   pub front : List ℕ
   pub ordinary : all_ordinary stop front ≡ true
@@ -48,7 +48,7 @@ pub record IsRun (from : Cursor) (stop : ℕ) (s : Span) : Type 0 where
   pub bytes_is : bytes_at from ≡ front ++ bytes_at s.after
   pub spans : Spans from s.count s.after
 
--- white space on one line stands between these places
+-- white space on one line lies between these places
 pub record IsWhiteRun (from : Cursor) (s : Span) : Type 0 where
   pub front : List ℕ
   pub white : all_white front ≡ true

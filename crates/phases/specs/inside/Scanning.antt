@@ -1,4 +1,4 @@
--- How far a file is scanned.
+-- The progress of a scan of a file.
 use Rattle.std.specs.Prelude.{◌≡◌, ℕ, ◌||◌, nat_lt, false, Option, None, Some, List, [], ◌∷◌, ◌++◌, take}
 use Rattle.srcset.specs.declared.refusal.Pos.{Pos}
 use Rattle.phases.specs.declared.cursor.Cursor.{Cursor}
@@ -16,12 +16,12 @@ abbrev pub or_later : Option Pos → Option Pos → Option Pos
 or_later None p = p
 or_later (Some q) p = Some q
 
--- what a file holds, by what is scanned of it and what the rest of it holds
+-- the contents of a file, by the part already scanned and the contents of the rest
 abbrev pub whole : Scanner → Found → Found
 whole s f =
     record { lines = s.list.lines ++ before s.list.line f.lines; overlong = or_later s.overlong f.overlong; unclosed = or_later s.unclosed f.unclosed }
 
--- the token that a word at this place is
+-- the token of a word at this place
 abbrev pub token_at : Scanner → Cursor → Step → Front → Token
 token_at s at first front =
     record { kind = kind_of front.piece; spelling = take front.span.count (bytes_at at); space_before = s.space; pos = record { file = s.file; line = first.line } }
@@ -50,7 +50,7 @@ abbrev pub word_at : Scanner → Kind → List ℕ → ℕ → Token
 word_at s kind spelling line =
     record { kind = kind; spelling = spelling; space_before = s.space; pos = record { file = s.file; line = line } }
 
--- a token with this kind and spelling, on this line, comes last
+-- a token with this kind and spelling, on this line, is appended
 pub record AddsWord (old : Scanner) (new : Scanner) (kind : Kind) (spelling : List ℕ) (line : ℕ) : Type 0 where
   pub file_is : new.file ≡ old.file
   pub lines_is : new.list.lines ≡ old.list.lines
@@ -60,7 +60,7 @@ pub record AddsWord (old : Scanner) (new : Scanner) (kind : Kind) (spelling : Li
   pub overlong_is : new.overlong ≡ or_later old.overlong (first_overlong (word_at old kind spelling line) None)
   pub unclosed_is : new.unclosed ≡ old.unclosed
 
--- so much white space is passed
+-- `count` characters of white space are passed
 pub record PassesWhite (old : Scanner) (new : Scanner) (count : ℕ) : Type 0 where
   pub file_is : new.file ≡ old.file
   pub lines_is : new.list.lines ≡ old.list.lines
@@ -77,7 +77,7 @@ pub record Puts (old : Scanner) (new : Scanner) (at : Cursor) (first : Step) (fr
   pub space_is : new.space ≡ space_after front.piece
   pub file_is : new.file ≡ old.file
 
--- so many characters from here on are scanned
+-- the characters from here on through the end of `s` are scanned
 pub record Goes (old : Scanner) (new : Scanner) (from : Cursor) (s : Span) : Type 0 where
   pub spans : Spans from s.count s.after
   pub file_is : new.file ≡ old.file

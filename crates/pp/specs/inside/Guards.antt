@@ -1,4 +1,4 @@
--- Files behind a guard, an #ifndef around all that they have: what they do where its macro is defined.
+-- Files with an include guard, an #ifndef around their whole content: their effect where its macro is defined.
 use Rattle.std.specs.Prelude.{◌≡◌, ◌≤◌, ◌⊎◌, ℕ, List, [], ◌∷◌, length, map, drop, Bool, true, false, Option, Some, None, codes}
 use Rattle.std.specs.Borrow.{Bor}
 use Rattle.phases.specs.Token.{Token}
@@ -57,7 +57,7 @@ unplaced os = map (λ (o : Open). record o { at = nowhere }) os
 abbrev pub opened_by : List Token → BranchState → Open
 opened_by ts b = record { at = nowhere; branch = b; behind_else = is_else ts }
 
--- Something comes to this rest of a file, in the same state. An empty run may stand before it.
+-- The outcome is that of this rest of a file, in the same state. An empty run may precede it.
 pub record Passes (around : Around) (s : State) (opened : List Open) (o : Outcome State) (p : Parsed) : Type 0 where
   pub conditionals : List Open
   pub begun : Bool

@@ -1,4 +1,4 @@
--- What is left of a file and of those that wait for it, where files include one another.
+-- The rest of a file and of those that wait for it, where files include one another.
 use Rattle.std.specs.Prelude.{◌≡◌, ◌≤◌, ◌<◌, ◌&&◌, ◌+◌, ◌-◌, ◌*◌, ℕ, zero, suc, List, [], ◌∷◌, length, slice_get, Bool, true, false, Option, Some, None, Result, Ok, Err, codes}
 use Rattle.srcset.specs.declared.refusal.Refusal.{Refusal}
 use Rattle.srcset.specs.Files.{Files}
@@ -44,7 +44,7 @@ abbrev pub IsMeant : Texts → Option Source → Option (List ℕ × List ℕ) �
 IsMeant names None meant = meant ≡ None
 IsMeant names (Some source) meant = Means names source meant
 
--- the file is entered in this state, which leaves room for so many more
+-- the file is entered in this state, which leaves room for this number of further files
 pub record Enters (files : Files) (texts : Texts) (room : ℕ) (source : Source) (s : State) (o : Outcome State) : Type 0 where
   pub further : ℕ
   pub room_is : room ≡ suc further
@@ -68,7 +68,7 @@ abbrev pub IncludesOrStops : List Token → Result Source Refusal → Texts → 
 IncludesOrStops given (Ok source) names held files texts room o = Includes names held files texts room source o
 IncludesOrStops given (Err r) names held files texts room o = StopsAs given names r o
 
--- what is left of the file behind an #include that enters it
+-- the rest of the file after an #include that enters it
 pub record Waits (names : Texts) (held : Held) (file : OpenFile) (files : Files) (texts : Texts) (room : ℕ) (source : Source) (p : Parsed) (o : Outcome State) : Type 0 where
   pub made : Outcome State
   pub includes : Includes names held files texts room source made
@@ -112,13 +112,13 @@ pub record CanEnter (names : Texts) (room : ℕ) (file : OpenFile) (source : Sou
   pub begun : file.run.begun ≡ false
   pub tokens : file.run.tokens ≡ []
 
--- ---- what is left
+-- ---- the rest
 
 abbrev pub LeftOrStops : {A : Type 0} → Result A Refusal → Texts → Held → Files → Texts → Reading → List Includer → Outcome State → Type 0
 LeftOrStops (Ok a) names held set texts innermost is o = Left names held set texts innermost is o
 LeftOrStops (Err r) names held set texts innermost is o = EndsAs held.given names r o
 
--- something is left, or it goes on to what is held
+-- something is left, or it continues to the held state
 abbrev pub LeftOrGoes : Bool → Texts → Held → Files → Texts → Reading → List Includer → Outcome State → Type 0
 LeftOrGoes true names held set texts innermost is o = Left names held set texts innermost is o
 LeftOrGoes false names held set texts innermost is o = Goes names held o

@@ -1,4 +1,4 @@
--- A run that stands before what is left of a file.
+-- A run that precedes the rest of a file.
 use Rattle.std.specs.Prelude.{List, [], ◌∷◌, Bool, true, false}
 use Rattle.srcset.specs.NameTable.{Texts}
 use Rattle.phases.specs.Token.{Token}

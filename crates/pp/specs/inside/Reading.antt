@@ -34,7 +34,7 @@ is_pulling (Refused refusal) = false
 abbrev pub run_ends : Pp → Bool
 run_ends pp = is_reading pp.stage && ends_run pp.files.innermost
 
--- what ends the stream, where no lines are left
+-- how the stream ends, where no lines are left
 abbrev pub end_of : Stage → Result (Option Token) Refusal
 end_of Reads = Ok None
 end_of Pulls = Ok None
@@ -48,27 +48,27 @@ size_by Pulls pp = suc (size_of pp.files.innermost pp.files.includers.items)
 size_by Ended pp = 0
 size_by (Refused refusal) pp = 0
 
--- what a stream keeps while lines are read, whether a run ends before the next or not
+-- the invariant of a stream while lines are read, whether or not a run ends before the next
 abbrev pub OpenBy : Stage → Texts → Pp → Type 0
 OpenBy Reads names pp = IsSound names pp.state × AreOpen names pp.files.innermost pp.files.includers.items
 OpenBy Pulls names pp = ⊥
 OpenBy Ended names pp = Unit {0}
 OpenBy (Refused refusal) names pp = Unit {0}
 
--- what stays of a stream while no token is given
+-- what stays the same of a stream while no token is given
 pub record Stays (names after : Texts) (old new : Pp) : Type 0 where
   pub rest : (texts : Texts) (rest : Phase4) → KeepsNumbers after texts → IsRest names texts old rest → IsRest after texts new rest
   pub taken : taken_of new ≡ taken_of old
   pub still : (refusal : Refusal) → Refuses old refusal → Refuses new refusal
 
--- what is pulled: a token of the run, or none
+-- the pulled item: a token of the run, or none
 abbrev pub IsPulled : Option Token → Texts → Pp → Pp → Type 0
 IsPulled None names old new = Stays names names old new
 IsPulled (Some x) names old new =
     ((texts : Texts) (rest : Phase4) → KeepsNumbers names texts → IsRest names texts old rest → IsFirst x names texts new rest)
     × (taken_of new ≡ suc (taken_of old)) × (is_pulling old.stage ≡ true)
 
--- tokens that were collected, and what is left behind them of the whole
+-- tokens that were collected, and the rest of the whole after them
 pub record Collects (names texts : Texts) (pp : Pp) (list : List Token) (whole : Phase4) : Type 0 where
   pub rest : Phase4
   pub is_rest : IsRest names texts pp rest

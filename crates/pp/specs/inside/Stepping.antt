@@ -1,5 +1,4 @@
--- What the state of the code is to that of the definition, and what a step of the code answers, where the definition's step is
--- this one.
+-- The relation of the code's state to the definition's, and the result of a step of the code, given this step of the definition.
 use Rattle.std.specs.Prelude.{◌≡◌, ◌⊎◌, ◌≤◌, ◌<◌, ◌||◌, ◌-◌, ◌+◌, ◌*◌, ◌++◌, ℕ, List, [], ◌∷◌, map, take, drop, slice_get, Bool, true, false, Option, Some, None, Result, Ok, Err}
 use Rattle.std.specs.Borrow.{Bor}
 use Rattle.std.specs.Str.{byte, is_utf8}
@@ -55,20 +54,20 @@ presumed_by p at = record { file = p.file; line = at.line - p.from + p.line }
 abbrev pub placed : Presumed → List Token → List Token
 placed p xs = map (λ (x : Token). record x { pos = presumed_by p x.pos }) xs
 
--- the tokens of a line, the first marked where it stands behind a newline of its run
+-- the tokens of a line, the first marked where it follows a newline of its run
 abbrev pub behind_line : Bool → List Token → List Token
 behind_line later [] = []
 behind_line later (x ∷ xs) = record x { space_before = later || x.space_before } ∷ xs
 
 -- ---- states
 
--- it goes on to what is held
+-- it continues to the held state
 pub record Goes (names : Texts) (held : Held) (o : Outcome State) : Type 0 where
   pub after : State
   pub agrees : Agrees names held after
   pub goes_is : o ≡ goes after
 
--- it goes on to what is held, with this value
+-- it continues to the held state, with this value
 pub record Gives {Y : Type 0} (y : Y) (names : Texts) (held : Held) (o : Outcome (Y × State)) : Type 0 where
   pub after : State
   pub agrees : Agrees names held after
@@ -85,7 +84,7 @@ pub record StopsTold {A : Type 0} (given : List Token) (names : Texts) (c : Code
   pub utf8 : is_utf8 text ≡ true
   pub fault_is : Stops given c at text o
 
--- it goes on so with a list of which these are the first tokens, so many at the most
+-- it continues in this way with a list of which these are the first tokens, at most this number
 pub record GivesFirst (most : ℕ) (list : List Token) (names : Texts) (held : Held) (o : Outcome (List Token × State)) : Type 0 where
   pub whole : List Token
   pub gives : Gives whole names held o
@@ -100,7 +99,7 @@ abbrev pub Answers : {A : Type 0} → List Token → Result A Refusal → Texts 
 Answers given (Ok a) names held o = Goes names held o
 Answers given (Err r) names held o = StopsAs given names r o
 
--- the same of a question, whose answer it gives
+-- the same of a query, whose result it gives
 abbrev pub Asks : {Y : Type 0} → List Token → Result Y Refusal → Texts → Held → Outcome (Y × State) → Type 0
 Asks given (Ok y) names held o = Gives y names held o
 Asks given (Err r) names held o = StopsAs given names r o
@@ -110,9 +109,9 @@ abbrev pub Does : {A : Type 0} → Result A Refusal → Texts → Held → Texts
 Does result names held names_after held_after step =
     (s : State) → Agrees names held s → Answers s.given result names_after held_after (step s)
 
--- ---- where it stops behind a run
+-- ---- where it stops after a run
 
--- it stops with what is given here, and with this fault
+-- it stops with the tokens given so far, and with this fault
 pub record Ends {A : Type 0} (held : ℕ) (c : Code) (at : Pos) (text : List ℕ) (o : Outcome A) : Type 0 where
   pub given : List Token
   pub given_is : IsGiven held given
@@ -134,7 +133,7 @@ EndsOrGoes (Err r) names held o = EndsAs held.given names r o
 
 -- ---- the lines of a file
 
--- what is left of a file is this, and comes to this
+-- the rest of a file is this, and results in this outcome
 pub record Rests (names : Texts) (held : Held) (around : Around) (os : List Open) (p : Parsed) (o : Outcome State) : Type 0 where
   pub after : State
   pub agrees : Agrees names held after
@@ -148,7 +147,7 @@ abbrev pub StandsOrStops : {A : Type 0} → Result A Refusal → Texts → Held 
 StandsOrStops (Ok a) names held run around os p o = Stands names held run around os p o
 StandsOrStops (Err r) names held run around os p o = EndsAs held.given names r o
 
--- ---- lines, and what is asked of them
+-- ---- lines, and the queries on them
 
 abbrev pub line_with : List Token → ℕ → Line
 line_with ts end = record { tokens = ts; end = end }
@@ -157,7 +156,7 @@ abbrev pub operand_meant : Option (Bor (List ℕ) × ℕ) → Option (List ℕ �
 operand_meant None = None
 operand_meant (Some o) = Some (o.0.now, o.1)
 
--- the first token of a list, resolved, stands last; so many tokens behind it are its operand's
+-- the first token of a list, resolved, is last; this number of tokens after it are its operand's
 pub record PutsResolved (names : Texts) (held : Held) (rest old new : List Token) (skip : ℕ) : Type 0 where
   pub token : Token
   pub put : new ≡ old ++ token ∷ []
@@ -169,12 +168,12 @@ abbrev pub joined : List Token → Option (List Token) → Option (List Token)
 joined ys None = None
 joined ys (Some zs) = Some (ys ++ zs)
 
--- so many tokens are resolved, and this list is what came of them; so many further ones belong to an operand
+-- this number of tokens are resolved, with this list as the result; this number of further ones belong to an operand
 pub record Resolves (names : Texts) (held : Held) (tokens list : List Token) (skip i : ℕ) : Type 0 where
   pub files : HaveFiles names list
   pub so_far : (s : State) → Agrees names held s → defined_resolved 0 s tokens ≡ joined list (defined_resolved skip s (drop i tokens))
 
--- a `defined` has no operand, which this place is told
+-- a `defined` has no operand, which is reported at this place
 abbrev pub IsUnresolved : Refusal → Texts → Held → List Token → Pos → Type 0
 IsUnresolved Memory names held rest at = Unit {0}
 IsUnresolved (At c p) names held rest at = (c ≡ code.NotConstantCondition) × (p ≡ at) × ((s : State) → Agrees names held s → defined_resolved 0 s rest ≡ None)

@@ -1,4 +1,4 @@
--- What is known of an operand while a condition is read: its type and its value. So no tree of the condition is kept.
+-- The type and value of an operand while a condition is read, so that no tree of the condition is kept.
 use Rattle.std.specs.Prelude.{ℕ, Bool, true, false, ◌||◌, not, ℤ, pos, Option, Some, None, if◌then◌else◌}
 use Rattle.ctypes.specs.declared.operators.BinOp.{BinOp}
 use Rattle.ctypes.specs.Types.{truth, of_truth}
@@ -29,7 +29,7 @@ abbrev pub known_of : Operand → Known
 known_of (Signed v) = record { unsigned = false; value = v }
 known_of (Unsigned v) = record { unsigned = true; value = natural v }
 
--- ---- the operations on what is known
+-- ---- the operations on types and values
 
 abbrev pub prefix_unsigned : PrefixOperator → Bool → Bool
 prefix_unsigned Negation u = false
@@ -75,7 +75,7 @@ known_joined OrElse a b = known_either a b
 known_joined AndThen a b = known_both a b
 known_joined (Two op) a b = known_binary op a b
 
--- ---- what the operations are made of
+-- ---- the parts of the operations
 
 -- whether a value is not 0
 abbrev pub truth_value : Option ℤ → Option Bool

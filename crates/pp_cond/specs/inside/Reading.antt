@@ -1,4 +1,4 @@
--- A condition read token by token with a stack of what waits for operands.
+-- A condition read token by token with a stack of frames that wait for operands.
 use Rattle.std.specs.Prelude.{ℕ, Bool, true, false, Option, Some, None, List, [], ◌∷◌, ◌≡◌, reverse, map, codes, nat_le, nat_lt, if◌then◌else◌, Result, Err}
 use Rattle.std.specs.Map.{lookup}
 use Rattle.std.specs.Str.{bytes_eq}
@@ -16,7 +16,7 @@ use Rattle.pp_cond.specs.Condition.{prefixes, token_value, truth_or_fault}
 use Rattle.pp_cond.specs.inside.Operands.{Known, known_of, known_option, known_constant, known_prefix, known_joined, known_choice}
 use Rattle.pp_cond.specs.inside.Roles.{role_of, bound_of}
 
--- what waits for an operand, or for what stands behind one
+-- a frame that waits for an operand, or for the token after one
 pub data Waits : Type 0 where
   open_parenthesis : Waits
   sign : (op : PrefixOperator) → Waits
@@ -42,7 +42,7 @@ waits_of frames = map wait_of (reverse frames)
 abbrev pub state_of : Reader → State
 state_of r = record { waiting = waits_of r.frames.items; operand = known_option r.operand }
 
--- ---- ending what an operand ends
+-- ---- ending the frames that an operand ends
 
 abbrev pub closes : ℕ → Waits → Bool
 closes bound open_parenthesis = false
@@ -83,7 +83,7 @@ prefix_taken ws None p v = primary_taken ws p v
 abbrev pub wanted : List Waits → Token → Option State
 wanted ws x = prefix_taken ws (lookup (bytes_eq x.spelling) prefixes) (bytes_eq x.spelling (codes "(")) (known_constant (token_value x))
 
--- ---- a token behind an operand
+-- ---- a token after an operand
 
 abbrev pub separated : List Waits → Known → Option State
 separated (asked c ∷ ws) a = Some (record { waiting = otherwise c a ∷ ws; operand = None })

@@ -1,4 +1,4 @@
--- What a token is behind an operand.
+-- The role of a token after an operand.
 use Rattle.std.specs.Prelude.{ℕ, List, codes, if◌then◌else◌}
 use Rattle.std.specs.Str.{bytes_eq}
 use Rattle.ctypes.specs.declared.operators.BinOp.TheVariants.{Mul, Div, Rem, Add, Sub, Shl, Shr, Less, Greater, LessEqual, GreaterEqual, Equal, NotEqual, BitAnd, BitXor, BitOr}
@@ -44,7 +44,7 @@ role_of s =
     if bytes_eq s (codes ")") then Close else
     arithmetic_role s
 
--- how loose what ends the operand before it is: a level, 10 for `?`, which ends all operators, 11 for what ends `? :` too
+-- how loose the operators that a token ends may be: a level, 10 for `?`, which ends all operators, 11 for a token that ends `? :` too
 abbrev pub bound_of : Role → ℕ
 bound_of (Infix level operator) = level
 bound_of Question = 10

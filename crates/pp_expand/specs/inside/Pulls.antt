@@ -13,14 +13,14 @@ use Rattle.pp_expand.specs.Meaning.{Refuses}
 use Rattle.pp_expand.specs.inside.Turns.{IsTask}
 use Rattle.pp_expand.specs.inside.Waits.{MakesAs}
 
--- a step, in front of a list with so many replacements left, leaves this list with so many left
+-- a step, in front of a list with `left` replacements left, leaves the list `new` with `after` left
 abbrev pub StepsAs : {A : Type 0} → Known → Sets → Step → List HiddenToken → ℕ → Result A Refusal → List HiddenToken → ℕ → Type 0
 StepsAs known sets (Predefined x) list left result new after =
     MakesAs known.texts sets result new after (one_less x.token.pos left (λ n. Ok (predefined_front known (hidden_of known.texts sets x) ∷ hidden_all known.texts sets list, n)))
 StepsAs known sets (Replaced k) list left result new after =
     (r : Replacement) → IsTask known.texts sets k list r → NumbersOnce known.texts → MakesAs known.texts sets result new after (one_less r.call.at left (made_by (expanding known) r))
 
--- what is pulled, the list left behind it, and how many replacements are left then
+-- the pulled token, the list left after it, and the number of replacements left then
 abbrev pub PullsAs : Texts → Sets → Result (Option HiddenToken) Refusal → List HiddenToken → ℕ → Pull → Type 0
 PullsAs texts sets (Ok (Some x)) list left pull = pull ≡ Ok (Some (hidden_of texts sets x), hidden_all texts sets list, left)
 PullsAs texts sets (Ok None) list left pull = (list ≡ []) × (pull ≡ Ok (None, [], left))

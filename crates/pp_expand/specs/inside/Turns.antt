@@ -1,4 +1,4 @@
--- What the first token of a list does, as the engine finds it.
+-- The effect of a list's first token, as the engine finds it.
 use Rattle.std.specs.Prelude.{◌≡◌, ℕ, ◌-◌, ◌<◌, ◌≤◌, List, ◌++◌, length, nat_eq, Bool, false, Option, Some, None, Result, Ok, Err, Vec, slice_get}
 use Rattle.std.specs.List.{list_any}
 use Rattle.std.specs.declared.alloc.Global.{Global}
@@ -53,7 +53,7 @@ IsNamedOnce texts Nothing = Unit {0}
 IsNamedOnce texts OfCompiler = Unit {0}
 IsNamedOnce texts (Defined n definition) = NumbersOnce texts
 
--- its number is that of one of so many names
+-- its number is that of one of the first `count` names
 abbrev pub IsNamedBelow : ℕ → Named → Type 0
 IsNamedBelow count Nothing = Unit {0}
 IsNamedBelow count OfCompiler = Unit {0}
@@ -61,7 +61,7 @@ IsNamedBelow count (Defined n definition) = n < count
 
 -- ---- arguments
 
--- the arguments so far, the one in hand so far, and the rest of a call of a macro with so many named parameters
+-- the arguments so far, the current one so far, and the rest of a call of a macro with `named` named parameters
 abbrev pub gathered : Bool → ℕ → List (List Hidden) → List Hidden → Option Taken → Option (List (List Hidden) × Hidden × List Hidden)
 gathered variadic named before now None = None
 gathered variadic named before now (Some taken) =
@@ -106,7 +106,7 @@ OnceFor texts (Stays x) = Unit {0}
 OnceFor texts (Takes (Predefined x)) = Unit {0}
 OnceFor texts (Takes (Replaced k)) = NumbersOnce texts
 
--- where the token stands nothing else is taken
+-- where the token is final nothing else is taken
 abbrev pub KeepsRest : Turned → List HiddenToken → List HiddenToken → Type 0
 KeepsRest (Stays x) old new = new ≡ old
 KeepsRest (Takes s) old new = Unit {0}

@@ -1,4 +1,4 @@
--- What the replacements mean whose arguments are being expanded.
+-- The meaning of the replacements whose arguments are being expanded.
 use Rattle.std.specs.Prelude.{◌≡◌, ℕ, suc, ◌+◌, ◌-◌, ◌<◌, ◌≤◌, List, [], ◌∷◌, ◌++◌, length, drop, slice_set, Bool, true, false, Some, None, Result, Ok, Err, Vec, slice_get}
 use Rattle.std.specs.declared.alloc.Global.{Global}
 use Rattle.srcset.specs.NameTable.{Texts}
@@ -16,7 +16,7 @@ use Rattle.pp_expand.specs.Expands.{ending_of}
 use Rattle.pp_expand.specs.Pulled.{expanding, made_by}
 use Rattle.pp_expand.specs.Meaning.{with_list, LevelIn, Refuses}
 
--- A replacement in pieces, and the list that it stands in.
+-- A replacement in pieces, and the list that contains it.
 pub record Job : Type 0 where
   pub out : List Hidden
   pub space : Bool
@@ -34,7 +34,7 @@ call_of at arguments = record { macro = record { parameters = None; body = [] };
 abbrev pub front_by : Job → List Hidden → List Hidden
 front_by j new = marked j.space (hiding j.hides new) ++ j.rest
 
--- What a list goes on to: what stands of it already, the rest of it, where it ends, and how many replacements are left.
+-- The continuation of a list: its tokens done already, the rest of it, where it ends, and the number of replacements left.
 abbrev pub Onward : Type 0
 Onward = List Hidden → List Hidden → Ending → ℕ → Answer
 
@@ -42,11 +42,11 @@ Onward = List Hidden → List Hidden → Ending → ℕ → Answer
 abbrev pub to_end : Known → Onward
 to_end known out xs ending left = with_list out (expanding known xs ending left)
 
--- of the outermost list the rest is wanted, once nothing waits
+-- of the outermost list the rest is the result, once nothing waits
 abbrev pub the_rest : Onward
 the_rest out xs ending left = Ok (xs, left)
 
--- what comes of the arguments' expansions
+-- the result of the arguments' expansions
 unfoldable pub after_arguments : Onward → Job → List (List Hidden) → Result (List (List Hidden) × ℕ) Fault → Answer
 after_arguments onward j full r =
     r >>= λ s. at_place j.at (substituted (call_of j.at j.arguments) (full ++ s.0) j.pieces) >>= λ new. onward j.out (front_by j new) j.ending s.1
@@ -56,7 +56,7 @@ unfoldable pub going : Known → Onward → Job → List (List Hidden) → ℕ �
 going known onward j full left =
     after_arguments onward j full (arguments_expanded (expanding known) j.pieces (length full) (drop (length full) j.arguments) left)
 
--- the next argument comes to this
+-- the next argument expands to this
 unfoldable pub taken_up : Known → Onward → Job → List (List Hidden) → Answer → Answer
 taken_up known onward j full a =
     after_arguments onward j full (a >>= λ r. arguments_expanded (expanding known) j.pieces (suc (length full)) (drop (suc (length full)) j.arguments) r.1 >>= λ s. Ok (r.0 ∷ s.0, s.1))
@@ -81,12 +81,12 @@ abbrev pub resume_one : Known → Onward → Sets → Waiting → Answer → Ans
 resume_one known onward sets w a =
     taken_up known onward (job_of known.texts sets w) (hidden_lists known.texts sets w.full.items) a
 
--- the innermost list stands last; the first one stands in the outermost list
+-- the innermost list is last; the first one is in the outermost list
 abbrev pub resume : Known → Onward → Sets → List Waiting → Answer → Answer
 resume known onward sets [] a = a
 resume known onward sets (w ∷ ws) a = resume_one known onward sets w (resume known (to_end known) sets ws a)
 
--- what a list goes on to in which these wait
+-- the continuation of a list in which these wait
 abbrev pub onward_in : Known → Onward → List Waiting → Onward
 onward_in known onward [] = onward
 onward_in known onward (w ∷ ws) = to_end known
@@ -95,7 +95,7 @@ abbrev pub level_onward : Texts → Onward → Sets → Level → ℕ → Answer
 level_onward texts onward sets l left =
     onward (hidden_all texts sets l.out.items) (hidden_all texts sets l.rest.items) (ending_of l.end) left
 
--- a level, and a replacement that goes on, in which these wait
+-- the continuation of a level, and of a replacement, in which these wait
 abbrev pub level_behind : Known → Onward → Sets → List Waiting → Level → ℕ → Answer
 level_behind known onward sets ws l left =
     resume known onward sets ws (level_onward known.texts (onward_in known onward ws) sets l left)
@@ -104,7 +104,7 @@ abbrev pub waiting_behind : Known → Onward → Sets → List Waiting → Waiti
 waiting_behind known onward sets ws w left =
     resume known onward sets ws (waiting_going known (onward_in known onward ws) sets w left)
 
--- ---- how much is still to be done
+-- ---- how much work is left
 
 abbrev pub weight : Waiting → ℕ
 weight w = suc (length w.arguments.items - length w.full.items)
@@ -113,7 +113,7 @@ abbrev pub weights : List Waiting → ℕ
 weights [] = 0
 weights (w ∷ ws) = weight w + weights ws
 
--- ---- what the hide sets and the uses of a replacement are
+-- ---- the hide sets and the uses of a replacement
 
 pub record WaitingIn (count : ℕ) (w : Waiting) : Type 0 where
   pub level_in : LevelIn count w.level
@@ -130,7 +130,7 @@ WaitingsIn count (w ∷ ws) = WaitingIn count w × WaitingsIn count ws
 
 -- ---- steps
 
--- a replacement goes on to a level in which its next argument or the list behind it is expanded
+-- a replacement goes on to a level in which its next argument, or the list after it, is expanded
 abbrev pub ProceedIs : Known → Sets → List Waiting → Waiting → Result Level Refusal → List Waiting → Type 0
 ProceedIs known sets old w (Ok level) new =
     (onward : Onward) (left : ℕ) → level_behind known onward sets new level left ≡ waiting_behind known onward sets old w left
@@ -139,7 +139,7 @@ ProceedIs known sets old w (Err (At c pos)) new =
     (onward : Onward) (left : ℕ) → waiting_going known onward sets w left ≡ Err (record { code = c; at = pos })
 ProceedIs known sets old w (Err (Told c pos text)) new = ⊥
 
--- what a replacement makes in a level
+-- the result of a replacement in a level
 abbrev pub made_in : Known → Onward → Sets → Level → Replacement → ℕ → Answer
 made_in known onward sets level r left =
     made_by (expanding known) r left >>= λ a. onward (hidden_all known.texts sets level.out.items) a.0 (ending_of level.end) a.1
@@ -171,7 +171,7 @@ GoesOnAs known sets old level left (Err (At c pos)) new after =
     (onward : Onward) → level_behind known onward sets old level left ≡ Err (record { code = c; at = pos })
 GoesOnAs known sets old level left (Err (Told c pos text)) new after = ⊥
 
--- a list is left in which a replacement is made, with so many replacements left
+-- a list is left in which a replacement is made, with `left` replacements left
 abbrev pub MakesAs : {A : Type 0} → Texts → Sets → Result A Refusal → List HiddenToken → ℕ → Answer → Type 0
 MakesAs texts sets (Ok u) list left answer = answer ≡ Ok (hidden_all texts sets list, left)
 MakesAs texts sets (Err refusal) list left answer = Refuses refusal answer

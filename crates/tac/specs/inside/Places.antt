@@ -1,4 +1,4 @@
--- Where the labels of a switch stand.
+-- The places of the labels of a switch.
 use Rattle.std.specs.Prelude.{ℕ, ℤ, List, [], ◌∷◌, ◌++◌, Option, Some, None}
 use Rattle.typing_spec.specs.Program as typed
 use Rattle.typing_spec.specs.Program.{Statements}
@@ -11,7 +11,7 @@ abbrev pub one_label : Option (Option ℤ) → List (Option ℤ)
 one_label None = []
 one_label (Some l) = l ∷ []
 
--- the positions of the labels among statements of a function of a program, the first of which stands at pc
+-- the positions of the labels among statements of a function of a program, the first of which is at pc
 module _ (p : typed.Program) (f : typed.Function) where
   abbrev pub places_of : Statements → ℕ → List ℕ
   places_of typed.no_statements pc = []

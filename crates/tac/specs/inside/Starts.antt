@@ -1,4 +1,4 @@
--- What begins at an element of an array.
+-- Parts that begin at an element of an array.
 use Rattle.std.specs.Prelude.{ℕ, List}
 use Rattle.tac_code.specs.declared.code.Target.TheVariants as target
 use Rattle.tac_code.specs.declared.code.Place.{Place as Spot}
@@ -20,6 +20,6 @@ WroteBegins a old new =
     Wrote (λ w pc pc2. (p1 : ℕ) × One w (instruction.Move (target.Temporary 0) zero_word) pc p1
     × One w (instruction.Address (target.Temporary 1) (element_at a)) p1 pc2) begins_size old new
 
--- so many elements become zero
+-- `count` elements become zero
 abbrev pub WroteClears : (count : ℕ) → Start → (old new : List Instruction) → Type 0
 WroteClears count a old new = Wrote (λ w pc pc2. Clears w a.element a.array a.number count pc pc2) (clears_size count) old new

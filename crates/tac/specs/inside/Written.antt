@@ -1,4 +1,4 @@
--- What it is to write the code of a statement.
+-- The relation of written instructions to the statement that they are the code of.
 use Rattle.std.specs.Prelude.{ℕ, List, Option}
 use Rattle.typing_spec.specs.Types.{ObjectType}
 use Rattle.typing_spec.specs.Program as typed
@@ -27,7 +27,7 @@ module _ (p : typed.Program) (f : typed.Function) where
   abbrev pub WrotePlaced : Statements → (out again back : ℕ) → (old new : List Instruction) → Type 0
   WrotePlaced all out again back old new = Wrote (λ w pc pc2. StandAt w p f all (places_of p f all pc) out again back pc pc2) (statements_size p f all) old new
 
-  -- the tests of labels among statements that are to stand from `at` on
+  -- the tests of labels among statements that are to be placed from `at` on
   abbrev pub WroteTests : Operand → Statements → (at other : ℕ) → (old new : List Instruction) → Type 0
   WroteTests o all at other old new = Wrote (λ w pc pc2. Tests w o (labels_of all) (places_of p f all at) other pc pc2) (tests_size (labels_of all)) old new
 
@@ -37,7 +37,7 @@ module _ (p : typed.Program) (f : typed.Function) where
   WroteFills i lengths a old new =
       Wrote (λ w pc pc2. Fills w p.literals (size_of_place p f) i a.element lengths a.array a.number pc pc2) (fills_size p.literals i lengths) old new
 
-  -- so many elements or rows of these lengths
+  -- `count` elements or rows of these lengths
   abbrev pub WroteFillAll : Initialisers → (count : ℕ) → List ℕ → Start → (old new : List Instruction) → Type 0
   WroteFillAll all count lengths a old new =
       Wrote (λ w pc pc2. FillAll w p.literals (size_of_place p f) all a.element count lengths a.array a.number pc pc2) (fill_all_size p.literals all count lengths) old new

@@ -16,7 +16,7 @@ parameters_if (Some f) = length f.type.parameters
 abbrev pub parameters_at : List typed.Function → ℕ → ℕ
 parameters_at functions f = parameters_if (slice_get functions f)
 
--- how many temporaries an instruction asks for, where functions have so many parameters
+-- how many temporaries an instruction needs, where functions have these numbers of parameters
 abbrev pub temporaries_with : (ℕ → ℕ) → Instruction → ℕ
 temporaries_with count (instruction.Move g x) = max (temporary_to g) (temporary_in x)
 temporaries_with count (instruction.Compute o r g x y) = max (temporary_to g) (max (temporary_in x) (temporary_in y))

@@ -1,4 +1,4 @@
--- The first objects, instructions and functions, and what else each test finds.
+-- The first objects, instructions and functions, and the other results of each test.
 use Rattle.std.specs.Prelude.{◌≡◌, ◌<◌, ℕ, ◌+◌, ◌^◌, Bool, true, false, List, length, slice_get, sum_by, Option, None, Some}
 use Rattle.ctypes.specs.declared.types.IntType.{IntType}
 use Rattle.ctypes.specs.declared.types.IntType.TheVariants as ty

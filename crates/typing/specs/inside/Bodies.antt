@@ -18,14 +18,14 @@ use Rattle.typing.specs.inside.Names.{bound}
 abbrev pub entered : List (Option ℕ) → List ParameterType → List ObjectType → Scope → Scope
 entered ns ts own s = record s { bindings = bound (s.level + 1) 0 0 ns ts own s.bindings; level = s.level + 1; objects = own }
 
--- a function whose body is looked at in a scope, behind the scope of its unit
+-- a function whose body is typed in a scope, after the scope of its unit
 abbrev pub body_read : Built → FunctionTree → FunctionType → (file inside : Scope) → Verdict Built
 body_read b f t file inside = then_check (pieces (around_of t) None inside f.body) (with_function b file f t)
 
--- what has been looked at, and a function
+-- the result so far, and one more function
 abbrev pub one_more : Built → Scope → held.Function → List Initial → Built
 one_more b s f js = record { stack = b.stack; scope = s; functions = b.functions ++ view.function_of f ∷ []; initial = b.initial ++ map initial_of js }
 
--- a function whose specifiers and parameters have been looked at
+-- a function whose specifiers and parameters have been typed
 abbrev pub with_parameters : Built → FunctionTree → Specified → Parameters → Verdict Built
 with_parameters b f d ps = with_type b f d ps (function_type d.base ps.types)

@@ -8,7 +8,7 @@ use Rattle.typing_spec.specs.Program as typed
 use Rattle.typing_spec.specs.Scope.{Scope, Binding, an_object, an_array_parameter, no_linkage, defined}
 use Rattle.typing_spec.specs.Declarators.{ParameterObject, a_number, a_reference}
 
--- a name, if there is one, stands for a parameter, before so many references and numbers
+-- binds a name, if there is one, to a parameter: to reference r or to number k
 abbrev pub named : ℕ → ℕ → ℕ → Option ℕ → ParameterObject → List Binding → List Binding
 named level r k None o bs = bs
 named level r k (Some n) (a_number t) bs = record { name = n; level = level; meaning = an_object (typed.automatic k) (complete t); linkage = no_linkage; state = defined } ∷ bs
@@ -28,7 +28,7 @@ names_of ps = map (λ p. p.name) ps
 abbrev pub with_bindings : List Binding → Scope → Scope
 with_bindings bs s = record s { bindings = bs }
 
--- the names that are left, once one stands for its parameter
+-- the names that are left, once one is bound to its parameter
 abbrev pub Again : (old new : Scope) → (r new_r k new_k : ℕ) → Option ℕ → ParameterType → List held.ObjectType → Type 0
 Again old new r new_r k new_k n t own =
     (new ≡ with_bindings new.bindings old) × ((ns : List (Option ℕ)) (ts : List ParameterType) →

@@ -1,4 +1,4 @@
--- What declarators do, one at a time.
+-- The effects of declarators, one at a time.
 use Rattle.std.specs.Prelude.{◌≡◌, ℕ, List, [], ◌∷◌, ◌++◌, ℤ, Option, Some, None}
 use Rattle.srcset.specs.declared.refusal.Pos.{Pos}
 use Rattle.tree.specs.Tree.{Init, ItemTree, object, function}
@@ -17,11 +17,11 @@ use Rattle.typing_declarations.specs.declared.object_effects.ObjectEffect.{Objec
 use Rattle.typing_declarations.specs.declared.object_effects.ObjectEffect.TheVariants as effect
 use Rattle.typing_declarations.specs.Views.{effects_of, declared_of}
 
--- one that has begun, as far as its initialiser looks at it
+-- one that has begun, as far as its initialiser uses it
 abbrev pub begun_at : Scope → Pos → DeclaredType → typed.Begun
 begun_at s at t = record { at = at; name = 0; class = no_class; type = t; what = program.static 0; init = None; scope = s }
 
--- the scope behind an initialiser, if there is one
+-- the scope after an initialiser, if there is one
 abbrev pub behind : Scope → Option Init → Scope
 behind s None = s
 behind s (Some i) = past_init s i
@@ -30,7 +30,7 @@ behind s (Some i) = past_init s i
 abbrev pub first_values : ℕ → List ℤ → Verdict typed.Effects
 first_values n vs = fine (record { statements = []; initial = record { static = n; values = vs } ∷ [] })
 
--- what a declarator does whose initialiser has its type, in a scope with its literals
+-- the effects of a declarator whose initialiser has its type, in a scope with its literals
 abbrev pub effect_in : Scope → DeclaredType → ObjectEffect → Verdict typed.Effects
 effect_in s t effect.Nothing = fine typed.no_effects
 effect_in s t (effect.Declared at n) = fine (record { statements = program.declare n ∷ []; initial = [] })
@@ -48,15 +48,15 @@ abbrev pub item_typed : Scope → StorageClass → BaseType → ItemTree → Ver
 item_typed s class b (object at n sizes init) = then_check (typed.begun s class b at n sizes init) object_typed
 item_typed s class b (function at n ps) = then_check (typed.function_at s.level s class b at n ps) without_effects
 
--- statements and first values that stand behind those before, and are the effects
+-- statements and first values that follow those before, and are the effects
 abbrev pub Does : Verdict typed.Effects → List Statement → List Statement → List Initial → List Initial → Type 0
 Does v before after first later = (xs : List Statement) × (js : List Initial) × (after ≡ before ++ xs) × (later ≡ first ++ js) × (v ≡ fine (effects_of xs js))
 
--- the same of a declarator, and the scope behind it
+-- the same of a declarator, and the scope after it
 abbrev pub Leaves : Verdict typed.Declared → Scope → List Statement → List Statement → List Initial → List Initial → Type 0
 Leaves v s before after first later = (xs : List Statement) × (js : List Initial) × (after ≡ before ++ xs) × (later ≡ first ++ js) × (v ≡ fine (declared_of s xs js))
 
--- declarators that are left, in this scope: what is done so far stands behind what was done before
+-- declarators that are left, in this scope: the effects so far follow those before
 abbrev pub Goes : Verdict typed.Declared → Verdict typed.Declared → List Statement → List Statement → List Initial → List Initial → Type 0
 Goes whole left before after first later =
     (xs : List Statement) × (js : List Initial) × (after ≡ before ++ xs) × (later ≡ first ++ js) × (whole ≡ then_check left (typed.before_others (effects_of xs js)))

@@ -1,4 +1,4 @@
--- What controls a `for`.
+-- The controlling parts of a `for`.
 use Rattle.typed_ast.specs.View.{option_value}
 use Rattle.typing_statements.specs.declared.loop_controls.Control.{Control}
 use Rattle.typing_spec.specs.Statements as typed

@@ -1,4 +1,4 @@
--- What the first part of a `for` may not declare.
+-- The declarations that the first part of a `for` may not contain.
 use Rattle.std.specs.Prelude.{Bool, true, false, not, ◌||◌, nat_eq, List}
 use Rattle.tree.specs.declared.declaration.Item.{Item}
 use Rattle.tree.specs.declared.declaration.Item.TheVariants as item
@@ -20,6 +20,6 @@ is_kept_out Static = true
 is_kept_out (Plain s) = false
 is_kept_out (Enumerators tag list) = true
 
--- a declaration that may not stand there
+-- a declaration that may not be there
 abbrev pub unfit : List SpecifierTree → List ItemTree → Bool
 unfit ss is = has_class (classes_of ss) || (not (nat_eq (lists_in ss) 0) || typed.declares_function is)

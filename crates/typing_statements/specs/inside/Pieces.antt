@@ -1,4 +1,4 @@
--- The items of a block, those that have been looked at put before the others.
+-- The items of a block: the results of those already typed, put before those of the others.
 use Rattle.std.specs.Prelude.{◌≡◌, ℕ, ℤ, List, map, ◌++◌, Option, Some, None}
 use Rattle.srcset.specs.declared.refusal.Pos.{Pos}
 use Rattle.typed_ast.specs.declared.statements.Statement.{Statement}
@@ -15,7 +15,7 @@ use Rattle.typing_statements.specs.declared.labels.Label.{Label}
 use Rattle.typing_units.specs.declared.first_values.Initial.{Initial}
 use Rattle.typing_statements.specs.Views.{label_of, initial_of, done_of, all_done_of}
 
--- what was found in some items, before what the items behind them have
+-- the results of some items, before those of the items after them
 abbrev pub put_before : List Label → List Initial → List Statement → typed.AllDone → Verdict typed.AllDone
 put_before ms js xs more = fine (record {
   labels = map label_of ms ++ more.labels;
@@ -50,11 +50,11 @@ block_items (break_stmt at) = None
 block_items (continue_stmt at) = None
 block_items (return_stmt at e) = None
 
--- a switch whose controlling expression has been looked at, behind which its block begins
+-- a switch whose controlling expression has been typed, after which its block begins
 abbrev pub switch_on : typed.Around → Worth → Scope → Pieces → Verdict typed.Done
 switch_on A w s ps = then_check (typed.pieces (typed.in_a_switch A) (Some (promoted w.type)) (inside s) ps) (typed.switch_of s (promoted w.type) w)
 
--- a statement with any labels, its first values put behind those before
+-- a statement with any labels, its first values appended to those before
 abbrev pub Inner : Verdict typed.Done → (before after : List Initial) → Scope → Statement → Type 0
 Inner v before after s x = (ms : List Label) × (js : List Initial) × (after ≡ before ++ js) × (v ≡ fine (done_of s ms js x))
 
@@ -63,7 +63,7 @@ abbrev pub Scoped : Verdict typed.AllDone → (labels new_labels : List Label) �
 Scoped v labels new_labels before after t old new xs =
     (ms : List Label) × (js : List Initial) × (s : Scope) × (new_labels ≡ labels ++ ms) × (after ≡ before ++ js) × (v ≡ fine (all_done_of (with_texts t s) ms js xs)) × (new ≡ outside old s)
 
--- what is put behind the lists so far, and before the items behind this
+-- the results appended to the lists so far, before those of the items after this
 abbrev pub Puts : (Pieces → Verdict typed.AllDone) → (Pieces → Verdict typed.AllDone) → (labels new_labels : List Label) → (before after : List Initial) → (all new_all : List Statement) → Type 0
 Puts v w labels new_labels before after all new_all =
     (ms : List Label) × (js : List Initial) × (xs : List Statement) × (new_labels ≡ labels ++ ms) × (after ≡ before ++ js) × (new_all ≡ all ++ xs) × ((ps : Pieces) → v ps ≡ then_check (w ps) (put_before ms js xs))

@@ -1,4 +1,4 @@
--- The first use, in the order of the source, of what has no definition.
+-- The first use, in the order of the source, of an object or function without a definition.
 use Rattle.std.specs.Prelude.{Bool, true, false, List, [], ◌∷◌, Option, Some, None, slice_get}
 use Rattle.srcset.specs.declared.refusal.Pos.{Pos}
 use Rattle.typed_ast.specs.View.{Given, number_given, array_given}

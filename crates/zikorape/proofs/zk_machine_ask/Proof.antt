@@ -1,4 +1,4 @@
--- A machine behind the caller's pointer is lent to `serve`, and taken back.
+-- A machine at the caller's pointer is lent to `serve`, and taken back.
 use Rattle.std.proofs.Common.{ℕ, [], ◌∷◌, ◌++◌, refl, w32, w64, MutBor}
 use Rattle.std.proofs.raw_atomic.Walks.{proved}
 use base.Fraction.{full_share}
@@ -64,7 +64,7 @@ zk_machine_ask_spec 𝓤 𝓛 𝓜 𝓡 wired =
     let vs = vptr b o ∷ [] in
     let G = triple_of 𝓛 g.signature (g.spec 𝓛 𝓜.mem 𝓡.returns) in
     let z : G.Ghost = (((α ∷ [], tt), (full_share, tt), tt, (Ref δ, (number, (first, (second, tt)))), (vs, (vint w32 number ∷ [], (vint w64 first ∷ [], (vint w64 second ∷ [], tt))))), tt) in
-    -- [the loan; what the lender keeps; the token of α]
+    -- [the loan; the lender's share; the token of α]
     nothing ! $ owned ! u64 (Is u64) (uint_Makes 𝓛 w64) second _ (refl, are.1.1.1.0.1) $ join ! $ owned ! u64 (Is u64) (uint_Makes 𝓛 w64) first _ (refl, are.1.1.0.1) $ join ! $
     owned ! u32 (Is u32) (uint_Makes 𝓛 w32) number _ (refl, are.1.0.1) $ join ! $ move ! (1 ∷ 0 ∷ []) $ join ! $
     nothing ! $ move ! (3 ∷ 0 ∷ []) $ join ! $ join ! $ nothing ! $ move ! (1 ∷ 0 ∷ []) $ use2 𝓛 (raw (G.pre z)) (id⊢ 𝓤 _) $
@@ -74,9 +74,9 @@ zk_machine_ask_spec 𝓤 𝓛 𝓜 𝓡 wired =
     some (λ (ws : Kept × (Unit {0} × (Unit {0} × (Unit {0} × Unit {0})))). ‵ (lasts g.ended z.0.0 z.0.3 ws) ⊛ raw (fact 𝓤 (Answers number first second n r ws.0)))))) (id⊢ 𝓤 _) $
     await ! tt $ pick ! (λ r. split ! $ split ! $ split ! $ lft_end ! tt $ move ! (2 ∷ []) $
     peeks ! u64 (Is u64) (shows 𝓛 u64) r (v ∷ []) (λ is. lands_as ! refl refl ((uint_Lawful 𝓛 w64).typed r _ is).0 $
-    -- [the result; α is over; nothing; what the callee left; what the lender keeps]
+    -- [the result; α is over; nothing; the callee's rest; the lender's share]
     move ! (3 ∷ []) $ pick ! (λ ws. split ! $ move ! (1 ∷ []) $ heard ! _ (λ served. fsplit ! $ fsplit ! $
-    -- [the last value; its borrow; the rest; the result; α is over; nothing; what the lender keeps]
+    -- [the last value; its borrow; the rest; the result; α is over; nothing; the lender's share]
     move ! (4 ∷ 6 ∷ 0 ∷ []) $ use3 𝓛 (later (‵ (part_at R full_share ws.0 b o))) (ref_back 𝓛 R (α ∷ []) δ ws.0 b o) $ await ! tt $
     returns ! (look_at ! 0 refl) $ free_all ! refl $ keep ! (0 ∷ 3 ∷ []) $
     suffices ! _ (ends_at 𝓛 f.ended stayed c (y (block_ptr b o)) v r (tt, (tt, (tt, (tt, tt)))) (tt, (tt, (tt, (tt, tt))))) $

@@ -55,7 +55,7 @@ zk_machine_place_spec 𝓤 𝓛 𝓜 𝓡 wired =
     sets ! (of_opd ! (get ! refl)) refl (tt, tt) $
     let G = triple_of 𝓛 g.signature (g.spec 𝓛 𝓜.mem 𝓡.returns) in
     let z : G.Ghost = ((tt, tt, tt, (h, tt), (heap.lowered h ∷ [], tt)), tt) in
-    -- [the room; what is owned of the allocator]
+    -- [the room; the owned share of the allocator]
     nothing ! $ move ! (2 ∷ 0 ∷ []) $ join ! $ nothing ! $ join ! $ nothing ! $ move ! (1 ∷ 0 ∷ []) $ use2 𝓛 (raw (G.pre z)) (id⊢ 𝓤 _) $
     calls_at ! (framed 𝓤 𝓛.H 𝓜 (tables 𝓤 𝓛.H 𝓜 𝓡 𝓡.env)) G (met 𝓤 𝓛 𝓜 𝓡 (code.calls-machine_kept::kept::Kept::new 𝓡.env wired)) z
     (and_then ! (get ! refl) (no_more !)) (λ v.

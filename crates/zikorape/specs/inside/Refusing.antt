@@ -1,4 +1,4 @@
--- Why what a caller gives is no set of files.
+-- Why a caller's files are no set of files.
 use Rattle.std.specs.Prelude.{◌≢◌, ℕ, List, length}
 use Rattle.zikorape.specs.Given.{FailsToGive, total}
 use Rattle.zikorape.specs.declared.files.FileLengths.{FileLengths}

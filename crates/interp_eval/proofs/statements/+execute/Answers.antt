@@ -1,21 +1,22 @@
-use Rattle.std.proofs.Common.{rules, ◌≡◌, sym, ap, refl, ◌∙◌, to_z, of_z, w64, Some, map, option_map, subst}
+use Rattle.std.proofs.Common.{rules, arith, ◌≡◌, sym, ap, refl, ◌∙◌, to_z, of_z, w64, Some, map, option_map, subst}
 use Rattle.std.proofs.Math.Facts.{to_z-of_z}
 use Rattle.std.specs.Prelude.{true, false, ◌&&◌}
-use Rattle.ctypes.specs.Types.{truth}
+use Rattle.ctypes.specs.Types.{truth, converted}
 use Rattle.typed_ast.specs.declared.statements.ForControl.{ForControl}
 use Rattle.typed_ast.specs.declared.statements.Statement.{Statement}
 use Rattle.typed_ast.specs.View.{program_of, value_of, statement_of, statements_of}
 use Rattle.csem.specs.Machine.{Goes, then_do}
-use Rattle.csem.specs.Statements.{Normal, Broken, Continued, Returned, all_renewed, after_body}
+use Rattle.csem.specs.Statements.{Normal, Broken, Continued, Returned, all_renewed, after_body, after_switch}
 use Rattle.interp_steps.proofs.Held.{lends_for}
 use Rattle.interp_store.specs.layer.Agrees.{number}
 use Rattle.interp_store.specs.layer.Presents.{call_in, stepped}
 use Rattle.interp_store.specs.layer.Views.{flow_of}
 use Rattle.interp_store.specs.declared.frames.Flow.TheVariants as flow
-use Rattle.interp_eval.specs.layer.Comes.{executed, all_executed, objects_in}
-use Rattle.interp_eval.proofs.Comings.{after_tick, no_tick, gone_on, gone_none, gave_now}
+use Rattle.interp_eval.specs.layer.Comes.{executed, all_executed, jumped, objects_in}
+use Rattle.interp_eval.proofs.Comings.{after_tick, no_tick, gone_on, gone_none, gave_now, leads_as}
 use Rattle.interp_eval.proofs.Leaves.{chose}
 use Rattle.interp_eval.proofs.Flows.{moved, turned, out, on, headed, fewer}
+use Rattle.interp_eval.proofs.Jumps.{those, jumps_with, jumps_then, part_below, part_quick}
 use Rattle.std.proofs.lemmas.Bool.{and_parts}
 use Rattle.interp_eval.specs.layer.Quick.{quick, quick_control, quick_or, quick_all, quick_statement}
 use Rattle.interp_eval.proofs.Here.{rest_quick, no_step, for_declared, for_start, for_turns, first_quick}
@@ -137,6 +138,90 @@ branches-returns-else-is_true-clause-does t c = λ run rest h.
 pub branches-returns-else-is_true-clause-here : goal.branches-returns-else-is_true-clause-here
 branches-returns-else-is_true-clause-here t c = λ q.
     c.statement-else-is_true.ensures.here (and_parts (quick (value_of c.args.e.now) && quick_statement (statement_of c.args.a.now)) (quick_statement (statement_of c.args.b.now)) q).1
+
+pub switch-returns-then-not-tick-clause-does : goal.switch-returns-then-not-tick-clause-does
+switch-returns-then-not-tick-clause-does t c = λ run rest h.
+    no_tick run c.args.scope.now.limit c.args.clock.now.spent c.tick.new.self c.args.scene.now _ rest c.tick.result c.if-not-tick.true c.tick.ensures.idle c.tick.ensures.same h
+
+pub switch-returns-then-not-tick-clause-here : goal.switch-returns-then-not-tick-clause-here
+switch-returns-then-not-tick-clause-here t c = λ q none. c.tick.ensures.here c.if-not-tick.true
+
+pub switch-returns-in_default-clause-does : goal.switch-returns-in_default-clause-does
+switch-returns-in_default-clause-does t c = λ run rest h.
+    gone_none number run c.args.scope.now.limit c.tick.new.self.spent c.args.scene.now _ _ rest c.operand.result c.operand.new.clock c.operand.new.scene c.in_default.is (c.operand.ensures.does run)
+    (after_tick run c.args.clock.now.spent c.tick.new.self.spent c.args.scene.now _ _ c.tick.result c.if-not-tick.false c.tick.ensures.taken h)
+
+pub switch-returns-in_default-clause-here : goal.switch-returns-in_default-clause-here
+switch-returns-in_default-clause-here t c = λ q none.
+    c.operand.ensures.here (and_parts (quick (value_of c.args.e.now)) (quick_all (statements_of (map statement_of c.args.all.now))) q).0 c.in_default.is
+
+pub switch-returns-then-not-tick-2-clause-does : goal.switch-returns-then-not-tick-2-clause-does
+switch-returns-then-not-tick-2-clause-does t c = λ run rest h.
+    no_tick run c.args.scope.now.limit c.operand.new.clock.spent c.tick-2.new.self c.operand.new.scene _ rest c.tick-2.result c.if-not-tick-2.true c.tick-2.ensures.idle c.tick-2.ensures.same
+    (gone_on number run c.args.scope.now.limit c.tick.new.self.spent c.args.scene.now _ _ rest c.operand.result c.in-Some.v c.operand.new.clock c.operand.new.scene c.in-Some.is (c.operand.ensures.does run)
+    (after_tick run c.args.clock.now.spent c.tick.new.self.spent c.args.scene.now _ _ c.tick.result c.if-not-tick.false c.tick.ensures.taken h))
+
+pub switch-returns-then-not-tick-2-clause-here : goal.switch-returns-then-not-tick-2-clause-here
+switch-returns-then-not-tick-2-clause-here t c = λ q none. c.tick-2.ensures.here c.if-not-tick-2.true
+
+pub switch-returns-in-Ok-clause-does : goal.switch-returns-in-Ok-clause-does
+switch-returns-in-Ok-clause-does t c = λ run rest h.
+    let same : to_z w64 (of_z w64 c.in-Some.v) ≡ c.in-Some.v = search (rules, to_z-of_z) in
+    let same2 : to_z w64 (of_z w64 c.convert.result) ≡ c.convert.result = search (rules, to_z-of_z) in
+    let is : converted c.args.ty c.in-Some.v ≡ to_z w64 (of_z w64 c.convert.result) = ap (converted c.args.ty) (sym same) ∙ sym c.convert.ensures.value ∙ sym same2 in
+    c.jump.ensures.does run rest (jumps_with run c.tick-2.new.self.spent c.renew_all.new.scene (objects_in c.args.scope.now) (converted c.args.ty c.in-Some.v) (to_z w64 (of_z w64 c.convert.result))
+    (statements_of (map statement_of c.args.all.now)) (program_of c.args.scope.now.program.now) rest is
+    (moved run c.tick-2.new.self.spent c.operand.new.scene c.renew_all.new.scene (all_renewed (objects_in c.args.scope.now) c.args.first c.args.count)
+    (jumped (objects_in c.args.scope.now) (converted c.args.ty c.in-Some.v) (statements_of (map statement_of c.args.all.now)) (program_of c.args.scope.now.program.now)) rest c.in-Ok.ensures.ok
+    (after_tick run c.operand.new.clock.spent c.tick-2.new.self.spent c.operand.new.scene _ _ c.tick-2.result c.if-not-tick-2.false c.tick-2.ensures.taken
+    (gone_on number run c.args.scope.now.limit c.tick.new.self.spent c.args.scene.now _ _ rest c.operand.result c.in-Some.v c.operand.new.clock c.operand.new.scene c.in-Some.is (c.operand.ensures.does run)
+    (after_tick run c.args.clock.now.spent c.tick.new.self.spent c.args.scene.now _ _ c.tick.result c.if-not-tick.false c.tick.ensures.taken h)))))
+
+pub switch-returns-in-Ok-clause-here : goal.switch-returns-in-Ok-clause-here
+switch-returns-in-Ok-clause-here t c = λ q. c.jump.ensures.here (and_parts (quick (value_of c.args.e.now)) (quick_all (statements_of (map statement_of c.args.all.now))) q).1
+
+pub jump-all_of-requires : goal.jump-all_of-requires
+jump-all_of-requires t c =
+    let h = part_below c.in-Some.ensures.part.0 c.args.all.now c.in-Some.rest.now c.in-Some.ensures.part.1 in
+    (omega (arith, h, c.decreases), tt)
+
+pub jump-returns-in_default-clause-does : goal.jump-returns-in_default-clause-does
+jump-returns-in_default-clause-does t c = λ run rest h.
+    let v = to_z w64 (of_z w64 c.args.value) in
+    let same : c.args.value ≡ v = sym (search (rules, to_z-of_z)) in
+    gone_none those run c.args.scope.now.limit c.args.clock.now.spent c.args.scene.now _ _ rest c.selected.result c.selected.new.clock c.args.scene.now c.in_default.is
+    (c.selected.ensures.does c.args.scene.now run)
+    (jumps_then (program_of c.args.scope.now.program.now) (objects_in c.args.scope.now) run c.args.clock.now.spent c.args.scene.now v (statements_of (map statement_of c.args.all.now)) rest
+    (jumps_with run c.args.clock.now.spent c.args.scene.now (objects_in c.args.scope.now) c.args.value v (statements_of (map statement_of c.args.all.now)) (program_of c.args.scope.now.program.now) rest same h))
+
+pub jump-returns-in_default-clause-here : goal.jump-returns-in_default-clause-here
+jump-returns-in_default-clause-here t c = λ q none. c.selected.ensures.here refl c.in_default.is
+
+pub jump-returns-in-None-clause-does : goal.jump-returns-in-None-clause-does
+jump-returns-in-None-clause-does t c = λ run rest h.
+    let v = to_z w64 (of_z w64 c.args.value) in
+    let same : c.args.value ≡ v = sym (search (rules, to_z-of_z)) in
+    gone_none flow_of run c.args.scope.now.limit c.selected.new.clock.spent c.args.scene.now _ _ rest c.all_of.result c.all_of.new.clock c.all_of.new.scene c.in-None.is (c.all_of.ensures.does run)
+    (gone_on those run c.args.scope.now.limit c.args.clock.now.spent c.args.scene.now _ _ rest c.selected.result c.in-Some.rest c.selected.new.clock c.args.scene.now c.in-Some.is
+    (c.selected.ensures.does c.args.scene.now run)
+    (jumps_then (program_of c.args.scope.now.program.now) (objects_in c.args.scope.now) run c.args.clock.now.spent c.args.scene.now v (statements_of (map statement_of c.args.all.now)) rest
+    (jumps_with run c.args.clock.now.spent c.args.scene.now (objects_in c.args.scope.now) c.args.value v (statements_of (map statement_of c.args.all.now)) (program_of c.args.scope.now.program.now) rest same h)))
+
+pub jump-returns-in-None-clause-here : goal.jump-returns-in-None-clause-here
+jump-returns-in-None-clause-here t c = λ q none.
+    c.all_of.ensures.here (part_quick c.in-Some.ensures.part.0 c.args.all.now c.in-Some.rest.now c.in-Some.ensures.part.1 q) c.in-None.is
+
+pub jump-returns-in-Some-all_of-clause-does : goal.jump-returns-in-Some-all_of-clause-does
+jump-returns-in-Some-all_of-clause-does t c = λ run rest h.
+    let v = to_z w64 (of_z w64 c.args.value) in
+    let same : c.args.value ≡ v = sym (search (rules, to_z-of_z)) in
+    gave_now flow_of run c.args.scope.now.limit c.all_of.new.scene (flow_of c.left_switch.result) rest c.left_switch.result c.all_of.new.clock refl
+    (leads_as run c.all_of.new.clock.spent c.all_of.new.scene (after_switch (flow_of c.in-Some-all_of.flow)) (λ s. Goes (flow_of c.left_switch.result) s) rest c.left_switch.ensures
+    (gone_on flow_of run c.args.scope.now.limit c.selected.new.clock.spent c.args.scene.now _ _ rest c.all_of.result c.in-Some-all_of.flow c.all_of.new.clock c.all_of.new.scene c.in-Some-all_of.is (c.all_of.ensures.does run)
+    (gone_on those run c.args.scope.now.limit c.args.clock.now.spent c.args.scene.now _ _ rest c.selected.result c.in-Some.rest c.selected.new.clock c.args.scene.now c.in-Some.is
+    (c.selected.ensures.does c.args.scene.now run)
+    (jumps_then (program_of c.args.scope.now.program.now) (objects_in c.args.scope.now) run c.args.clock.now.spent c.args.scene.now v (statements_of (map statement_of c.args.all.now)) rest
+    (jumps_with run c.args.clock.now.spent c.args.scene.now (objects_in c.args.scope.now) c.args.value v (statements_of (map statement_of c.args.all.now)) (program_of c.args.scope.now.program.now) rest same h)))))
 
 pub while_loop-returns-then-not-tick-clause-does : goal.while_loop-returns-then-not-tick-clause-does
 while_loop-returns-then-not-tick-clause-does t c = λ run rest h.

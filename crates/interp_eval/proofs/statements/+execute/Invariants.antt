@@ -25,6 +25,12 @@ decreases-branch l = work_statement (statement_of l.a.now) + 2
 abbrev pub decreases-branches : goal.decreases-branches
 decreases-branches l = work_statement (statement_of l.a.now) + work_statement (statement_of l.b.now) + 2
 
+abbrev pub decreases-switch : goal.decreases-switch
+decreases-switch l = work_all (statements_of (map statement_of l.all.now)) + 3
+
+abbrev pub decreases-jump : goal.decreases-jump
+decreases-jump l = work_all (statements_of (map statement_of l.all.now)) + 2
+
 abbrev pub decreases-while_loop : goal.decreases-while_loop
 decreases-while_loop l = work_statement (statement_of l.a.now) + 3
 

@@ -1,7 +1,7 @@
 use Rattle.std.proofs.Common.{◌+◌, Some, subst, arith}
 use Rattle.sim.specs.declared.machine.Outcome.{Outcome}
 use Rattle.sim.proofs.Composing.{run_stops, run_goes_on}
-use Rattle.machine_kept.specs.inside.Stopping.{Stops}
+use Rattle.sim.specs.Ticks.{Stops}
 use Rattle.machine_kept.proofs.Runs.{passes_more}
 use Rattle.machine_kept.proofs.stepping.run_to.Goals as goal
 

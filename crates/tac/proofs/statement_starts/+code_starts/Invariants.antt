@@ -14,3 +14,6 @@ decreases-put_loop l = 2 * statement_nodes (statement_of l.body.now) + 1
 
 abbrev pub decreases-put_for : goal.decreases-put_for
 decreases-put_for l = 2 * (statements_nodes (statements_of (map statement_of l.declared.now)) + statement_nodes (statement_of l.body.now)) + 1
+
+abbrev pub decreases-put_block : goal.decreases-put_block
+decreases-put_block l = 2 * statements_nodes (statements_of (map statement_of l.all.now)) + 1

@@ -1,5 +1,9 @@
-use Rattle.std.proofs.Common.{◌∙◌, ◌++◌, ap}
+use Rattle.std.proofs.Common.{List, ◌∙◌, ◌++◌, ap}
+use Rattle.verify_logic.specs.declared.abstract_values.AbsValue.{AbsValue}
+use Rattle.verify_logic.specs.States.{Known}
 use Rattle.verify_expressions.proofs.calls.all_objects.Goals as goal
 
 pub returns : goal.returns
-returns c = c.in_ok-all.ensures ∙ ap (λ xs. c.args.known.items ++ xs) c.deref.ensures.value
+returns c =
+    let P : List AbsValue → Known = λ xs. record { objects = xs; facts = c.args.known.facts.items } in
+    ap P (c.in_ok-objects.ensures ∙ ap (λ xs. c.args.known.objects.items ++ xs) c.deref.ensures.value)

@@ -4,25 +4,25 @@ use Rattle.verify_expressions.proofs.Steps.{element_behind, variable_found, read
 use Rattle.verify_expressions.proofs.expressions.+analyse.Goals as goal
 
 pub element-returns : goal.element-returns
-element-returns t c = element_behind _ _ _ _ _ _ _ _ _ _ _ _ _ c.in-Some-add_usize.ensures c.in-Some.ensures c.in_ok-found.ensures c.in_ok-i.ensures c.in-Some-content_at.ensures c.in_ok-subscript_at.ensures
+element-returns t c = element_behind _ _ _ _ _ _ _ _ _ _ _ _ _ _ _ c.in-Some-add_usize.ensures c.in-Some.ensures c.in_ok-found.ensures c.in_ok-i.ensures c.in-Some-content_at.ensures c.in_ok-subscript_at.ensures c.followed_subscript-subscript.ensures
 
 pub variable-returns-clause-found : goal.variable-returns-clause-found
-variable-returns-clause-found t c = variable_found _ _ _ _ _ _ (c.is_variable-variable.ensures c.if-not-variable.false) c.in_ok-found.ensures
+variable-returns-clause-found t c = variable_found _ _ _ _ _ _ _ (c.is_variable-variable.ensures c.if-not-variable.false) c.in_ok-found.ensures
 
 pub variable-returns-clause-above : goal.variable-returns-clause-above
 variable-returns-clause-above t c = (c.is_variable-variable.ensures c.if-not-variable.false).above
 
 pub read-returns : goal.read-returns
-read-returns t c = read_as _ _ _ _ _ _ _ _ _ _ c.position-at.ensures c.in_ok-found.ensures (c.is_element-within.ensures c.if-not-within.false) c.in-Some.ensures c.in_ok-interval.ensures
+read-returns t c = read_as _ _ _ _ _ _ _ _ _ _ _ c.position-at.ensures c.in_ok-found.ensures (c.is_element-within.ensures c.if-not-within.false) c.in-Some.ensures c.in_ok-interval.ensures
 
 pub assigned-returns : goal.assigned-returns
-assigned-returns t c = assigned_rule _ _ _ _ _ _ _ _ _ _ _ _ c.in_ok-to.ensures.found c.in_ok-to.ensures.above c.in_ok-right.ensures c.conversion-interval.ensures c.in_ok-state2.ensures
+assigned-returns t c = assigned_rule _ _ _ _ _ _ _ _ _ _ _ _ _ c.in_ok-to.ensures.found c.in_ok-to.ensures.above c.in_ok-right.ensures c.conversion-interval.ensures c.in_ok-state2.ensures
 
 pub compound-returns : goal.compound-returns
-compound-returns t c = compound_as _ _ _ _ _ _ _ _ _ _ _ _ _ _ _ _ _ _ c.position-place_at.ensures c.in_ok-to.ensures.found c.in_ok-to.ensures.above c.in_ok-right.ensures c.in-Some.ensures c.in_ok-old.ensures c.in_ok-new.ensures c.conversion-interval.ensures c.in_ok-state2.ensures
+compound-returns t c = compound_as _ _ _ _ _ _ _ _ _ _ _ _ _ _ _ _ _ _ _ c.position-place_at.ensures c.in_ok-to.ensures.found c.in_ok-to.ensures.above c.in_ok-right.ensures c.in-Some.ensures c.in_ok-old.ensures c.in_ok-new.ensures c.conversion-interval.ensures c.in_ok-state2.ensures
 
 pub stepped-returns : goal.stepped-returns
-stepped-returns t c = stepped_as _ _ _ _ _ _ _ _ _ _ _ _ _ _ _ _ _ c.position-place_at.ensures c.value_stepped-interval.ensures c.in_ok-to.ensures.found c.in_ok-to.ensures.above c.in-Some.ensures c.in_ok-old.ensures c.in_ok-new.ensures c.conversion-kept.ensures c.in_ok-state2.ensures
+stepped-returns t c = stepped_as _ _ _ _ _ _ _ _ _ _ _ _ _ _ _ _ _ _ c.position-place_at.ensures c.value_stepped-interval.ensures c.in_ok-to.ensures.found c.in_ok-to.ensures.above c.in-Some.ensures c.in_ok-old.ensures c.in_ok-new.ensures c.conversion-kept.ensures c.in_ok-state2.ensures
 
 pub unary-returns : goal.unary-returns
 unary-returns t c = unary_rule _ _ _ _ _ _ _ _ _ c.in_ok-a.ensures c.in_ok-interval.ensures
@@ -52,7 +52,7 @@ pub number-returns : goal.number-returns
 number-returns t c = number_passes _ _ _ _ _ _ _ _ _ _ c.in_ok-v.ensures c.conversion-interval.ensures c.in_ok-given.ensures.intervals c.in_ok-given.ensures.arrays c.in_ok-given.ensures.state
 
 pub array_passed-returns : goal.array_passed-returns
-array_passed-returns t c = array_passes _ _ _ (record { object = c.in_ok-found.found.object; depth = c.in_ok-found.found.depth }) _ _ _ _ (c.is_object-there.ensures c.if-not-there.false) c.in_ok-found.ensures c.in_ok-given.ensures.intervals c.in_ok-given.ensures.arrays c.in_ok-given.ensures.state
+array_passed-returns t c = array_passes _ _ _ (record { object = c.in_ok-found.found.object; depth = c.in_ok-found.found.depth }) _ _ _ _ _ (c.is_object-there.ensures c.if-not-there.false) c.in_ok-found.ensures c.in_ok-given.ensures.intervals c.in_ok-given.ensures.arrays c.in_ok-given.ensures.state
 
 pub called-returns-in-Function : goal.called-returns-in-Function
 called-returns-in-Function t c = calls_found _ _ _ _ _ _ _ _ _ _ _ _ _ c.function_called.result c.in-Function.is c.deref.ensures.value c.deref-in-Function.ensures.value c.in_ok-given.ensures c.function_called.ensures

@@ -1,5 +1,5 @@
-use Rattle.verify_logic.proofs.Objects.{set_replaces}
+use Rattle.verify_expressions.proofs.Elements.{replaced_at}
 use Rattle.verify_expressions.proofs.objects.replaced_in.Goals as goal
 
-pub returns-then-x-len : goal.returns-then-x-len
-returns-then-x-len c = set_replaces _ _ _ _ c.set-ys.ensures
+pub returns-in_ok-facts : goal.returns-in_ok-facts
+returns-in_ok-facts c = replaced_at _ _ _ _ _ _ c.deref.ensures.value c.with_value-objects.ensures c.in_ok-facts.ensures

@@ -1,4 +1,3 @@
-use Rattle.verify_logic.proofs.StatementRules.{with_normal}
 use Rattle.verify_logic.proofs.Begun.{declare_rule}
 use Rattle.verify_statements.proofs.Steps.{left_as}
 use Rattle.verify_statements.proofs.begun.declared.Goals as goal

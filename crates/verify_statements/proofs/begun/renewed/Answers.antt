@@ -1,4 +1,3 @@
-use Rattle.std.proofs.Common.{◌∙◌, ◌+◌, ap}
 use Rattle.verify_statements.proofs.Steps.{renewed_as}
 use Rattle.verify_statements.proofs.begun.renewed.Goals as goal
 

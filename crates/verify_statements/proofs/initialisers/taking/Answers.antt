@@ -1,4 +1,3 @@
-use Rattle.std.proofs.Common.{refl}
 use Rattle.verify_statements.proofs.Fills.{takes_both}
 use Rattle.verify_statements.proofs.initialisers.taking.Goals as goal
 

@@ -1,2 +1,0 @@
--- What only proofs and private clauses need.
-pub mod Stopping
