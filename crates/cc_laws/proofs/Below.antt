@@ -37,11 +37,10 @@ use Rattle.select_correct.specs.Runs.{slack}
 use Rattle.select_correct.specs.Standing.{StandsAt}
 use Rattle.select_correct.proofs.Fits.{function_fits}
 use Rattle.select_correct.proofs.Frames.{sum_is}
-use Rattle.select_correct.proofs.Inputs.{Kept, step_keeps}
 use Rattle.select_correct.proofs.Laying.{is_ready}
 use Rattle.select_correct.proofs.Progress.{progresses}
 use Rattle.select_correct.proofs.Standing.{register_shown, stands_with}
-use Rattle.select_correct.proofs.Steps.{BytesLeft, bytes_last, step_follows}
+use Rattle.select_correct.proofs.Steps.{step_follows, input_stays_bytes}
 use Rattle.select_correct.proofs.Whole.{begins, unwatched}
 use Rattle.cc_backend.specs.FlatImages.{IsImageOf, FitStack}
 use Rattle.cc_backend.proofs.FlatImages as whole
@@ -457,7 +456,7 @@ module _ (p : Program) (parts : Parts) (q : IsImageOf p parts) (input : List ℕ
         subst (λ z. GoesAt z (own_light low hi lt c.j)) low_is goes)
         c.within in
         let inner = subst (Within p (bytes_of p (s.frame ∷ s.waiting) + 2 ^ 24) s.trace) e (step_within p q.sound s callers) in
-        let bytes : AreBytes t.input = subst (Kept BytesLeft) e (step_keeps BytesLeft p s (bytes_last s.input s.trace a.input)) in
+        let bytes : AreBytes t.input = input_stays_bytes p s t e a.input in
         record {
           j = c.j;
           some = c.some;

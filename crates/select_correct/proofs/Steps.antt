@@ -11,6 +11,7 @@ use Rattle.frames_code.specs.Costs.{next_of, cost_on}
 use Rattle.select_correct.specs.Costs.{least_at, least_if, least_spent, most_at, most_if, most_next, most_spent}
 use Rattle.select_correct.specs.Laws.{Anything, AreBytes}
 use Rattle.select_correct.specs.Runs.{StepFollows, RunsFollow}
+use Rattle.select_correct.specs.Standing.{InputStaysBytes}
 use Rattle.select_correct.proofs.Forms.{no_more, nothing_follows, jump_follows, branch_follows, move_follows, convert_follows}
 use Rattle.select_correct.proofs.Computing.{compute_follows, exit_follows}
 use Rattle.select_correct.proofs.References.{address_follows}
@@ -64,6 +65,9 @@ bytes_last input trace q = record {
   at_end = λ e. q;
   at_byte = λ c rest e. λ k x ek. subst AreBytes e q (suc k) x ek;
 }
+
+pub input_stays_bytes : InputStaysBytes
+input_stays_bytes p s t e q = subst (Kept BytesLeft) e (step_keeps BytesLeft p s (bytes_last s.input s.trace q))
 
 -- ---- several steps
 

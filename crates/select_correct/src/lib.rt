@@ -5,7 +5,7 @@
 ghost use Rattle.select_correct.specs.Laws.{NothingFollows, JumpsFollow, BranchesFollow, MovesFollow, ConversionsFollow, OperationsFollow, ExitFollows, AddressesFollow, ElementsFollow, LoadsFollow, StoresFollow, PutFollows, GetFollows, CallsFollow, ReturnsFollow, FunctionsFit};
 ghost use Rattle.select_correct.specs.Costs.{RowsAreLengths, RowsAreFew, SpentIsMore};
 ghost use Rattle.select_correct.specs.Runs.{StepFollows, RunsFollow, Progresses, EachCallKeeps, LaidIsReady, EntriesFollow, ConventionKept, BeginsFollow, EndsFollow, MachineGoesOn, MachineEnds, MachineCallsKeep};
-ghost use Rattle.select_correct.specs.Standing.{MachineStands, StepStands};
+ghost use Rattle.select_correct.specs.Standing.{MachineStands, StepStands, FramesFill, RegistersShown, MatchedStands, NoneIsAbove, InputStaysBytes};
 ghost use Rattle.select_correct.specs.Convention.{CallsKeepConvention, MainKeepsConvention};
 ghost use Rattle.select_correct.specs.Reaching.{JumpsReach};
 
@@ -184,6 +184,31 @@ pub fn machine_stands()
 /// From where they match, a step of flat code leads to where they match again.
 pub fn step_stands()
     ensures { StepStands }
+{}
+
+/// The active frames fill the stack from the stack pointer up to where the outermost call began.
+pub fn frames_fill()
+    ensures { FramesFill }
+{}
+
+/// Registers x1 to x31 of a world are those that it is of.
+pub fn registers_shown()
+    ensures { RegistersShown }
+{}
+
+/// A world of registers and memory that match a state is at the state's instruction, with its frames, temporaries, input and trace.
+pub fn matched_stands()
+    ensures { MatchedStands }
+{}
+
+/// Where no call is singled out, no frame is above one.
+pub fn none_is_above()
+    ensures { NoneIsAbove }
+{}
+
+/// A step leaves bytes as the input, where it found bytes.
+pub fn input_stays_bytes()
+    ensures { InputStaysBytes }
 {}
 
 /// The functions of a sound program meet the requirements on each.

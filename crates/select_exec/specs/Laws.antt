@@ -1,11 +1,12 @@
 -- The laws of running emitted code.
-use Rattle.std.specs.Prelude.{◌≡◌, ◌≤◌, ◌<◌, ℕ, ◌+◌, ◌%◌, ◌^◌, true, false, List, ◌++◌, Option}
+use Rattle.std.specs.Prelude.{◌≡◌, ◌≢◌, ◌≤◌, ◌<◌, ℕ, ◌+◌, ◌%◌, ◌^◌, true, false, List, ◌++◌, Option}
 use Rattle.rv32.specs.declared.instr.Instr.{Instr}
 use Rattle.rv32.specs.declared.state.Cause.{Cause}
 use Rattle.csem_events.specs.Events.{Event}
 use Rattle.sim.specs.Runs.{World, Progress, Running, Ended, Trapped, rvrun}
 use Rattle.asm.specs.declared.item.Item.{Item}
 use Rattle.asm.specs.Placed.{Stands}
+use Rattle.select_exec.specs.Light.{Fixed, Light, light_run, with_reg}
 use Rattle.select_exec.specs.Whole.{Permits}
 use Rattle.select_exec.specs.Worlds.{RunFollows}
 
@@ -20,6 +21,20 @@ AgreeOn T U a e = (x : ℕ) → a ≤ x → x + 4 ≤ e → x % 4 ≡ 0 → T x 
 -- items placed in one text are placed in any other that has the same words there
 abbrev pub StandsWherever : Type 0
 StandsWherever = (T U : ℕ → Option Instr) (env : ℕ → ℕ) (seg : ℕ) (items : List Item) (a e : ℕ) → a % 4 ≡ 0 → AgreeOn T U a e → Stands T env seg items a e → Stands U env seg items a e
+
+-- items that are placed one after the other: each part is placed, the second where the first ends
+abbrev pub StandsInParts : Type 0
+StandsInParts = (T : ℕ → Option Instr) (env : ℕ → ℕ) (seg : ℕ) (xs ys : List Item) (a e : ℕ) → Stands T env seg (xs ++ ys) a e → (m : ℕ) × Stands T env seg xs a m × Stands T env seg ys m e
+
+-- ---- the light machine
+
+-- a + b steps are b steps after a steps
+abbrev pub StepsAdd : Type 0
+StepsAdd = (F : Fixed) (a b : ℕ) (m : Light) → light_run F (a + b) m ≡ light_run F b (light_run F a m)
+
+-- a write to a register changes no other register
+abbrev pub OthersStay : Type 0
+OthersStay = (r : ℕ → ℕ) (k w j : ℕ) → j ≢ k → with_reg r k w j ≡ r j
 
 -- ---- runs by their counts of steps
 
