@@ -28,7 +28,9 @@ use Rattle.interp_transitions.specs.Calls.{IsInside, CallActs}
 use Rattle.interp_transitions.specs.declared.calling.Called.{Called}
 use Rattle.io_ports.specs.Port.{PortView, Gets}
 use Rattle.cabs.specs.declared.state.Interpreter.{Interpreter}
-use Rattle.cabs.specs.inside.Standing.{Whole, left_of, history_left, history_called, waiting, Stands, Stopping, StoppingBy, Stopped, Rests, is_flow, is_return, left_where, entered_where, bytes_of}
+use Rattle.cabs.specs.inside.Standing.{Outset, Whole, GivenUp, left_of, history_left, history_called, waiting, Stands, Stopping, StoppingBy, Stopped, Rests, is_flow, is_return, left_where, entered_where, bytes_of}
+use Rattle.cabs.proofs.Begun.{done_kept, done_as, done_got, done_end, done_put, given_up_here, given_up_stopping, given_up_kept}
+use Rattle.cabs.proofs.Growing.{trace_left, trace_called}
 use Rattle.cabs.proofs.Following.{left_at, called_at, frame_follows, frame_stops, call_follows, call_stops, rests}
 use Rattle.cabs.proofs.Telling.{first_taken, none_left, input_kept, output_kept, output_grown, output_as, byte_put, did_tells, tells_as}
 
@@ -57,7 +59,7 @@ bytes_called p (typed.missing name) h = refl
 pub told_at : (p q : typed.Program) (callee : typed.Callee) (T U : List Entry → Type 0) → q ≡ p → ((h : List Entry) → T h → U (history_called q callee h)) → (h : List Entry) → T h → U (history_called p callee h)
 told_at p q callee T U e t = let P : typed.Program → Type 0 = λ p. (h : List Entry) → T h → U (history_called p callee h) in subst P e t
 
-module _ (T U : List Entry → Type 0) (p : typed.Program) (whole : Whole) (o : Option (List ℕ)) (sent : List ℕ) where
+module _ (T U : List Entry → Type 0) (p : typed.Program) (whole : Whole) (o : Outset) (sent : List ℕ) where
   -- ---- the byte that waits is sent
 
   pub stop_sent : (e : machine.Ending) (m : Interpreter) (tally : Tally) (old new : PortView) → Stopping T p whole o sent e m old → Keeps old.input new.input →
@@ -67,13 +69,13 @@ module _ (T U : List Entry → Type 0) (p : typed.Program) (whole : Whole) (o : 
     history = s.history;
     stops = s.stops;
     input_is = input_kept old.input new.input s.input i s.input_is;
-    output_is = output_as o new.output _ _ (sym s.bytes_are) (output_grown o old.output new.output sent (waiting m.kept) a s.output_is);
+    output_is = output_as o.output new.output _ _ (sym s.bytes_are) (output_grown o.output old.output new.output sent (waiting m.kept) a s.output_is);
     tells = tells_as p s.history s.history m.tally tally refl t s.tells;
     told = s.told;
   }
 
-  pub stop_refused : (e : machine.Ending) (m : Interpreter) (old new : PortView) → Stopping T p whole o sent e m old → Keeps old.output new.output → Appends o new.output sent
-  stop_refused e m old new s k = output_kept o old.output new.output sent k s.output_is
+  pub stop_refused : (e : machine.Ending) (m : Interpreter) (old new : PortView) → Stopping T p whole o sent e m old → Keeps old.input new.input → Keeps old.output new.output → GivenUp whole o sent new
+  stop_refused e m old new s i k = given_up_kept whole o sent old new i k (given_up_stopping T p whole o sent e m old s)
 
   pub stopping_as : (a b : Stop) (m : Interpreter) (port : PortView) → a ≡ b → StoppingBy T p whole o sent a m port → StoppingBy T p whole o sent b m port
   stopping_as a b m port e h = let P : Stop → Type 0 = λ a. StoppingBy T p whole o sent a m port in subst P e h
@@ -102,6 +104,7 @@ module _ (T U : List Entry → Type 0) (p : typed.Program) (whole : Whole) (o : 
           input_is = s.input_is;
           output_is = s.output_is;
           bytes_are = bytes_left (is_flow x) (is_return f) s.history ∙ s.bytes_are ∙ ap (λ k. sent ++ waiting k) (sym kept);
+          done = done_as o.input s.history s.input sent _ new.kept (trace_left (is_flow x) (is_return f) s.history) (done_kept o.input s.history s.input sent old.kept new.kept kept s.done);
           tells = tells s.history s.tells;
           told = told s.history s.told;
         }
@@ -117,6 +120,7 @@ module _ (T U : List Entry → Type 0) (p : typed.Program) (whole : Whole) (o : 
           input_is = s.input_is;
           output_is = s.output_is;
           bytes_are = bytes_left (is_flow x) (is_return f) s.history ∙ s.bytes_are ∙ ap (λ k. sent ++ waiting k) (sym kept);
+          done = done_as o.input s.history s.input sent _ new.kept (trace_left (is_flow x) (is_return f) s.history) (done_kept o.input s.history s.input sent old.kept new.kept kept s.done);
           tells = tells s.history s.tells;
           told = told s.history s.told;
         }
@@ -124,7 +128,7 @@ module _ (T U : List Entry → Type 0) (p : typed.Program) (whole : Whole) (o : 
     pub frame_stopping : (e : Stop) → Acts (λ p s. left p f x s) mid (Err e) new.machine → StoppingBy U p whole o sent e new port
     frame_stopping (stop.Ended n) acts = frame_ends (machine.Ended n) acts
     frame_stopping (stop.Undefined act at) acts = frame_ends (machine.Undefined act at) acts
-    frame_stopping stop.Memory acts = s.output_is
+    frame_stopping stop.Memory acts = given_up_here T p whole o sent old (leaves x) port s
 
   pub nothing_waits : (m : Interpreter) (x : on.Found) (port : PortView) → frames_of m.machine ≡ [] → Stands T p whole o sent m (leaves x) port → Rests whole
   nothing_waits m x port e s = rests p (frames_of m.machine) x m.machine.scene s.input s.history whole e s.follows
@@ -152,6 +156,7 @@ module _ (T U : List Entry → Type 0) (p : typed.Program) (whole : Whole) (o : 
           input_is = s.input_is;
           output_is = s.output_is;
           bytes_are = bytes_called p callee s.history ∙ s.bytes_are ∙ ap (λ k. sent ++ waiting k) (sym kept);
+          done = done_as o.input s.history s.input sent _ new.kept (trace_called p callee s.history) (done_kept o.input s.history s.input sent old.kept new.kept kept s.done);
           tells = tells s.history s.tells;
           told = told s.history s.told;
         }
@@ -167,6 +172,7 @@ module _ (T U : List Entry → Type 0) (p : typed.Program) (whole : Whole) (o : 
           input_is = s.input_is;
           output_is = s.output_is;
           bytes_are = bytes_called p callee s.history ∙ s.bytes_are ∙ ap (λ k. sent ++ waiting k) (sym kept);
+          done = done_as o.input s.history s.input sent _ new.kept (trace_called p callee s.history) (done_kept o.input s.history s.input sent old.kept new.kept kept s.done);
           tells = tells s.history s.tells;
           told = told s.history s.told;
         }
@@ -174,7 +180,7 @@ module _ (T U : List Entry → Type 0) (p : typed.Program) (whole : Whole) (o : 
     pub call_stopping : (e : Stop) → IsInside callee → Acts (λ p s. called p at callee used passed s) mid (Err e) new.machine → StoppingBy U p whole o sent e new port
     call_stopping (stop.Ended n) inside acts = call_ends (machine.Ended n) inside acts
     call_stopping (stop.Undefined act at) inside acts = call_ends (machine.Undefined act at) inside acts
-    call_stopping stop.Memory inside acts = s.output_is
+    call_stopping stop.Memory inside acts = given_up_here T p whole o sent old (calls at callee used passed) port s
 
   -- a call that does nothing yet
   pub still_stands : (old new : Interpreter) (at : Pos) (callee byte : typed.Callee) (used : Bool) (passed : List Passed) (port : PortView) → callee ≡ byte → new.machine ≡ old.machine →
@@ -193,6 +199,7 @@ module _ (T U : List Entry → Type 0) (p : typed.Program) (whole : Whole) (o : 
         input_is = s.input_is;
         output_is = s.output_is;
         bytes_are = s.bytes_are ∙ ap (λ k. sent ++ waiting k) (sym kept);
+        done = done_kept o.input s.history s.input sent old.kept new.kept kept s.done;
         tells = subst Q (same s.history) (subst P e (tells s.history s.tells));
         told = subst U (same s.history) (subst R e (told s.history s.told));
       }
@@ -219,9 +226,9 @@ module _ (T U : List Entry → Type 0) (p : typed.Program) (whole : Whole) (o : 
     unfolding left_of
     put_follows input b h e follows n = ap (λ (b : ℕ). left_of p (frames_of m.machine) m.machine.scene (leaves (a_value (pos 0))) input (Did (Put b) ∷ h) n) e ∙ follows n
 
-    pub got_stands : (b : ℕ) (v : ℤ) (old new : PortView) → v ≡ pos b → Gets old new (Some b) → ((h : List Entry) → T h → U (Did (Got b) ∷ h)) → Stands T p whole o sent m (calls at typed.get_byte used passed) old →
+    pub got_stands : (b : ℕ) (v : ℤ) (old new : PortView) → m.kept ≡ None → v ≡ pos b → Gets old new (Some b) → ((h : List Entry) → T h → U (Did (Got b) ∷ h)) → Stands T p whole o sent m (calls at typed.get_byte used passed) old →
         Stands U p whole o sent m (leaves (a_value v)) new
-    got_stands b v old new e got told s =
+    got_stands b v old new none e got told s =
         let took = first_taken old.input new.input s.input b got.input_moves s.input_is in
         let P : ℤ → Type 0 = λ v. Stands U p whole o sent m (leaves (a_value v)) new in
         subst P (sym e) (record {
@@ -230,14 +237,15 @@ module _ (T U : List Entry → Type 0) (p : typed.Program) (whole : Whole) (o : 
           program_is = s.program_is;
           follows = got_follows s.input took.0 b s.history took.1.0 s.follows;
           input_is = took.1.1;
-          output_is = output_kept o old.output new.output sent got.output_stays s.output_is;
+          output_is = output_kept o.output old.output new.output sent got.output_stays s.output_is;
           bytes_are = s.bytes_are;
+          done = done_got o.input s.history s.input sent m.kept none s.done took.0 b took.1.0;
           tells = did_tells p s.history (Got b) m.tally s.tells;
           told = told s.history s.told;
         })
 
-    pub end_stands : (old new : PortView) → Gets old new None → ((h : List Entry) → T h → U (Did GotEnd ∷ h)) → Stands T p whole o sent m (calls at typed.get_byte used passed) old → Stands U p whole o sent m (leaves (a_value (negsuc 0))) new
-    end_stands old new got told s =
+    pub end_stands : (old new : PortView) → m.kept ≡ None → Gets old new None → ((h : List Entry) → T h → U (Did GotEnd ∷ h)) → Stands T p whole o sent m (calls at typed.get_byte used passed) old → Stands U p whole o sent m (leaves (a_value (negsuc 0))) new
+    end_stands old new free got told s =
         let none = none_left old.input new.input s.input got.input_moves s.input_is in
         record {
           input = [];
@@ -245,8 +253,9 @@ module _ (T U : List Entry → Type 0) (p : typed.Program) (whole : Whole) (o : 
           program_is = s.program_is;
           follows = end_follows s.input s.history none.0 s.follows;
           input_is = none.1;
-          output_is = output_kept o old.output new.output sent got.output_stays s.output_is;
+          output_is = output_kept o.output old.output new.output sent got.output_stays s.output_is;
           bytes_are = s.bytes_are;
+          done = done_end o.input s.history s.input sent m.kept free s.done none.0;
           tells = did_tells p s.history GotEnd m.tally s.tells;
           told = told s.history s.told;
         }
@@ -263,6 +272,7 @@ module _ (T U : List Entry → Type 0) (p : typed.Program) (whole : Whole) (o : 
           input_is = s.input_is;
           output_is = s.output_is;
           bytes_are = byte_put b s.history sent m.kept (Some b) none refl s.bytes_are;
+          done = done_put o.input s.history s.input sent m.kept none s.done b;
           tells = did_tells p s.history (Put b) m.tally s.tells;
           told = told s.history s.told;
         })

@@ -146,10 +146,13 @@ module _ (p : Program) (fs gs : List Frame) (x : Node) (old new : Scene) (input 
       }
 
   -- no tick is left for it
+  pub node_waits_in : whole 0 ≡ Stops TicksUsed (state_in old (outside 0 input h))
+  node_waits_in = sym (node_is 0) ∙ resume_stops p (call_in p) fs TicksUsed (state_in old (outside 0 input h))
+
   pub node_waits : StopsAs (whole 0) TicksUsed input h
   node_waits = record {
     state = state_in old (outside 0 input h);
-    is = sym (node_is 0) ∙ resume_stops p (call_in p) fs TicksUsed (state_in old (outside 0 input h));
+    is = node_waits_in;
     input_is = refl;
     history_is = refl;
   }

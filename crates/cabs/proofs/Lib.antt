@@ -2,7 +2,10 @@ pub mod Laid
 pub mod Calm
 pub mod Following
 pub mod Telling
+pub mod Growing
+pub mod Begun
 pub mod Told
 pub mod Acts
 pub mod Ticking
 pub mod AtOnce
+pub mod Showing

@@ -1,11 +1,12 @@
 -- Ticks, and the whole run.
-use Rattle.std.proofs.Common.{◌≡◌, ◌≤◌, ◌<◌, inl, inr, ℕ, suc, ◌+◌, ◌-◌, ℤ, List, [], ◌++◌, Option, Some, None, refl, sym, ap, ◌∙◌, subst, arith, Bor}
+use Rattle.std.proofs.Common.{◌≡◌, ◌≤◌, ◌<◌, inl, inr, ℕ, suc, ◌+◌, ◌-◌, ℤ, List, [], ◌∷◌, ◌++◌, Option, Some, None, refl, sym, ap, ◌∙◌, subst, arith, Bor}
 use Rattle.std.specs.Prelude.{Result, Ok, Err, false, slice_get}
 use Rattle.std.specs.Io.KnownBytes.{Keeps, Appends}
 use Rattle.typing_spec.specs.Program as typed
 use Rattle.typed_ast.specs.declared.units.Program as unit
 use Rattle.typed_ast.specs.View.{program_of}
-use Rattle.csem.specs.History.{Entry, weight_in, greatest_sum}
+use Rattle.csem.specs.History.{Entry, Did, Entered, Left, trace_of, weight_in, greatest_sum}
+use Rattle.csem.proofs.Histories.{history_grows}
 use Rattle.csem.specs.Machine as machine
 use Rattle.csem.specs.Machine.{State, Ending, Goes, Stops, then_do}
 use Rattle.csem.specs.Statements.{Returned}
@@ -33,15 +34,16 @@ use Rattle.io_ports.specs.Port.{PortView, Flushes}
 use Rattle.cabs.specs.declared.state.Interpreter.{Interpreter}
 use Rattle.cabs.specs.declared.outcome.Run.{Run}
 use Rattle.cabs.specs.declared.outcome.Run.TheVariants as run
-use Rattle.cabs.specs.Interpreting.{IsAnswer, IsGivenUp, IsTold, RunMeets}
-use Rattle.cabs.specs.inside.Standing.{Whole, left_of, waiting, bytes_of, entered_where, history_called, Stands, StopsAs, Stopping, StoppingBy, Stopped, StoppedBy, SettleMeets, Runs, StopsBy, EndsAs, RunStops, Fresh, NearsFrom, distance}
+use Rattle.cabs.specs.Interpreting.{IsAnswer, IsGivenUp, IsBegun, IsTold, RunMeets}
+use Rattle.cabs.specs.inside.Standing.{Outset, Whole, left_of, waiting, bytes_of, entered_where, history_called, Stands, StopsAs, Stopping, StoppingBy, Stopped, StoppedBy, SettleMeets, Runs, StopsBy, EndsAs, RunStops, Fresh, NearsFrom, distance, Done, Grows, Begins, GivenUp, GivenUpBy}
+use Rattle.cabs.proofs.Begun.{done_kept, done_sent, nothing_done, given_up_here, begins_more}
 use Rattle.cabs.proofs.Calm.{calm_outside, entered_calm}
 use Rattle.cabs.proofs.Following.{outside, goes_on, stops_so, node_follows, node_stops, node_waits}
 use Rattle.cabs.proofs.Telling.{input_kept, output_kept, output_grown, output_as, append_none, none_waits, nothing_sent, tells_as}
 
 -- ---- a node is reached
 
-pub node_reached : (T : List Entry → Type 0) (p : typed.Program) (whole : Whole) (o : Option (List ℕ)) (sent : List ℕ) (old new : Interpreter) (x : on.Step) (port port2 : PortView) → Stands T p whole o sent old x port →
+pub node_reached : (T : List Entry → Type 0) (p : typed.Program) (whole : Whole) (o : Outset) (sent : List ℕ) (old new : Interpreter) (x : on.Step) (port port2 : PortView) → Stands T p whole o sent old x port →
     Keeps port.input port2.input → Appends port.output port2.output (waiting old.kept) → new.machine ≡ old.machine → new.tally ≡ old.tally → new.kept ≡ None →
     (now : List ℕ) × (Stands T p whole o now new x port2 × (new.kept ≡ None))
 node_reached T p whole o sent old new x port port2 s i a m t k = (
@@ -53,8 +55,9 @@ node_reached T p whole o sent old new x port port2 s i a m t k = (
       program_is = ap (λ (m : Machine). program_of m.program.now) m ∙ s.program_is;
       follows = λ n. ap (λ (m : Machine). left_of p (frames_of m) m.scene x s.input s.history n) m ∙ s.follows n;
       input_is = input_kept port.input port2.input s.input i s.input_is;
-      output_is = output_grown o port.output port2.output sent (waiting old.kept) a s.output_is;
+      output_is = output_grown o.output port.output port2.output sent (waiting old.kept) a s.output_is;
       bytes_are = s.bytes_are ∙ append_none (sent ++ waiting old.kept) ∙ ap (λ k. (sent ++ waiting old.kept) ++ waiting k) (sym k);
+      done = done_sent o.input s.history s.input sent old.kept new.kept k s.done;
       tells = tells_as p s.history s.history old.tally new.tally refl t s.tells;
       told = s.told;
     },
@@ -62,12 +65,12 @@ node_reached T p whole o sent old new x port port2 s i a m t k = (
   ),
 )
 
-pub stands_as : (T : List Entry → Type 0) (p : typed.Program) (whole : Whole) (o : Option (List ℕ)) (sent : List ℕ) (m : Interpreter) (x y : on.Step) (port : PortView) → x ≡ y → Stands T p whole o sent m x port → Stands T p whole o sent m y port
+pub stands_as : (T : List Entry → Type 0) (p : typed.Program) (whole : Whole) (o : Outset) (sent : List ℕ) (m : Interpreter) (x y : on.Step) (port : PortView) → x ≡ y → Stands T p whole o sent m x port → Stands T p whole o sent m y port
 stands_as T p whole o sent m x y port e s = let P : on.Step → Type 0 = λ x. Stands T p whole o sent m x port in subst P e s
 
 -- ---- the port rests
 
-pub stands_rested : (T : List Entry → Type 0) (p : typed.Program) (whole : Whole) (o : Option (List ℕ)) (sent : List ℕ) (m : Interpreter) (x : on.Step) (old new : PortView) → Stands T p whole o sent m x old →
+pub stands_rested : (T : List Entry → Type 0) (p : typed.Program) (whole : Whole) (o : Outset) (sent : List ℕ) (m : Interpreter) (x : on.Step) (old new : PortView) → Stands T p whole o sent m x old →
     Flushes old new → Stands T p whole o sent m x new
 stands_rested T p whole o sent m x old new s f = record {
   input = s.input;
@@ -75,32 +78,49 @@ stands_rested T p whole o sent m x old new s f = record {
   program_is = s.program_is;
   follows = s.follows;
   input_is = input_kept old.input new.input s.input f.input_stays s.input_is;
-  output_is = output_kept o old.output new.output sent f.output_stays s.output_is;
+  output_is = output_kept o.output old.output new.output sent f.output_stays s.output_is;
   bytes_are = s.bytes_are;
+  done = s.done;
   tells = s.tells;
   told = s.told;
 }
 
-pub runs_rested : (T : List Entry → Type 0) (p : typed.Program) (all : Whole) (o : Option (List ℕ)) (k : ℕ) (m : Interpreter) (x : on.Step) (old new : PortView) → Runs T p all o k m x old → Flushes old new →
+pub runs_rested : (T : List Entry → Type 0) (p : typed.Program) (all : Whole) (o : Outset) (k : ℕ) (m : Interpreter) (x : on.Step) (old new : PortView) → Runs T p all o k m x old → Flushes old new →
     Runs T p all o k m x new
 runs_rested T p all o k m x old new r f = record {
   sent = r.sent;
   clock = r.clock;
   clock_is = r.clock_is;
   sent_is = r.sent_is;
+  grows = r.grows;
   stands = stands_rested T p (λ n. all (n + k)) o r.sent m x old new r.stands f;
 }
 
-module _ (T : List Entry → Type 0) (p : typed.Program) (all : Whole) (o : Option (List ℕ)) where
+module _ (T : List Entry → Type 0) (p : typed.Program) (all : Whole) (o : Outset) where
   -- ---- how a run stops that has so many ticks
+
+  given_up_by : (k clock : ℕ) (sent : List ℕ) (port : PortView) → clock ≤ k → sent ≡ bytes_of (last_of (all clock)).history → GivenUp (λ n. all (n + k)) o sent port → GivenUpBy all o k port
+  given_up_by k clock sent port le e s = record {
+    earlier = (clock, (le, output_as o.output port.output _ _ e s.output_is));
+    first = (0 + k, (omega arith, s.begins));
+  }
+
+  given_up_later : (k ticks : ℕ) (port : PortView) → k ≤ ticks → GivenUpBy all o k port → GivenUpBy all o ticks port
+  given_up_later k ticks port le s =
+      let earlier = s.earlier in
+      let first = s.first in
+      record {
+        earlier = (earlier.0, (omega (arith, le, earlier.1.0), earlier.1.1));
+        first = (first.0, (omega (arith, le, first.1.0), first.1.1));
+      }
 
   pub stops_by : (k clock : ℕ) (sent : List ℕ) (r : Run) (tally : Tally) (port : PortView) → clock ≤ k → sent ≡ bytes_of (last_of (all clock)).history →
       StoppedBy T p (λ n. all (n + k)) o sent r tally port → StopsBy T p all o k r tally port
   stops_by k clock sent (run.Ended status) tally port le e s = s
   stops_by k clock sent (run.Undefined act at) tally port le e s = s
   stops_by k clock sent run.TicksUsed tally port le e s = s
-  stops_by k clock sent (run.Port fault) tally port le e s = (clock, (le, output_as o port.output _ _ e s))
-  stops_by k clock sent run.Memory tally port le e s = (clock, (le, output_as o port.output _ _ e s))
+  stops_by k clock sent (run.Port fault) tally port le e s = given_up_by k clock sent port le e s
+  stops_by k clock sent run.Memory tally port le e s = given_up_by k clock sent port le e s
 
   next_clock : (n k : ℕ) → suc n + k ≡ n + (k + 1)
   next_clock n k = omega arith
@@ -124,8 +144,8 @@ module _ (T : List Entry → Type 0) (p : typed.Program) (all : Whole) (o : Opti
   stops_later k run.TicksUsed tally port s = λ n.
       let P : ℕ → Type 0 = λ k. (x : on.Found) × ((s : State) × (all k ≡ Goes x s)) in
       subst P (next_clock n k) (s (suc n))
-  stops_later k (run.Port fault) tally port s = (s.0, (omega (arith, s.1.0), s.1.1))
-  stops_later k run.Memory tally port s = (s.0, (omega (arith, s.1.0), s.1.1))
+  stops_later k (run.Port fault) tally port s = given_up_later k (k + 1) port (omega arith) s
+  stops_later k run.Memory tally port s = given_up_later k (k + 1) port (omega arith) s
 
   ends_at : (k ticks : ℕ) (e : Ending) (tally : Tally) (port : PortView) → k ≤ ticks → Stopped T p (λ n. all (n + k)) o e tally port → EndsAs T p (all ticks) o e tally port
   ends_at k ticks e tally port le s =
@@ -148,8 +168,8 @@ module _ (T : List Entry → Type 0) (p : typed.Program) (all : Whole) (o : Opti
       let same : (ticks - k) + k ≡ ticks = omega arith in
       let P : ℕ → Type 0 = λ k. (x : on.Found) × ((s : State) × (all k ≡ Goes x s)) in
       inr (subst P same (s (ticks - k)))
-  run_stops k ticks (run.Port fault) tally port le s = (s.0, (omega (arith, s.1.0), s.1.1))
-  run_stops k ticks run.Memory tally port le s = (s.0, (omega (arith, s.1.0), s.1.1))
+  run_stops k ticks (run.Port fault) tally port le s = given_up_later k ticks port le s
+  run_stops k ticks run.Memory tally port le s = given_up_later k ticks port le s
 
   -- ---- a tick
 
@@ -170,13 +190,14 @@ module _ (T : List Entry → Type 0) (p : typed.Program) (all : Whole) (o : Opti
         let P : typed.Program → Type 0 = λ q. (o : Outside) → Agrees (onto (frames_of mid.machine) (entered q x (state_in mid.machine.scene o))) r (frames_of new) (state_in new.scene o) in
         subst P s.program_is h
 
-    pub tick_goes : (new : Interpreter) (y : Step) → new.tally ≡ mid.tally → new.kept ≡ mid.kept → new.machine.program ≡ mid.machine.program → Takes (λ p s. entered p x s) mid.machine (Ok y) new.machine →
+    pub tick_goes : Grows all → (new : Interpreter) (y : Step) → new.tally ≡ mid.tally → new.kept ≡ mid.kept → new.machine.program ≡ mid.machine.program → Takes (λ p s. entered p x s) mid.machine (Ok y) new.machine →
         Runs T p all o (k + 1) new (step_of y) port
-    tick_goes new y t kept program takes = record {
+    tick_goes grows new y t kept program takes = record {
       sent = now;
       clock = k;
       clock_is = omega arith;
       sent_is = bytes_now;
+      grows = grows;
       stands = record {
         input = s.input;
         history = s.history;
@@ -186,6 +207,7 @@ module _ (T : List Entry → Type 0) (p : typed.Program) (all : Whole) (o : Opti
         input_is = s.input_is;
         output_is = s.output_is;
         bytes_are = s.bytes_are ∙ ap (λ k. now ++ waiting k) (sym kept);
+        done = done_kept o.input s.history s.input now mid.kept new.kept kept s.done;
         tells = tells_as p s.history s.history mid.tally new.tally refl t s.tells;
         told = s.told;
       };
@@ -202,15 +224,24 @@ module _ (T : List Entry → Type 0) (p : typed.Program) (all : Whole) (o : Opti
       input_is = s.input_is;
       output_is = s.output_is;
       bytes_are = s.bytes_are ∙ ap (λ k. now ++ waiting k) (sym kept);
+      done = done_kept o.input s.history s.input now mid.kept new.kept kept s.done;
       tells = tells_as p s.history s.history mid.tally new.tally refl t s.tells;
       told = s.told;
     }
 
-    pub tick_stopping : (new : Interpreter) (e : Stop) → new.tally ≡ mid.tally → new.kept ≡ mid.kept → Takes (λ p s. entered p x s) mid.machine (Err e) new.machine →
+    -- with one tick more it does the same first
+    given_up_ticking : Grows all → GivenUp (λ n. all (n + (k + 1))) o now port
+    given_up_ticking grows =
+        let g = given_up_here T p (λ n. all (n + k)) o now mid (enters x) port s in
+        let next : suc (0 + k) ≡ 0 + (k + 1) = omega arith in
+        let P : ℕ → Type 0 = λ k. Begins (all k) o port in
+        record { output_is = g.output_is; begins = subst P next (begins_more (all (0 + k)) o (all (suc (0 + k))) port (grows (0 + k)) g.begins) }
+
+    pub tick_stopping : Grows all → (new : Interpreter) (e : Stop) → new.tally ≡ mid.tally → new.kept ≡ mid.kept → Takes (λ p s. entered p x s) mid.machine (Err e) new.machine →
         StoppingBy T p (λ n. all (n + (k + 1))) o now e new port
-    tick_stopping new (stop.Ended n) t kept takes = tick_ends new (machine.Ended n) t kept (takes_now (Err (stop.Ended n)) new.machine takes)
-    tick_stopping new (stop.Undefined act at) t kept takes = tick_ends new (machine.Undefined act at) t kept (takes_now (Err (stop.Undefined act at)) new.machine takes)
-    tick_stopping new stop.Memory t kept takes = s.output_is
+    tick_stopping grows new (stop.Ended n) t kept takes = tick_ends new (machine.Ended n) t kept (takes_now (Err (stop.Ended n)) new.machine takes)
+    tick_stopping grows new (stop.Undefined act at) t kept takes = tick_ends new (machine.Undefined act at) t kept (takes_now (Err (stop.Undefined act at)) new.machine takes)
+    tick_stopping grows new stop.Memory t kept takes = given_up_ticking grows
 
     pub ticks_used : RunStops T p all o k run.TicksUsed mid.tally port
     ticks_used =
@@ -221,29 +252,29 @@ module _ (T : List Entry → Type 0) (p : typed.Program) (all : Whole) (o : Opti
           history = s.history;
           stops = subst P same waits_here;
           input_is = s.input_is;
-          output_is = output_as o port.output _ _ (none_waits s.history now mid.kept none s.bytes_are) s.output_is;
+          output_is = output_as o.output port.output _ _ (none_waits s.history now mid.kept none s.bytes_are) s.output_is;
           tells = s.tells;
           told = s.told;
         })
 
-pub tick_stops : (T U : List Entry → Type 0) (p : typed.Program) (all : Whole) (o : Option (List ℕ)) (k : ℕ) (now : List ℕ) (mid : Interpreter) (x : on.Node) (port : PortView) → Stands T p (λ n. all (n + k)) o now mid (enters x) port →
+pub tick_stops : (T U : List Entry → Type 0) (p : typed.Program) (all : Whole) (o : Outset) (k : ℕ) (now : List ℕ) (mid : Interpreter) (x : on.Node) (port : PortView) → Stands T p (λ n. all (n + k)) o now mid (enters x) port →
     mid.kept ≡ None → (r : Run) (tally : Tally) (port2 : PortView) → StoppedBy U p (λ n. all (n + (k + 1))) o now r tally port2 → StopsBy U p all o (k + 1) r tally port2
 tick_stops T U p all o k now mid x port s none r tally port2 h = stops_by U p all o (k + 1) k now r tally port2 (omega arith) (bytes_now T p all o k now mid x port s none) h
 
 -- ---- the definition's run
 
-given_stops : {A : Type 0} (f : A → on.Found) (r : machine.Run A) (e : Ending) (s : State) → given f r ≡ Stops e s → r ≡ Stops e s
+pub given_stops : {A : Type 0} (f : A → on.Found) (r : machine.Run A) (e : Ending) (s : State) → given f r ≡ Stops e s → r ≡ Stops e s
 given_stops f (Goes a t) e s h = absurd (cc h)
 given_stops f (Stops d t) e s h =
     let a : d ≡ e = cc h in
     let b : t ≡ s = cc h in
     ap (λ e. Stops e t) a ∙ ap (Stops e) b
 
-given_last : {A : Type 0} (f : A → on.Found) (r : machine.Run A) → last_of (given f r) ≡ last_of r
+pub given_last : {A : Type 0} (f : A → on.Found) (r : machine.Run A) → last_of (given f r) ≡ last_of r
 given_last f (Goes a s) = refl
 given_last f (Stops e s) = refl
 
-never_goes : (f : Option ℤ → on.Found) (r : machine.Run (Option ℤ)) (x : on.Found) (s : State) → given f (then_do r end_with) ≡ Goes x s → ⊥
+pub never_goes : (f : Option ℤ → on.Found) (r : machine.Run (Option ℤ)) (x : on.Found) (s : State) → given f (then_do r end_with) ≡ Goes x s → ⊥
 never_goes f (Goes v t) x s h = cc h
 never_goes f (Stops e t) x s h = cc h
 
@@ -267,8 +298,27 @@ bytes_are_output p input n = ap (λ (s : State). bytes_of s.history) (given_last
 
 -- ---- what a run came to is what the definition answers
 
+-- with each tick it does more
+trace_more : (newer h : List Entry) → trace_of (newer ++ h) ≡ trace_of newer ++ trace_of h
+trace_more [] h = refl
+trace_more (Did e ∷ newer) h = ap (λ l. e ∷ l) (trace_more newer h)
+trace_more (Entered f ∷ newer) h = trace_more newer h
+trace_more (Left ∷ newer) h = trace_more newer h
+
+run_grows : (p : typed.Program) (input : List ℕ) → Grows (run_of p input)
+unfolding run_of
+run_grows p input k =
+    let g = history_grows k 1 p input in (
+      trace_of g.0,
+      ap (λ (s : State). trace_of s.history) (given_last as_found (cstep (suc k) p input)) ∙ ap trace_of g.1 ∙ trace_more g.0 (last_of (cstep k p input)).history
+          ∙ ap (λ (s : State). trace_of g.0 ++ trace_of s.history) (sym (given_last as_found (cstep k p input))),
+    )
+
+abbrev pub outset : List ℕ → PortView → Outset
+outset input port = record { input = input; output = port.output }
+
 module _ (T : List Entry → Type 0) (p : typed.Program) (input : List ℕ) (ticks : ℕ) (tally : Tally) (old new : PortView) where
-  is_answer : (e : Ending) → EndsAs T p (run_of p input ticks) old.output e tally new → IsAnswer (answer ticks p input) e tally.greatest old new
+  is_answer : (e : Ending) → EndsAs T p (run_of p input ticks) (outset input old) e tally new → IsAnswer (answer ticks p input) e tally.greatest old new
   unfolding run_of
   is_answer e h =
       let is : cstep ticks p input ≡ Stops e h.stops.state = given_stops as_found (cstep ticks p input) e h.stops.state h.stops.is in
@@ -282,17 +332,30 @@ module _ (T : List Entry → Type 0) (p : typed.Program) (input : List ℕ) (tic
   is_given_up : (clock : ℕ) → clock ≤ ticks → Appends old.output new.output (bytes_of (last_of (run_of p input clock)).history) → IsGivenUp p input ticks old new
   is_given_up clock le h = (clock, (le, output_as old.output new.output _ _ (bytes_are_output p input clock) h))
 
+  is_begun : (clock : ℕ) → clock ≤ ticks → Begins (run_of p input clock) (outset input old) new → IsBegun p input ticks old new
+  unfolding run_of
+  is_begun clock le b = record {
+    clock = clock;
+    within = le;
+    events = b.events;
+    begins = (b.begins.0, sym (ap (λ (s : State). trace_of s.history) (given_last as_found (cstep clock p input))) ∙ b.begins.1);
+    output_is = b.output_is;
+    left = b.left;
+    left_is = b.left_is;
+    got_is = b.got_is;
+  }
+
   never_rests : (x : on.Found) (s : State) → run_of p input ticks ≡ Goes x s → ⊥
   unfolding run_of
   never_rests x s h = never_goes as_found (calling p (suc ticks) p.main [] (start ticks p input)) x s h
 
-  told_so : (e : Ending) → EndsAs T p (run_of p input ticks) old.output e tally new → T (last_of (cstep ticks p input)).history
+  told_so : (e : Ending) → EndsAs T p (run_of p input ticks) (outset input old) e tally new → T (last_of (cstep ticks p input)).history
   unfolding run_of
   told_so e h =
       let is : cstep ticks p input ≡ Stops e h.stops.state = given_stops as_found (cstep ticks p input) e h.stops.state h.stops.is in
       subst T (sym h.stops.history_is ∙ sym (ap (λ r. (last_of r).history) is)) h.told
 
-  pub told_as : (r : Run) → RunStops T p (run_of p input) old.output ticks r tally new → IsTold T p input ticks r
+  pub told_as : (r : Run) → RunStops T p (run_of p input) (outset input old) ticks r tally new → IsTold T p input ticks r
   told_as (run.Ended status) h = told_so (machine.Ended status) h
   told_as (run.Undefined act at) h = told_so (machine.Undefined act at) h
   told_as run.TicksUsed (inl h) = told_so machine.TicksUsed h
@@ -300,13 +363,13 @@ module _ (T : List Entry → Type 0) (p : typed.Program) (input : List ℕ) (tic
   told_as (run.Port fault) h = tt
   told_as run.Memory h = tt
 
-  pub answered : (r : Run) → RunStops T p (run_of p input) old.output ticks r tally new → RunMeets p input ticks r tally.greatest old new
+  pub answered : (r : Run) → RunStops T p (run_of p input) (outset input old) ticks r tally new → RunMeets p input ticks r tally.greatest old new
   answered (run.Ended status) h = is_answer (machine.Ended status) h
   answered (run.Undefined act at) h = is_answer (machine.Undefined act at) h
   answered run.TicksUsed (inl h) = is_answer machine.TicksUsed h
   answered run.TicksUsed (inr h) = absurd (never_rests h.0 h.1.0 h.1.1)
-  answered (run.Port fault) h = is_given_up h.0 h.1.0 h.1.1
-  answered run.Memory h = is_given_up h.0 h.1.0 h.1.1
+  answered (run.Port fault) h = (is_given_up h.earlier.0 h.earlier.1.0 h.earlier.1.1, is_begun h.first.0 h.first.1.0 h.first.1.1)
+  answered run.Memory h = (is_given_up h.earlier.0 h.earlier.1.0 h.earlier.1.1, is_begun h.first.0 h.first.1.0 h.first.1.1)
 
 -- ---- main is called
 
@@ -338,12 +401,28 @@ module _ (p : typed.Program) (input : List ℕ) (gs : List on.Frame) (old new : 
   main_stops : (e : Ending) → ((o : Outside) → onto [] (main_at p old o) ≡ halts e (state_in new (outside_behind (main_at p old o)))) → (n : ℕ) → StopsAs (run_of p input (n + 0)) e input first_history
   main_stops e step n = stops_so p [] gs new (main_at p old (outside n input [])) e (run_of p input (n + 0)) n input first_history (step (outside n input [])) (main_out n) (main_is n)
 
+trace_begun : (g : Option typed.Function) (f : ℕ) → trace_of (entered_where g f []) ≡ []
+trace_begun None f = refl
+trace_begun (Some g) f = refl
+
 bytes_entered : (g : Option typed.Function) (f : ℕ) → bytes_of (entered_where g f []) ≡ []
 bytes_entered None f = refl
 bytes_entered (Some g) f = refl
 
-pub given_up_first : (p : typed.Program) (input : List ℕ) (ticks : ℕ) (port : PortView) → IsGivenUp p input ticks port port
-given_up_first p input ticks port = (0, (omega arith, output_as port.output port.output _ _ (nothing_put p input) (nothing_sent port.output)))
+pub given_up_first : (p : typed.Program) (input : List ℕ) (ticks : ℕ) (port : PortView) → port.input ≡ Some input → IsGivenUp p input ticks port port × IsBegun p input ticks port port
+given_up_first p input ticks port given = (
+  (0, (omega arith, output_as port.output port.output _ _ (nothing_put p input) (nothing_sent port.output))),
+  record {
+    clock = 0;
+    within = omega arith;
+    events = [];
+    begins = (trace_of (last_of (cstep 0 p input)).history, append_none (trace_of (last_of (cstep 0 p input)).history));
+    output_is = nothing_sent port.output;
+    left = input;
+    left_is = given;
+    got_is = refl;
+  },
+)
 
 module _ (T : List Entry → Type 0) (p : typed.Program) (input : List ℕ) (old new : Interpreter) (mid : Machine) (f : ℕ) (port : PortView) (fresh : Fresh old) (same : mid ≡ old.machine)
     (prog : program_of mid.program.now ≡ p) (is_main : f ≡ p.main) (given : port.input ≡ Some input) (tells : (h : List Entry) → Tells p h old.tally → Tells p (history_called p (typed.function p.main) h) new.tally) (told : T (history_called p (typed.function p.main) [])) (kept : new.kept ≡ old.kept) where
@@ -359,8 +438,11 @@ module _ (T : List Entry → Type 0) (p : typed.Program) (input : List ℕ) (old
   no_byte : bytes_of (first_history p input (frames_of new.machine) mid.scene new.machine.scene starts) ≡ [] ++ waiting new.kept
   no_byte = bytes_entered (slice_get p.functions p.main) p.main ∙ ap waiting (sym (kept ∙ fresh.none_kept))
 
+  none_done : Done input (first_history p input (frames_of new.machine) mid.scene new.machine.scene starts) input [] new.kept
+  none_done = nothing_done input _ new.kept (trace_begun (slice_get p.functions p.main) p.main) (kept ∙ fresh.none_kept)
+
   pub main_runs : (y : Step) → ((o : Outside) → onto (frames_of mid) (called_main (program_of mid.program.now) f mid.scene o) ≡ moves (frames_of new.machine) (step_of y) (state_in new.machine.scene (outside_behind (called_main (program_of mid.program.now) f mid.scene o)))) →
-      new.machine.program ≡ mid.program → Runs T p (run_of p input) port.output 0 new (step_of y) port
+      new.machine.program ≡ mid.program → Runs T p (run_of p input) (outset input port) 0 new (step_of y) port
   main_runs y acts program =
       let P : typed.Program → ℕ → List on.Frame → Type 0 = λ p f fs. (o : Outside) → onto fs (called_main p f mid.scene o) ≡ moves (frames_of new.machine) (step_of y) (state_in new.machine.scene (outside_behind (called_main p f mid.scene o))) in
       let begun : P p p.main [] = subst (λ (fs : List on.Frame). P p p.main fs) none (subst (λ (f : ℕ). P p f (frames_of mid)) is_main (subst (λ (p : typed.Program). P p f (frames_of mid)) prog acts)) in
@@ -369,6 +451,7 @@ module _ (T : List Entry → Type 0) (p : typed.Program) (input : List ℕ) (old
         clock = 0;
         clock_is = omega arith;
         sent_is = nothing_put p input ∙ sym (bytes_are_output p input 0);
+        grows = run_grows p input;
         stands = record {
           input = input;
           history = first_history p input (frames_of new.machine) mid.scene new.machine.scene starts;
@@ -377,13 +460,14 @@ module _ (T : List Entry → Type 0) (p : typed.Program) (input : List ℕ) (old
           input_is = given;
           output_is = nothing_sent port.output;
           bytes_are = no_byte;
+          done = none_done;
           tells = tells [] (fresh.none_told p);
           told = told;
         };
       }
 
   main_ends : (e : Ending) → ((o : Outside) → onto (frames_of mid) (called_main (program_of mid.program.now) f mid.scene o) ≡ halts e (state_in new.machine.scene (outside_behind (called_main (program_of mid.program.now) f mid.scene o)))) →
-      Stopping T p (λ n. run_of p input (n + 0)) port.output [] e new port
+      Stopping T p (λ n. run_of p input (n + 0)) (outset input port) [] e new port
   main_ends e acts =
       let P : typed.Program → ℕ → List on.Frame → Type 0 = λ p f fs. (o : Outside) → onto fs (called_main p f mid.scene o) ≡ halts e (state_in new.machine.scene (outside_behind (called_main p f mid.scene o))) in
       let begun : P p p.main [] = subst (λ (fs : List on.Frame). P p p.main fs) none (subst (λ (f : ℕ). P p f (frames_of mid)) is_main (subst (λ (p : typed.Program). P p f (frames_of mid)) prog acts)) in
@@ -394,20 +478,31 @@ module _ (T : List Entry → Type 0) (p : typed.Program) (input : List ℕ) (old
         input_is = given;
         output_is = nothing_sent port.output;
         bytes_are = no_byte;
+        done = none_done;
         tells = tells [] (fresh.none_told p);
         told = told;
       }
 
   pub main_stopping : (e : Stop) → Acts (λ p s. entered_call p to_end (slice_get p.functions f) f [] s) mid (Err e) new.machine →
-      StoppingBy T p (λ n. run_of p input (n + 0)) port.output [] e new port
+      StoppingBy T p (λ n. run_of p input (n + 0)) (outset input port) [] e new port
   main_stopping (stop.Ended n) acts = main_ends (machine.Ended n) acts
   main_stopping (stop.Undefined act at) acts = main_ends (machine.Undefined act at) acts
-  main_stopping stop.Memory acts = nothing_sent port.output
+  main_stopping stop.Memory acts = record {
+    output_is = nothing_sent port.output;
+    begins = record {
+      events = [];
+      begins = (trace_of (last_of (run_of p input (0 + 0))).history, append_none (trace_of (last_of (run_of p input (0 + 0))).history));
+      output_is = nothing_sent port.output;
+      left = input;
+      left_is = given;
+      got_is = refl;
+    };
+  }
 
-pub main_stopped : (T : List Entry → Type 0) (p : typed.Program) (input : List ℕ) (port : PortView) (ticks : ℕ) (r : Run) (tally : Tally) (now : PortView) → StoppedBy T p (λ n. run_of p input (n + 0)) port.output [] r tally now →
-    RunStops T p (run_of p input) port.output ticks r tally now
+pub main_stopped : (T : List Entry → Type 0) (p : typed.Program) (input : List ℕ) (port : PortView) (ticks : ℕ) (r : Run) (tally : Tally) (now : PortView) → StoppedBy T p (λ n. run_of p input (n + 0)) (outset input port) [] r tally now →
+    RunStops T p (run_of p input) (outset input port) ticks r tally now
 main_stopped T p input port ticks r tally now h =
-    run_stops T p (run_of p input) port.output 0 ticks r tally now (omega arith) (stops_by T p (run_of p input) port.output 0 0 [] r tally now (omega arith) (nothing_put p input ∙ sym (bytes_are_output p input 0)) h)
+    run_stops T p (run_of p input) (outset input port) 0 ticks r tally now (omega arith) (stops_by T p (run_of p input) (outset input port) 0 0 [] r tally now (omega arith) (nothing_put p input ∙ sym (bytes_are_output p input 0)) h)
 
 -- ---- nearer to the next node
 
@@ -434,14 +529,14 @@ told_new T a b input ticks r e h = let P : Bor unit.Program → Type 0 = λ b. I
 
 -- ---- behind the last tick
 
-pub used_up : (T : List Entry → Type 0) (p : typed.Program) (all : Whole) (o : Option (List ℕ)) (k ticks : ℕ) (sent : List ℕ) (m : Interpreter) (n : Node) (r : Run) (port : PortView) → k ≡ ticks → r ≡ run.TicksUsed →
+pub used_up : (T : List Entry → Type 0) (p : typed.Program) (all : Whole) (o : Outset) (k ticks : ℕ) (sent : List ℕ) (m : Interpreter) (n : Node) (r : Run) (port : PortView) → k ≡ ticks → r ≡ run.TicksUsed →
     SettleMeets T p (λ n. all (n + k)) o sent (Ok n) m port → RunStops T p all o ticks r m.tally port
 used_up T p all o k ticks sent m n r port e f met =
     let P : ℕ → Type 0 = λ k. RunStops T p all o k run.TicksUsed m.tally port in
     let Q : Run → Type 0 = λ r. RunStops T p all o ticks r m.tally port in
     subst Q (sym f) (subst P e (ticks_used T p all o k met.0 m (node_of n) port met.1.0 met.1.1))
 
-pub settle_ends : (U T : List Entry → Type 0) (p : typed.Program) (all : Whole) (o : Option (List ℕ)) (k ticks : ℕ) (old new : Interpreter) (y : on.Step) (x r : Run) (port port2 : PortView) → k ≡ ticks → r ≡ x → (runs : Runs U p all o k old y port) →
+pub settle_ends : (U T : List Entry → Type 0) (p : typed.Program) (all : Whole) (o : Outset) (k ticks : ℕ) (old new : Interpreter) (y : on.Step) (x r : Run) (port port2 : PortView) → k ≡ ticks → r ≡ x → (runs : Runs U p all o k old y port) →
     StoppedBy T p (λ n. all (n + k)) o runs.sent x new.tally port2 → RunStops T p all o ticks r new.tally port2
 settle_ends U T p all o k ticks old new y x r port port2 e f runs h =
     let Q : Run → Type 0 = λ r. RunStops T p all o ticks r new.tally port2 in

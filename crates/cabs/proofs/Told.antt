@@ -1,5 +1,5 @@
 -- What an observer was told, through a run.
-use Rattle.std.proofs.Common.{◌≡◌, inl, inr, ℕ, ◌+◌, List, Option, refl, sym, subst}
+use Rattle.std.proofs.Common.{◌≡◌, inl, inr, ℕ, ◌+◌, List, refl, sym, subst}
 use Rattle.std.specs.Prelude.{Result, Ok, Err, Bool, true, false, ⊤}
 use Rattle.std.specs.Bool.{OnTrue}
 use Rattle.typing_spec.specs.Program as typed
@@ -17,7 +17,7 @@ use Rattle.cabs.specs.declared.state.Interpreter.{Interpreter}
 use Rattle.cabs.specs.declared.outcome.Run.{Run}
 use Rattle.cabs.specs.declared.outcome.Run.TheVariants as run
 use Rattle.cabs.specs.Interpreting.{IsTold}
-use Rattle.cabs.specs.inside.Standing.{Whole, Knows, Stands, Stopping, StoppingBy, Stopped, StoppedBy, SettleMeets, Runs, EndsAs, RunStops, MeetsAt}
+use Rattle.cabs.specs.inside.Standing.{Outset, Whole, Knows, Stands, Stopping, StoppingBy, Stopped, StoppedBy, SettleMeets, Runs, EndsAs, RunStops, MeetsAt}
 
 -- what is known of one observer behind something that is told gives what is known of the other before it
 pub known : (b : Bool) (T U : List Entry → Type 0) (f : List Entry → List Entry) → ((h : List Entry) → T h → U (f h)) → (h : List Entry) → Knows b T h → Knows b U (f h)
@@ -41,7 +41,7 @@ nothing_told false = tt
 pub same_history : (T : List Entry → Type 0) (h : List Entry) → T h → (g : List Entry) → g ≡ h → T g
 same_history T h t g e = subst T (sym e) t
 
-pub exactly : (T : List Entry → Type 0) (p : typed.Program) (whole : Whole) (o : Option (List ℕ)) (sent : List ℕ) (m : Interpreter) (x : on.Step) (port : PortView) (s : Stands T p whole o sent m x port) →
+pub exactly : (T : List Entry → Type 0) (p : typed.Program) (whole : Whole) (o : Outset) (sent : List ℕ) (m : Interpreter) (x : on.Step) (port : PortView) (s : Stands T p whole o sent m x port) →
     Stands (λ g. g ≡ s.history) p whole o sent m x port
 exactly T p whole o sent m x port s = record {
   input = s.input;
@@ -51,11 +51,12 @@ exactly T p whole o sent m x port s = record {
   input_is = s.input_is;
   output_is = s.output_is;
   bytes_are = s.bytes_are;
+  done = s.done;
   tells = s.tells;
   told = refl;
 }
 
-module _ (T U : List Entry → Type 0) (k : (h : List Entry) → T h → U h) (p : typed.Program) (o : Option (List ℕ)) where
+module _ (T U : List Entry → Type 0) (k : (h : List Entry) → T h → U h) (p : typed.Program) (o : Outset) where
   pub stands_told : (whole : Whole) (sent : List ℕ) (m : Interpreter) (x : on.Step) (port : PortView) → Stands T p whole o sent m x port → Stands U p whole o sent m x port
   stands_told whole sent m x port s = record {
     input = s.input;
@@ -65,6 +66,7 @@ module _ (T U : List Entry → Type 0) (k : (h : List Entry) → T h → U h) (p
     input_is = s.input_is;
     output_is = s.output_is;
     bytes_are = s.bytes_are;
+    done = s.done;
     tells = s.tells;
     told = k s.history s.told;
   }
@@ -77,6 +79,7 @@ module _ (T U : List Entry → Type 0) (k : (h : List Entry) → T h → U h) (p
     input_is = s.input_is;
     output_is = s.output_is;
     bytes_are = s.bytes_are;
+    done = s.done;
     tells = s.tells;
     told = k s.history s.told;
   }
@@ -114,6 +117,7 @@ module _ (T U : List Entry → Type 0) (k : (h : List Entry) → T h → U h) (p
     clock = r.clock;
     clock_is = r.clock_is;
     sent_is = r.sent_is;
+    grows = r.grows;
     stands = stands_told (λ n. all (n + spent)) r.sent m x port r.stands;
   }
 

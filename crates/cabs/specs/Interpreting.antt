@@ -1,10 +1,11 @@
 -- What interpreting a program comes to, over a port that tells its input, and perhaps its output.
-use Rattle.std.specs.Prelude.{◌≡◌, ◌≤◌, ℕ, List, Option, None, Some, ⊤}
+use Rattle.std.specs.Prelude.{◌≡◌, ◌≤◌, ◌<◌, ℕ, zero, suc, List, [], ◌∷◌, ◌++◌, Option, None, Some, ⊤}
 use Rattle.std.specs.Io.KnownBytes.{Appends}
 use Rattle.typing_spec.specs.Program.{Program}
 use Rattle.csem.specs.Machine.{Ending, Ended, Undefined, TicksUsed}
-use Rattle.csem_events.specs.Events.{Event, Got, GotEnd}
-use Rattle.csem.specs.History.{Entry}
+use Rattle.csem_events.specs.Events.{Event, Got, GotEnd, written, taken}
+use Rattle.csem.specs.History.{Entry, trace_of}
+use Rattle.csem.specs.Store.{Store}
 use Rattle.csem.specs.Meaning.{Answer, answer, cstep, last_of}
 use Rattle.io_ports.specs.declared.port.PortFault.{PortFault}
 use Rattle.io_ports.specs.Port.{PortView, Rises}
@@ -22,13 +23,25 @@ pub record IsAnswer (a : Answer) (e : Ending) (greatest : ℕ) (old new : PortVi
 abbrev pub IsGivenUp : Program → List ℕ → ℕ → PortView → PortView → Type 0
 IsGivenUp p input ticks old new = (clock : ℕ) × ((clock ≤ ticks) × Appends old.output new.output (answer clock p input).output)
 
+-- what was got and put together is a beginning of what the run does with some clock no greater: all events up to one of them, the
+-- newest first. So no byte is held back that was put before another was got
+pub record IsBegun (p : Program) (input : List ℕ) (ticks : ℕ) (old new : PortView) : Type 0 where
+  pub clock : ℕ
+  pub within : clock ≤ ticks
+  pub events : List Event
+  pub begins : (newer : List Event) × (trace_of (last_of (cstep clock p input)).history ≡ newer ++ events)
+  pub output_is : Appends old.output new.output (written events)
+  pub left : List ℕ
+  pub left_is : new.input ≡ Some left
+  pub got_is : input ≡ taken events ++ left
+
 -- what the run of p on this input with so many ticks came to: it is the definition's, or it was given up
 abbrev pub RunMeets : Program → List ℕ → ℕ → Run → ℕ → PortView → PortView → Type 0
 RunMeets p input ticks (run.Ended status) greatest old new = IsAnswer (answer ticks p input) (Ended status) greatest old new
 RunMeets p input ticks (run.Undefined act at) greatest old new = IsAnswer (answer ticks p input) (Undefined act at) greatest old new
 RunMeets p input ticks run.TicksUsed greatest old new = IsAnswer (answer ticks p input) TicksUsed greatest old new
-RunMeets p input ticks (run.Port fault) greatest old new = IsGivenUp p input ticks old new
-RunMeets p input ticks run.Memory greatest old new = IsGivenUp p input ticks old new
+RunMeets p input ticks (run.Port fault) greatest old new = IsGivenUp p input ticks old new × IsBegun p input ticks old new
+RunMeets p input ticks run.Memory greatest old new = IsGivenUp p input ticks old new × IsBegun p input ticks old new
 
 -- ---- what an observer was told
 
@@ -44,6 +57,38 @@ IsTold T p input ticks (run.Undefined act at) = T (last_of (cstep ticks p input)
 IsTold T p input ticks run.TicksUsed = T (last_of (cstep ticks p input)).history
 IsTold T p input ticks (run.Port fault) = ⊤
 IsTold T p input ticks run.Memory = ⊤
+
+-- ---- what an observer was shown
+
+-- the objects at the first k ticks of the run of p on this input, those of the last tick first. Tick number k, counted from 0, is
+-- the one for which a clock of k ticks has nothing left
+abbrev pub moments : Program → List ℕ → ℕ → List Store
+moments p input zero = []
+moments p input (suc k) = (last_of (cstep k p input)).store ∷ moments p input k
+
+-- the run takes k ticks and ends so: no smaller clock is enough for it
+pub record Lasts (p : Program) (input : List ℕ) (k : ℕ) (e : Ending) : Type 0 where
+  pub ends : (answer k p input).ending ≡ e
+  pub waits : (j : ℕ) → j < k → (answer j p input).ending ≡ TicksUsed
+
+-- each tick of the run that ends so was shown, and nothing else
+abbrev pub IsShownWhole : (List Store → Type 0) → Program → List ℕ → ℕ → Ending → Type 0
+IsShownWhole S p input ticks e = (k : ℕ) × ((k ≤ ticks) × (Lasts p input k e × S (moments p input k)))
+
+-- its first ticks were shown, and nothing else
+abbrev pub IsShownSome : (List Store → Type 0) → Program → List ℕ → ℕ → Type 0
+IsShownSome S p input ticks = (k : ℕ) × ((k ≤ ticks) × S (moments p input k))
+
+-- what was shown are the objects of the definition's run at its ticks, each tick once, in order; where the run was given up, at its
+-- first ticks
+abbrev pub IsShown : (List Store → Type 0) → Program → List ℕ → ℕ → Run → Type 0
+IsShown S p input ticks (run.Ended status) = IsShownWhole S p input ticks (Ended status)
+IsShown S p input ticks (run.Undefined act at) = IsShownWhole S p input ticks (Undefined act at)
+IsShown S p input ticks run.TicksUsed = S (moments p input ticks)
+IsShown S p input ticks (run.Port fault) = IsShownSome S p input ticks
+IsShown S p input ticks run.Memory = IsShownSome S p input ticks
+
+-- ---- the port's failures
 
 -- the port's count of failures rose where its fault is answered, and nowhere else
 abbrev pub Counts : Run → ℕ → ℕ → Type 0

@@ -6,13 +6,14 @@ ghost use Rattle.ctypes.specs.Types.{modulo};
 ghost use Rattle.typed_ast.specs.View.{callee_of};
 ghost use Rattle.csem.specs.Expressions as meaning;
 ghost use Rattle.csem.specs.History.{Entry};
+ghost use Rattle.csem.specs.Store.{Store};
 ghost use Rattle.io_ports.specs.Port.{PortView};
 ghost use Rattle.typing_spec.specs.Program as typed;
 ghost use Rattle.interp_store.specs.layer.Frames as on;
 ghost use Rattle.interp_store.specs.layer.Agrees.{frames_of};
 ghost use Rattle.interp_store.specs.layer.Views.{found_of, passed_of, step_of};
 ghost use Rattle.cabs.specs.Interpreting.{Blames, Counts};
-ghost use Rattle.cabs.specs.inside.Standing.{ActMeets, BlamesUntil, CountsUntil, IsLeft, Knows, Nears, NearsFrom, Stands, StoppedBy, StoppingBy, Whole};
+ghost use Rattle.cabs.specs.inside.Standing.{ActMeets, BlamesUntil, CountsUntil, IsLeft, Knows, Nears, NearsFrom, Outset, Stands, StoppedBy, StoppingBy, Whole};
 
 use crate::observing::Observer;
 use crate::outcome::Run;
@@ -32,10 +33,12 @@ pub fn finish<P: Port, O: Observer>(
     observer: &mut O,
     stop: Stop,
 ) -> Run
-    ensures meets { (b : Bool) (p : typed.Program) (whole : Whole) (o : Option (List ℕ)) (sent : List ℕ) →
+    ensures meets { (b : Bool) (p : typed.Program) (whole : Whole) (o : Outset) (sent : List ℕ) →
         StoppingBy (Knows b (O.told observer.old)) p whole o sent stop interpreter.old (P.seen port.old) → StoppedBy (Knows b (O.told observer.new)) p whole o sent result interpreter.new.tally (P.seen port.new) }
     ensures counts { Counts result (P.seen port.old).failures (P.seen port.new).failures }
     ensures fault { Blames (P.refused_with port.new) result }
+    ensures shown { (l : List Store) → O.shown observer.old l → O.shown observer.new l }
+    ensures always { O.always observer.old → O.always observer.new }
 {
     observer.stops(&stop);
     match stop {
@@ -60,11 +63,13 @@ fn act_found<'p, P: Port, O: Observer>(
     observer: &mut O,
     found: Found,
 ) -> Result<Step<'p>, Run>
-    ensures meets { (b : Bool) (p : typed.Program) (whole : Whole) (o : Option (List ℕ)) (sent : List ℕ) →
+    ensures meets { (b : Bool) (p : typed.Program) (whole : Whole) (o : Outset) (sent : List ℕ) →
         Stands (Knows b (O.told observer.old)) p whole o sent interpreter.old (on.leaves (found_of found)) (P.seen port.old) → ActMeets (Knows b (O.told observer.new)) p whole o sent result interpreter.new (P.seen port.new) }
     ensures nears { Nears (frames_of interpreter.old.machine) (on.leaves (found_of found)) result (frames_of interpreter.new.machine) }
     ensures counts { CountsUntil result (P.seen port.old).failures (P.seen port.new).failures }
     ensures fault { BlamesUntil (P.refused_with port.new) result }
+    ensures shown { (l : List Store) → O.shown observer.old l → O.shown observer.new l }
+    ensures always { O.always observer.old → O.always observer.new }
 {
     let Some(frame) = interpreter.machine.pop() else {
         return Err(Run::TicksUsed);
@@ -88,12 +93,14 @@ fn get<'p, P: Port, O: Observer>(
     port: &mut P,
     observer: &mut O,
 ) -> Result<Step<'p>, Run>
-    ensures meets { (b : Bool) (p : typed.Program) (whole : Whole) (o : Option (List ℕ)) (sent : List ℕ) (at : Pos) (used : Bool) (passed : List meaning.Passed) →
+    ensures meets { (b : Bool) (p : typed.Program) (whole : Whole) (o : Outset) (sent : List ℕ) (at : Pos) (used : Bool) (passed : List meaning.Passed) →
         Stands (Knows b (O.told observer.old)) p whole o sent interpreter.old (on.calls at typed.get_byte used passed) (P.seen port.old) → ActMeets (Knows b (O.told observer.new)) p whole o sent result interpreter.new (P.seen port.new) }
     ensures found { IfOk result (λ x. IsLeft x) }
     ensures machine { interpreter.new.machine ≡ interpreter.old.machine }
     ensures counts { CountsUntil result (P.seen port.old).failures (P.seen port.new).failures }
     ensures fault { BlamesUntil (P.refused_with port.new) result }
+    ensures shown { (l : List Store) → O.shown observer.old l → O.shown observer.new l }
+    ensures always { O.always observer.old → O.always observer.new }
 {
     if interpreter.kept.is_some() {
         return Err(Run::Memory);
@@ -119,12 +126,14 @@ fn put<'p, O: Observer>(
     observer: &mut O,
     byte: u8,
 ) -> Result<Step<'p>, Run>
-    ensures meets { (b : Bool) (p : typed.Program) (whole : Whole) (o : Option (List ℕ)) (sent : List ℕ) (at : Pos) (used : Bool) (passed : List meaning.Passed) (port : PortView) →
+    ensures meets { (b : Bool) (p : typed.Program) (whole : Whole) (o : Outset) (sent : List ℕ) (at : Pos) (used : Bool) (passed : List meaning.Passed) (port : PortView) →
         byte ≡ modulo 8 (meaning.first_number passed) →
         Stands (Knows b (O.told observer.old)) p whole o sent interpreter.old (on.calls at typed.put_byte used passed) port → ActMeets (Knows b (O.told observer.new)) p whole o sent result interpreter.new port }
     ensures found { IfOk result (λ x. IsLeft x) }
     ensures machine { interpreter.new.machine ≡ interpreter.old.machine }
     ensures memory { IfErr result (λ run. run ≡ Run.Memory) }
+    ensures shown { (l : List Store) → O.shown observer.old l → O.shown observer.new l }
+    ensures always { O.always observer.old → O.always observer.new }
 {
     match interpreter.kept {
         Some(_) => Err(Run::Memory),
@@ -143,7 +152,9 @@ fn tell_call<O: Observer>(
     callee: Callee,
     passed: &[Passed],
 )
-    ensures { (h : List Entry) → O.told observer.old h → O.told observer.new h }
+    ensures told { (h : List Entry) → O.told observer.old h → O.told observer.new h }
+    ensures shown { (l : List Store) → O.shown observer.old l → O.shown observer.new l }
+    ensures always { O.always observer.old → O.always observer.new }
 {
     if let Callee::Function(f) = callee {
         observer.enters(f, passed, &interpreter.machine.scene);
@@ -162,12 +173,14 @@ fn act_call<'p, P: Port, O: Observer>(
     used: bool,
     passed: &[Passed],
 ) -> Result<Step<'p>, Run>
-    ensures meets { (b : Bool) (p : typed.Program) (whole : Whole) (o : Option (List ℕ)) (sent : List ℕ) →
+    ensures meets { (b : Bool) (p : typed.Program) (whole : Whole) (o : Outset) (sent : List ℕ) →
         Stands (Knows b (O.told observer.old)) p whole o sent interpreter.old (on.calls at (callee_of callee) used (map passed_of passed.now)) (P.seen port.old) →
         ActMeets (Knows b (O.told observer.new)) p whole o sent result interpreter.new (P.seen port.new) }
     ensures nears { Nears (frames_of interpreter.old.machine) (on.calls at (callee_of callee) used (map passed_of passed.now)) result (frames_of interpreter.new.machine) }
     ensures counts { CountsUntil result (P.seen port.old).failures (P.seen port.new).failures }
     ensures fault { BlamesUntil (P.refused_with port.new) result }
+    ensures shown { (l : List Store) → O.shown observer.old l → O.shown observer.new l }
+    ensures always { O.always observer.old → O.always observer.new }
 {
     match interpreter.count_call(observer, callee) {
         Ok(()) => {}
@@ -193,11 +206,13 @@ pub fn act<'p, P: Port, O: Observer>(
     observer: &mut O,
     next: Step<'p>,
 ) -> Result<Step<'p>, Run>
-    ensures meets { (b : Bool) (p : typed.Program) (whole : Whole) (o : Option (List ℕ)) (sent : List ℕ) →
+    ensures meets { (b : Bool) (p : typed.Program) (whole : Whole) (o : Outset) (sent : List ℕ) →
         Stands (Knows b (O.told observer.old)) p whole o sent interpreter.old (step_of next.entry) (P.seen port.old) → ActMeets (Knows b (O.told observer.new)) p whole o sent result interpreter.new (P.seen port.new) }
     ensures nears { NearsFrom (frames_of interpreter.old.machine) (step_of next.entry) result (frames_of interpreter.new.machine) }
     ensures counts { CountsUntil result (P.seen port.old).failures (P.seen port.new).failures }
     ensures fault { BlamesUntil (P.refused_with port.new) result }
+    ensures shown { (l : List Store) → O.shown observer.old l → O.shown observer.new l }
+    ensures always { O.always observer.old → O.always observer.new }
 {
     match next {
         Step::Enters(node) => Ok(Step::Enters(node)),

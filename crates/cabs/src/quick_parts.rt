@@ -9,7 +9,7 @@ ghost use Rattle.interp_store.specs.layer.Views.{node_of};
 ghost use Rattle.interp_eval.specs.declared.clock.Why.TheVariants.{Elsewhere};
 ghost use Rattle.interp_eval.specs.layer.Quick.{quick_node};
 ghost use Rattle.io_ports.specs.Port.{PortView};
-ghost use Rattle.cabs.specs.inside.Standing.{IsCalm, MeetsAt, Spends, Stands, Whole, stopped_for};
+ghost use Rattle.cabs.specs.inside.Standing.{Grows, IsCalm, MeetsAt, Outset, Spends, Stands, Whole, stopped_for};
 
 use crate::outcome::Run;
 use crate::state::Interpreter;
@@ -49,7 +49,7 @@ pub fn at_once<'p>(
     limit: u64,
 ) -> Result<Step<'p>, Run>
     requires quick { quick_node (node_of node.now) ≡ true }
-    ensures meets { (h : List Entry) (p : typed.Program) (all : Whole) (o : Option (List ℕ)) (sent : List ℕ) (port : PortView) → spent.old < limit →
+    ensures meets { (h : List Entry) (p : typed.Program) (all : Whole) (o : Outset) (sent : List ℕ) (port : PortView) → spent.old < limit → Grows all →
         Stands (λ g. g ≡ h) p (λ n. all (n + spent.old)) o sent interpreter.old (on.enters (node_of node.now)) port → interpreter.old.kept ≡ None →
         MeetsAt (λ g. g ≡ h) p all o limit result spent.new interpreter.new port }
     ensures spends { Spends result spent.old spent.new limit }

@@ -1,15 +1,19 @@
 //! Ticks, and the run.
 
 ghost use Rattle.std.specs.Bool.{OnTrue};
-ghost use Rattle.std.specs.Prelude.{◌≡◌, ◌<◌, [], ℕ, Bool, List, Option, Some, true};
+ghost use Rattle.std.specs.Prelude.{◌≡◌, ◌<◌, ◌∷◌, [], ℕ, Bool, List, Option, Some, true, false};
 ghost use Rattle.typing_spec.specs.Program as typed;
 ghost use Rattle.typed_ast.specs.View.{program_of};
 ghost use Rattle.interp_store.specs.layer.Frames as on;
+ghost use Rattle.interp_store.specs.layer.Agrees.{Takes};
+ghost use Rattle.interp_store.specs.layer.Steps.{entered};
 ghost use Rattle.interp_store.specs.layer.Views.{node_of, step_of};
+ghost use Rattle.interp_store.specs.View.{store_of};
 ghost use Rattle.interp_eval.specs.layer.Quick.{quick_node};
 ghost use Rattle.csem.specs.History.{Entry};
-ghost use Rattle.cabs.specs.Interpreting.{Blames, Counts, IsTold, RunMeets};
-ghost use Rattle.cabs.specs.inside.Standing.{BlamesUntil, CountsUntil, Fresh, Knows, MeetsAt, RunStops, Runs, SettleMeets, Spends, Stands, Whole};
+ghost use Rattle.csem.specs.Store.{Store};
+ghost use Rattle.cabs.specs.Interpreting.{Blames, Counts, IsShown, IsTold, RunMeets};
+ghost use Rattle.cabs.specs.inside.Standing.{BlamesUntil, CountsUntil, Fresh, Knows, MeetsAt, Outset, RunStops, Runs, SettleMeets, Showing, ShowsAt, ShowsUntil, Spends, Stands, Whole};
 
 use crate::acting::{act, finish};
 use crate::observing::{Observer, Unobserved};
@@ -20,6 +24,7 @@ use crate::state::Interpreter;
 use interp_eval::quick::is_quick_node;
 use interp_steps::nodes::enter;
 use interp_store::frames::{Back, Node, Step};
+use interp_store::stop::Stop;
 use interp_transitions::calls::call_function;
 use io_ports::Port;
 use std::alloc::Global;
@@ -34,7 +39,7 @@ fn reach<'p, P: Port>(
     port: &mut P,
     node: Node<'p>,
 ) -> Result<Node<'p>, Run>
-    ensures meets { (h : List Entry) (p : typed.Program) (whole : Whole) (o : Option (List ℕ)) (sent : List ℕ) →
+    ensures meets { (h : List Entry) (p : typed.Program) (whole : Whole) (o : Outset) (sent : List ℕ) →
         Stands (λ g. g ≡ h) p whole o sent interpreter.old (on.enters (node_of node.entry)) (P.seen port.old) → SettleMeets (λ g. g ≡ h) p whole o sent result interpreter.new (P.seen port.new) }
     ensures counts { CountsUntil result (P.seen port.old).failures (P.seen port.new).failures }
     ensures fault { BlamesUntil (P.refused_with port.new) result }
@@ -54,8 +59,10 @@ fn settle<'p, P: Port, O: Observer>(
     observer: &mut O,
     first: Step<'p>,
 ) -> Result<Node<'p>, Run>
-    ensures meets { (b : Bool) (p : typed.Program) (whole : Whole) (o : Option (List ℕ)) (sent : List ℕ) →
+    ensures meets { (b : Bool) (p : typed.Program) (whole : Whole) (o : Outset) (sent : List ℕ) →
         Stands (Knows b (O.told observer.old)) p whole o sent interpreter.old (step_of first.entry) (P.seen port.old) → SettleMeets (Knows b (O.told observer.new)) p whole o sent result interpreter.new (P.seen port.new) }
+    ensures shown { (l : List Store) → O.shown observer.old l → O.shown observer.new l }
+    ensures always { O.always observer.old → O.always observer.new }
     ensures counts { CountsUntil result (P.seen port.old).failures (P.seen port.new).failures }
     ensures fault { BlamesUntil (P.refused_with port.new) result }
 {
@@ -74,9 +81,31 @@ fn settle<'p, P: Port, O: Observer>(
 /// Whether a node is done as a whole: it calls nothing, and nobody is told of its ticks.
 #[inline(always)]
 fn is_whole<O: Observer>(observer: &O, node: &Node<'_>) -> bool
-    ensures { OnTrue result (quick_node (node_of node.now) ≡ true) }
+    ensures quick { OnTrue result (quick_node (node_of node.now) ≡ true) }
+    ensures asked { O.always observer.now → result ≡ false }
 {
     !observer.wants_ticks() && is_quick_node(node)
+}
+
+/// A node takes its tick, of which the observer is told before.
+///
+/// Errors: why there is no next step.
+#[inline(always)]
+fn take_tick<'p, O: Observer>(
+    interpreter: &mut Interpreter<'p>,
+    observer: &mut O,
+    node: Node<'p>,
+) -> Result<Step<'p>, Stop>
+    ensures takes { Takes (λ p s. entered p (node_of node.entry) s) interpreter.old.machine result interpreter.new.machine }
+    ensures program { interpreter.new.machine.program ≡ interpreter.old.machine.program }
+    ensures tally { interpreter.new.tally ≡ interpreter.old.tally }
+    ensures kept { interpreter.new.kept ≡ interpreter.old.kept }
+    ensures told { (h : List Entry) → O.told observer.old h → O.told observer.new h }
+    ensures shown { (l : List Store) → O.shown observer.old l → O.shown observer.new (store_of interpreter.old.machine.scene.store ∷ l) }
+    ensures always { O.always observer.old → O.always observer.new }
+{
+    observer.begins(&node, &interpreter.machine.scene);
+    enter(&mut interpreter.machine, node)
 }
 
 /// What takes the next tick: as a whole where it calls nothing, else one tick and the step behind it.
@@ -91,8 +120,12 @@ fn tick<'p, P: Port, O: Observer>(
     limit: u64,
 ) -> Result<Step<'p>, Run>
     requires room { spent.old < limit }
-    ensures meets { (b : Bool) (p : typed.Program) (all : Whole) (o : Option (List ℕ)) →
+    ensures meets { (b : Bool) (p : typed.Program) (all : Whole) (o : Outset) →
         Runs (Knows b (O.told observer.old)) p all o spent.old interpreter.old (step_of next.entry) (P.seen port.old) → MeetsAt (Knows b (O.told observer.new)) p all o limit result spent.new interpreter.new (P.seen port.new) }
+    ensures shows { (b : Bool) (p : typed.Program) (all : Whole) (o : Outset) →
+        Runs (Knows b (O.told observer.old)) p all o spent.old interpreter.old (step_of next.entry) (P.seen port.old) → O.always observer.old → Showing (O.shown observer.old) all spent.old →
+        ShowsAt (O.shown observer.new) all limit result spent.new }
+    ensures always { O.always observer.old → O.always observer.new }
     ensures spends { Spends result spent.old spent.new limit }
     ensures counts { CountsUntil result (P.seen port.old).failures (P.seen port.new).failures }
     ensures fault { BlamesUntil (P.refused_with port.new) result }
@@ -106,8 +139,7 @@ fn tick<'p, P: Port, O: Observer>(
         return at_once(interpreter, &node, spent, limit);
     }
     *spent += 1;
-    observer.begins(&node, &interpreter.machine.scene);
-    match enter(&mut interpreter.machine, node) {
+    match take_tick(interpreter, observer, node) {
         Ok(then) => Ok(then),
         Err(stop) => Err(finish(interpreter, port, observer, stop)),
     }
@@ -121,8 +153,11 @@ fn run_on<'p, P: Port, O: Observer>(
     first: Step<'p>,
     ticks: u64,
 ) -> Run
-    ensures meets { (b : Bool) (p : typed.Program) (all : Whole) (o : Option (List ℕ)) →
+    ensures meets { (b : Bool) (p : typed.Program) (all : Whole) (o : Outset) →
         Runs (Knows b (O.told observer.old)) p all o 0 interpreter.old (step_of first.entry) (P.seen port.old) → RunStops (Knows b (O.told observer.new)) p all o ticks result interpreter.new.tally (P.seen port.new) }
+    ensures shows { (b : Bool) (p : typed.Program) (all : Whole) (o : Outset) →
+        Runs (Knows b (O.told observer.old)) p all o 0 interpreter.old (step_of first.entry) (P.seen port.old) → O.always observer.old → Showing (O.shown observer.old) all 0 →
+        ShowsUntil (O.shown observer.new) all ticks result }
     ensures counts { Counts result (P.seen port.old).failures (P.seen port.new).failures }
     ensures fault { Blames (P.refused_with port.new) result }
 {
@@ -151,6 +186,8 @@ fn start<P: Port, O: Observer>(
 ) -> Run
     ensures meets { (b : Bool) (input : List ℕ) → (P.seen port.old).input ≡ Some input → Fresh interpreter.old → Knows b (O.told observer.old) [] → let p = program_of interpreter.old.machine.program.now in
         RunMeets p input ticks result interpreter.new.tally.greatest (P.seen port.old) (P.seen port.new) × OnTrue b (IsTold (O.told observer.new) p input ticks result) }
+    ensures shown { (input : List ℕ) → (P.seen port.old).input ≡ Some input → Fresh interpreter.old → O.always observer.old → O.shown observer.old [] →
+        IsShown (O.shown observer.new) (program_of interpreter.old.machine.program.now) input ticks result }
     ensures counts { Counts result (P.seen port.old).failures (P.seen port.new).failures }
     ensures fault { Blames (P.refused_with port.new) result }
 {
@@ -186,7 +223,8 @@ pub fn interpret<P: Port>(alloc: Global, program: &Program, port: &mut P, ticks:
 
 /// What `interpret` answers, and while the program runs the observer is told what it does.
 ///
-/// An observer that was told nothing is told the history of the abstract machine, unless the run is given up.
+/// An observer that was told nothing is told the history of the abstract machine, unless the run is given up. One that always asks for
+/// all ticks is told of each as it comes, with the objects that the abstract machine has there.
 pub fn observe<P: Port, O: Observer>(
     alloc: Global,
     program: &Program,
@@ -197,6 +235,7 @@ pub fn observe<P: Port, O: Observer>(
     ensures meets { (input : List ℕ) → (P.seen port.old).input ≡ Some input →
         RunMeets (program_of program.now) input ticks result.run result.greatest (P.seen port.old) (P.seen port.new) }
     ensures told { (input : List ℕ) → (P.seen port.old).input ≡ Some input → O.told observer.old [] → IsTold (O.told observer.new) (program_of program.now) input ticks result.run }
+    ensures shown { (input : List ℕ) → (P.seen port.old).input ≡ Some input → O.always observer.old → O.shown observer.old [] → IsShown (O.shown observer.new) (program_of program.now) input ticks result.run }
     ensures counts { Counts result.run (P.seen port.old).failures (P.seen port.new).failures }
     ensures fault { Blames (P.refused_with port.new) result.run }
 {

@@ -5,7 +5,7 @@ ghost use Rattle.std.specs.Io.KnownBytes.{Appends, Keeps};
 ghost use Rattle.typing_spec.specs.Program as typed;
 ghost use Rattle.typed_ast.specs.View.{callee_of, program_of};
 ghost use Rattle.csem.specs.History.{Entered, Entry, weight_in};
-ghost use Rattle.csem.specs.Store.{first_store};
+ghost use Rattle.csem.specs.Store.{Store, first_store};
 ghost use Rattle.interp_store.specs.declared.stop.Stop.TheVariants.{Memory};
 ghost use Rattle.interp_store.specs.layer.Agrees.{Outside, frames_of, state_in};
 ghost use Rattle.interp_store.specs.layer.Views.{flow_frame, found_of, frame_of};
@@ -96,6 +96,8 @@ impl<'p> Interpreter<'p> {
     pub fn count_end<O: Observer>(&mut self, observer: &mut O, frame: &Frame<'p>, found: &Found)
         ensures tells { (p : typed.Program) (h : List Entry) → Tells p h self.old.tally → Tells p (history_left (frame_of frame.now) (found_of found.now) h) self.new.tally }
         ensures told { (h : List Entry) → O.told observer.old h → O.told observer.new (history_left (frame_of frame.now) (found_of found.now) h) }
+        ensures shown { (l : List Store) → O.shown observer.old l → O.shown observer.new l }
+        ensures always { O.always observer.old → O.always observer.new }
         ensures machine { self.new.machine ≡ self.old.machine }
         ensures kept { self.new.kept ≡ self.old.kept }
     {
@@ -113,6 +115,8 @@ impl<'p> Interpreter<'p> {
             Tells p h self.old.tally → OnOk result (Tells p (history_called p (callee_of callee) h) self.new.tally) }
         ensures told { (h : List Entry) → let p = program_of self.old.machine.program.now in
             O.told observer.old h → OnOk result (O.told observer.new (history_called p (callee_of callee) h)) }
+        ensures shown { (l : List Store) → O.shown observer.old l → O.shown observer.new l }
+        ensures always { O.always observer.old → O.always observer.new }
         ensures machine { self.new.machine ≡ self.old.machine }
         ensures kept { self.new.kept ≡ self.old.kept }
     {
@@ -133,6 +137,8 @@ impl<'p> Interpreter<'p> {
             Tells p h self.old.tally → OnOk result (Tells p (history_called p (typed.function f) h) self.new.tally) }
         ensures told { (h : List Entry) → let p = program_of self.old.machine.program.now in
             O.told observer.old h → OnOk result (O.told observer.new (history_called p (typed.function f) h)) }
+        ensures shown { (l : List Store) → O.shown observer.old l → O.shown observer.new l }
+        ensures always { O.always observer.old → O.always observer.new }
         ensures machine { self.new.machine ≡ self.old.machine }
         ensures kept { self.new.kept ≡ self.old.kept }
     {
@@ -154,6 +160,8 @@ impl<'p> Interpreter<'p> {
     ) -> Result<(), Stop>
         ensures tells { (p : typed.Program) (h : List Entry) → weight_in p f ≡ weight → Tells p h self.old.tally → OnOk result (Tells p (Entered f ∷ h) self.new.tally) }
         ensures told { (h : List Entry) → O.told observer.old h → OnOk result (O.told observer.new (Entered f ∷ h)) }
+        ensures shown { (l : List Store) → O.shown observer.old l → O.shown observer.new l }
+        ensures always { O.always observer.old → O.always observer.new }
         ensures machine { self.new.machine ≡ self.old.machine }
         ensures kept { self.new.kept ≡ self.old.kept }
     {

@@ -1,14 +1,14 @@
 -- Where a run stands between two steps, and how it stops, over a port that tells its input.
-use Rattle.std.specs.Prelude.{◌≡◌, ◌≤◌, ◌<◌, ◌⊎◌, ℕ, ◌+◌, ◌*◌, List, [], ◌∷◌, ◌++◌, length, Bool, true, false, Option, Some, None, Result, Ok, Err, ⊤, slice_get}
+use Rattle.std.specs.Prelude.{◌≡◌, ◌≤◌, ◌<◌, ◌⊎◌, ℕ, zero, suc, ◌+◌, ◌*◌, List, [], ◌∷◌, ◌++◌, length, Bool, true, false, Option, Some, None, Result, Ok, Err, ⊤, slice_get}
 use Rattle.std.specs.Bool.{OnTrue}
 use Rattle.std.specs.Io.KnownBytes.{Appends}
-use Rattle.csem_events.specs.Events.{written}
+use Rattle.csem_events.specs.Events.{Event, Put, written, taken}
 use Rattle.typing_spec.specs.Program as typed
 use Rattle.typed_ast.specs.View.{program_of}
 use Rattle.csem.specs.History.{Entry, Entered, Left, trace_of}
 use Rattle.csem.specs.Machine as machine
 use Rattle.csem.specs.Machine.{Ending, State, Stops, Goes}
-use Rattle.csem.specs.Store.{first_store}
+use Rattle.csem.specs.Store.{Store, first_store}
 use Rattle.csem.specs.Meaning.{last_of}
 use Rattle.interp_store.specs.declared.stop.Stop.{Stop}
 use Rattle.interp_store.specs.declared.stop.Stop.TheVariants as stop
@@ -96,16 +96,56 @@ waiting (Some b) = b ∷ []
 abbrev pub bytes_of : List Entry → List ℕ
 bytes_of h = written (trace_of h)
 
--- the run `whole`, a function of the ticks that are left, is at this machine and this step; the output was o, and these bytes
+-- what the port told before the run
+pub record Outset : Type 0 where
+  pub input : List ℕ
+  pub output : Option (List ℕ)
+
+-- the event of the byte that waits
+abbrev pub unsent : Option ℕ → List Event
+unsent None = []
+unsent (Some b) = Put b ∷ []
+
+-- what a history did before the byte that waits: its bytes were sent, and what it got is gone from the input
+pub record Done (start : List ℕ) (h : List Entry) (input sent : List ℕ) (kept : Option ℕ) : Type 0 where
+  pub events : List Event
+  pub events_are : trace_of h ≡ unsent kept ++ events
+  pub sent_are : written events ≡ sent
+  pub got_is : start ≡ taken events ++ input
+
+-- what this history did is what the run did first
+abbrev pub Adds : List Entry → machine.Run on.Found → Type 0
+Adds h r = (newer : List Event) × (trace_of (last_of r).history ≡ newer ++ trace_of h)
+
+-- with each tick a run does what it did without, and perhaps more
+abbrev pub Grows : Whole → Type 0
+Grows all = (k : ℕ) → Adds (last_of (all k)).history (all (suc k))
+
+-- what was got and put is what the run does first
+pub record Begins (whole : machine.Run on.Found) (o : Outset) (port : PortView) : Type 0 where
+  pub events : List Event
+  pub begins : (newer : List Event) × (trace_of (last_of whole).history ≡ newer ++ events)
+  pub output_is : Appends o.output port.output (written events)
+  pub left : List ℕ
+  pub left_is : port.input ≡ Some left
+  pub got_is : o.input ≡ taken events ++ left
+
+-- a run that is given up, where these bytes were sent
+pub record GivenUp (whole : Whole) (o : Outset) (sent : List ℕ) (port : PortView) : Type 0 where
+  pub output_is : Appends o.output port.output sent
+  pub begins : Begins (whole 0) o port
+
+-- the run `whole`, a function of the ticks that are left, is at this machine and this step; the port was as o says, and these bytes
 -- were sent since
-pub record Stands (T : List Entry → Type 0) (p : typed.Program) (whole : Whole) (o : Option (List ℕ)) (sent : List ℕ) (m : Interpreter) (x : on.Step) (port : PortView) : Type 0 where
+pub record Stands (T : List Entry → Type 0) (p : typed.Program) (whole : Whole) (o : Outset) (sent : List ℕ) (m : Interpreter) (x : on.Step) (port : PortView) : Type 0 where
   pub input : List ℕ
   pub history : List Entry
   pub program_is : program_of m.machine.program.now ≡ p
   pub follows : (n : ℕ) → left_of p (frames_of m.machine) m.machine.scene x input history n ≡ whole n
   pub input_is : port.input ≡ Some input
-  pub output_is : Appends o port.output sent
+  pub output_is : Appends o.output port.output sent
   pub bytes_are : bytes_of history ≡ sent ++ waiting m.kept
+  pub done : Done o.input history input sent m.kept
   pub tells : Tells p history m.tally
   pub told : T history
 
@@ -121,28 +161,29 @@ abbrev pub StopsAt : Whole → Ending → List ℕ → List Entry → Type 0
 StopsAt whole e input h = (n : ℕ) → StopsAs (whole n) e input h
 
 -- before a byte that waits is sent
-pub record Stopping (T : List Entry → Type 0) (p : typed.Program) (whole : Whole) (o : Option (List ℕ)) (sent : List ℕ) (e : Ending) (m : Interpreter) (port : PortView) : Type 0 where
+pub record Stopping (T : List Entry → Type 0) (p : typed.Program) (whole : Whole) (o : Outset) (sent : List ℕ) (e : Ending) (m : Interpreter) (port : PortView) : Type 0 where
   pub input : List ℕ
   pub history : List Entry
   pub stops : StopsAt whole e input history
   pub input_is : port.input ≡ Some input
-  pub output_is : Appends o port.output sent
+  pub output_is : Appends o.output port.output sent
   pub bytes_are : bytes_of history ≡ sent ++ waiting m.kept
+  pub done : Done o.input history input sent m.kept
   pub tells : Tells p history m.tally
   pub told : T history
 
-abbrev pub StoppingBy : (List Entry → Type 0) → typed.Program → Whole → Option (List ℕ) → List ℕ → Stop → Interpreter → PortView → Type 0
+abbrev pub StoppingBy : (List Entry → Type 0) → typed.Program → Whole → Outset → List ℕ → Stop → Interpreter → PortView → Type 0
 StoppingBy T p whole o sent (stop.Ended status) m port = Stopping T p whole o sent (machine.Ended status) m port
 StoppingBy T p whole o sent (stop.Undefined act at) m port = Stopping T p whole o sent (machine.Undefined act at) m port
-StoppingBy T p whole o sent stop.Memory m port = Appends o port.output sent
+StoppingBy T p whole o sent stop.Memory m port = GivenUp whole o sent port
 
 -- and behind it
-pub record Stopped (T : List Entry → Type 0) (p : typed.Program) (whole : Whole) (o : Option (List ℕ)) (e : Ending) (tally : Tally) (port : PortView) : Type 0 where
+pub record Stopped (T : List Entry → Type 0) (p : typed.Program) (whole : Whole) (o : Outset) (e : Ending) (tally : Tally) (port : PortView) : Type 0 where
   pub input : List ℕ
   pub history : List Entry
   pub stops : StopsAt whole e input history
   pub input_is : port.input ≡ Some input
-  pub output_is : Appends o port.output (bytes_of history)
+  pub output_is : Appends o.output port.output (bytes_of history)
   pub tells : Tells p history tally
   pub told : T history
 
@@ -151,12 +192,12 @@ abbrev pub Rests : Whole → Type 0
 Rests whole = (n : ℕ) → (x : on.Found) × ((s : State) × (whole n ≡ Goes x s))
 
 -- how a run stops between two ticks, where these bytes were sent before
-abbrev pub StoppedBy : (List Entry → Type 0) → typed.Program → Whole → Option (List ℕ) → List ℕ → Run → Tally → PortView → Type 0
+abbrev pub StoppedBy : (List Entry → Type 0) → typed.Program → Whole → Outset → List ℕ → Run → Tally → PortView → Type 0
 StoppedBy T p whole o sent (run.Ended status) tally port = Stopped T p whole o (machine.Ended status) tally port
 StoppedBy T p whole o sent (run.Undefined act at) tally port = Stopped T p whole o (machine.Undefined act at) tally port
 StoppedBy T p whole o sent run.TicksUsed tally port = Rests whole
-StoppedBy T p whole o sent (run.Port fault) tally port = Appends o port.output sent
-StoppedBy T p whole o sent run.Memory tally port = Appends o port.output sent
+StoppedBy T p whole o sent (run.Port fault) tally port = GivenUp whole o sent port
+StoppedBy T p whole o sent run.Memory tally port = GivenUp whole o sent port
 
 abbrev pub IsLeft : Step → Type 0
 IsLeft (step.Enters n) = ⊥
@@ -174,7 +215,7 @@ NearsFrom fs (on.leaves x) r gs = Nears fs (on.leaves x) r gs
 NearsFrom fs (on.calls at callee used passed) r gs = Nears fs (on.calls at callee used passed) r gs
 
 -- what one step came to
-abbrev pub ActMeets : (List Entry → Type 0) → typed.Program → Whole → Option (List ℕ) → List ℕ → Result Step Run → Interpreter → PortView → Type 0
+abbrev pub ActMeets : (List Entry → Type 0) → typed.Program → Whole → Outset → List ℕ → Result Step Run → Interpreter → PortView → Type 0
 ActMeets T p whole o sent (Ok x) m port = Stands T p whole o sent m (step_of x) port
 ActMeets T p whole o sent (Err r) m port = StoppedBy T p whole o sent r m.tally port
 
@@ -191,29 +232,39 @@ BlamesUntil P (Err r) = Blames P r
 -- ---- nodes and ticks
 
 -- a node takes the next tick, and no byte waits
-abbrev pub SettleMeets : (List Entry → Type 0) → typed.Program → Whole → Option (List ℕ) → List ℕ → Result Node Run → Interpreter → PortView → Type 0
+abbrev pub SettleMeets : (List Entry → Type 0) → typed.Program → Whole → Outset → List ℕ → Result Node Run → Interpreter → PortView → Type 0
 SettleMeets T p whole o sent (Ok n) m port = (now : List ℕ) × (Stands T p whole o now m (on.enters (node_of n)) port × (m.kept ≡ None))
 SettleMeets T p whole o sent (Err r) m port = StoppedBy T p whole o sent r m.tally port
 
 -- the run `all`, a function of its clock, of which so many ticks are spent; what was sent are the bytes of a clock no greater
-pub record Runs (T : List Entry → Type 0) (p : typed.Program) (all : Whole) (o : Option (List ℕ)) (spent : ℕ) (m : Interpreter) (x : on.Step) (port : PortView) : Type 0 where
+pub record Runs (T : List Entry → Type 0) (p : typed.Program) (all : Whole) (o : Outset) (spent : ℕ) (m : Interpreter) (x : on.Step) (port : PortView) : Type 0 where
   pub sent : List ℕ
   pub clock : ℕ
   pub clock_is : clock ≤ spent
   pub sent_is : sent ≡ bytes_of (last_of (all clock)).history
+  pub grows : Grows all
   pub stands : Stands T p (λ n. all (n + spent)) o sent m x port
 
 -- what was sent are the bytes of a clock no greater
-abbrev pub IsEarlier : Whole → Option (List ℕ) → ℕ → PortView → Type 0
-IsEarlier all o spent port = (clock : ℕ) × ((clock ≤ spent) × Appends o port.output (bytes_of (last_of (all clock)).history))
+abbrev pub IsEarlier : Whole → Outset → ℕ → PortView → Type 0
+IsEarlier all o spent port = (clock : ℕ) × ((clock ≤ spent) × Appends o.output port.output (bytes_of (last_of (all clock)).history))
+
+-- what was got and put is what the run with a clock no greater does first
+abbrev pub IsFirst : Whole → Outset → ℕ → PortView → Type 0
+IsFirst all o spent port = (clock : ℕ) × ((clock ≤ spent) × Begins (all clock) o port)
+
+-- a run of no more ticks is given up
+pub record GivenUpBy (all : Whole) (o : Outset) (spent : ℕ) (port : PortView) : Type 0 where
+  pub earlier : IsEarlier all o spent port
+  pub first : IsFirst all o spent port
 
 -- how a run stops that has so many ticks or more
-abbrev pub StopsBy : (List Entry → Type 0) → typed.Program → Whole → Option (List ℕ) → ℕ → Run → Tally → PortView → Type 0
+abbrev pub StopsBy : (List Entry → Type 0) → typed.Program → Whole → Outset → ℕ → Run → Tally → PortView → Type 0
 StopsBy T p all o spent (run.Ended status) tally port = Stopped T p (λ n. all (n + spent)) o (machine.Ended status) tally port
 StopsBy T p all o spent (run.Undefined act at) tally port = Stopped T p (λ n. all (n + spent)) o (machine.Undefined act at) tally port
 StopsBy T p all o spent run.TicksUsed tally port = Rests (λ n. all (n + spent))
-StopsBy T p all o spent (run.Port fault) tally port = IsEarlier all o spent port
-StopsBy T p all o spent run.Memory tally port = IsEarlier all o spent port
+StopsBy T p all o spent (run.Port fault) tally port = GivenUpBy all o spent port
+StopsBy T p all o spent run.Memory tally port = GivenUpBy all o spent port
 
 -- ---- the whole run
 
@@ -226,22 +277,22 @@ pub record Fresh (m : Interpreter) : Type 0 where
   pub none_told : (p : typed.Program) → Tells p [] m.tally
 
 -- the run stops so, with this input left and this history
-pub record EndsAs (T : List Entry → Type 0) (p : typed.Program) (whole : machine.Run on.Found) (o : Option (List ℕ)) (e : Ending) (tally : Tally) (port : PortView) : Type 0 where
+pub record EndsAs (T : List Entry → Type 0) (p : typed.Program) (whole : machine.Run on.Found) (o : Outset) (e : Ending) (tally : Tally) (port : PortView) : Type 0 where
   pub input : List ℕ
   pub history : List Entry
   pub stops : StopsAs whole e input history
   pub input_is : port.input ≡ Some input
-  pub output_is : Appends o port.output (bytes_of history)
+  pub output_is : Appends o.output port.output (bytes_of history)
   pub tells : Tells p history tally
   pub told : T history
 
 -- how a run of so many ticks stops
-abbrev pub RunStops : (List Entry → Type 0) → typed.Program → Whole → Option (List ℕ) → ℕ → Run → Tally → PortView → Type 0
+abbrev pub RunStops : (List Entry → Type 0) → typed.Program → Whole → Outset → ℕ → Run → Tally → PortView → Type 0
 RunStops T p all o ticks (run.Ended status) tally port = EndsAs T p (all ticks) o (machine.Ended status) tally port
 RunStops T p all o ticks (run.Undefined act at) tally port = EndsAs T p (all ticks) o (machine.Undefined act at) tally port
 RunStops T p all o ticks run.TicksUsed tally port = EndsAs T p (all ticks) o machine.TicksUsed tally port ⊎ ((x : on.Found) × ((s : State) × (all ticks ≡ Goes x s)))
-RunStops T p all o ticks (run.Port fault) tally port = IsEarlier all o ticks port
-RunStops T p all o ticks run.Memory tally port = IsEarlier all o ticks port
+RunStops T p all o ticks (run.Port fault) tally port = GivenUpBy all o ticks port
+RunStops T p all o ticks run.Memory tally port = GivenUpBy all o ticks port
 
 -- ---- parts that are done as a whole
 
@@ -252,7 +303,7 @@ stopped_for why.Memory = run.Memory
 stopped_for why.Elsewhere = run.Memory
 
 -- the run goes on with so many ticks spent, or it stops where so many are allowed
-abbrev pub MeetsAt : (List Entry → Type 0) → typed.Program → Whole → Option (List ℕ) → ℕ → Result Step Run → ℕ → Interpreter → PortView → Type 0
+abbrev pub MeetsAt : (List Entry → Type 0) → typed.Program → Whole → Outset → ℕ → Result Step Run → ℕ → Interpreter → PortView → Type 0
 MeetsAt T p all o limit (Ok x) spent m port = Runs T p all o spent m (step_of x) port
 MeetsAt T p all o limit (Err r) spent m port = RunStops T p all o limit r m.tally port
 
@@ -268,3 +319,43 @@ IsCalm (Err (run.Undefined act at)) = ⊤
 IsCalm (Err run.TicksUsed) = ⊤
 IsCalm (Err (run.Port fault)) = ⊥
 IsCalm (Err run.Memory) = ⊤
+
+-- ---- what an observer was shown
+
+-- the objects with which the first k of these runs stop, those of the last first
+abbrev pub moments_of : Whole → ℕ → List Store
+moments_of all zero = []
+moments_of all (suc k) = (last_of (all k)).store ∷ moments_of all k
+
+-- a run stops for want of a tick
+abbrev pub Waits : machine.Run on.Found → Type 0
+Waits whole = (s : State) × (whole ≡ Stops machine.TicksUsed s)
+
+-- k ticks were taken, and each was shown
+pub record Showing (S : List Store → Type 0) (all : Whole) (k : ℕ) : Type 0 where
+  pub shown : S (moments_of all k)
+  pub waits : (j : ℕ) → j < k → Waits (all j)
+
+-- and the run stops there
+pub record ShowsWhole (S : List Store → Type 0) (all : Whole) (ticks : ℕ) (e : Ending) : Type 0 where
+  pub taken : ℕ
+  pub within : taken ≤ ticks
+  pub shows : Showing S all taken
+  pub state : State
+  pub stops : all taken ≡ Stops e state
+
+abbrev pub ShowsSome : (List Store → Type 0) → Whole → ℕ → Type 0
+ShowsSome S all ticks = (k : ℕ) × ((k ≤ ticks) × Showing S all k)
+
+-- what was shown of a run of so many ticks that stops so
+abbrev pub ShowsUntil : (List Store → Type 0) → Whole → ℕ → Run → Type 0
+ShowsUntil S all ticks (run.Ended status) = ShowsWhole S all ticks (machine.Ended status)
+ShowsUntil S all ticks (run.Undefined act at) = ShowsWhole S all ticks (machine.Undefined act at)
+ShowsUntil S all ticks run.TicksUsed = Showing S all ticks ⊎ ((k : ℕ) × ((x : on.Found) × ((s : State) × (all k ≡ Goes x s))))
+ShowsUntil S all ticks (run.Port fault) = ShowsSome S all ticks
+ShowsUntil S all ticks run.Memory = ShowsSome S all ticks
+
+-- the run goes on with so many ticks spent, or it stops where so many are allowed
+abbrev pub ShowsAt : (List Store → Type 0) → Whole → ℕ → Result Step Run → ℕ → Type 0
+ShowsAt S all limit (Ok x) spent = Showing S all spent
+ShowsAt S all limit (Err r) spent = ShowsUntil S all limit r

@@ -23,7 +23,7 @@ returns-in-Ok-Step-clause-meets g c b p whole o sent s =
     let a = called_as mid c.call.new.machine c.args.at callee c.args.used passed _ _ c.in-Ok-Step.field-0-is c.in-Ok-Step.ensures.acts in
     let V = g.O.Observer.told c.tell_call.new.observer in
     call_stands (Knows b T) (Knows b V) p whole o sent c.args.interpreter.now _ mid c.args.at callee c.args.used passed _ c.in-Ok.ensures.machine
-    (tells_at T U p whole o sent q callee c.args.interpreter.now.tally c.count_call.new.self.tally s.program_is c.in-Ok.ensures.tells) (known b T V (history_called p callee) (λ h t. c.tell_call.ensures (history_called p callee h) (begun h t))) c.in-Ok.ensures.kept s c.in-Ok-Step.step a.0 a.1 c.in-Ok-Step.ensures.program
+    (tells_at T U p whole o sent q callee c.args.interpreter.now.tally c.count_call.new.self.tally s.program_is c.in-Ok.ensures.tells) (known b T V (history_called p callee) (λ h t. c.tell_call.ensures.told (history_called p callee h) (begun h t))) c.in-Ok.ensures.kept s c.in-Ok-Step.step a.0 a.1 c.in-Ok-Step.ensures.program
 
 pub returns-in-Ok-Step-clause-nears : goal.returns-in-Ok-Step-clause-nears
 returns-in-Ok-Step-clause-nears g c =

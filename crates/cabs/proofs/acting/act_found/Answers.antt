@@ -22,7 +22,7 @@ returns-in-Ok-clause-meets g c b p whole o sent s =
     let U = g.O.Observer.told c.count_end.new.observer in
     let f = frame_of c.in-Some.frame in
     let x = found_of c.args.found in
-    let ended : (h : List Entry) → T h → U (history_left f x h) = λ h t. c.count_end.ensures.told h (c.finds.ensures h t) in
+    let ended : (h : List Entry) → T h → U (history_left f x h) = λ h t. c.count_end.ensures.told h (c.finds.ensures.told h t) in
     let V = g.O.Observer.told c.has_done.new.self in
     let old = c.args.interpreter.now in
     let mid = c.count_end.new.self.machine in
@@ -30,7 +30,7 @@ returns-in-Ok-clause-meets g c b p whole o sent s =
     let popped : frames_of old.machine ≡ frames_of mid ++ f ∷ [] = top ∙ ap (λ (m : Machine). frames_of m ++ f ∷ []) (sym c.count_end.ensures.machine) in
     frame_stands (Knows b T) (Knows b V) p whole o sent old _ mid f (found_of c.args.found) _ popped (ap (λ (m : Machine). m.scene) c.count_end.ensures.machine ∙ c.in-Some.ensures.scene)
     (ap (λ (m : Machine). m.program) c.count_end.ensures.machine ∙ c.in-Some.ensures.program)
-    (λ h. c.count_end.ensures.tells p h) (known b T V (history_left f x) (λ h t. c.has_done.ensures (history_left f x h) (ended h t))) c.count_end.ensures.kept s c.in-Ok.step c.in-Ok.ensures.acts c.in-Ok.ensures.program
+    (λ h. c.count_end.ensures.tells p h) (known b T V (history_left f x) (λ h t. c.has_done.ensures.told (history_left f x h) (ended h t))) c.count_end.ensures.kept s c.in-Ok.step c.in-Ok.ensures.acts c.in-Ok.ensures.program
 
 pub returns-in-Ok-clause-nears : goal.returns-in-Ok-clause-nears
 returns-in-Ok-clause-nears g c =
@@ -51,7 +51,7 @@ returns-in-Err-clause-meets g c b p whole o sent s =
     let U = g.O.Observer.told c.count_end.new.observer in
     let f = frame_of c.in-Some.frame in
     let x = found_of c.args.found in
-    let ended : (h : List Entry) → T h → U (history_left f x h) = λ h t. c.count_end.ensures.told h (c.finds.ensures h t) in
+    let ended : (h : List Entry) → T h → U (history_left f x h) = λ h t. c.count_end.ensures.told h (c.finds.ensures.told h t) in
     let old = c.args.interpreter.now in
     let mid = c.count_end.new.self.machine in
     let top : frames_of old.machine ≡ frames_of c.pop.new.self ++ f ∷ [] = c.in-Some.ensures.frame in

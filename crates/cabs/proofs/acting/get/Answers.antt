@@ -12,10 +12,10 @@ returns-in-Ok-Some-clause-meets g c b p whole o sent at used passed s =
     let e : to_z w64 (of_z w64 c.from.result) ≡ c.from.result = first_of (search (rules, to_z-of_z), grind (arith, to_z-of_z)) in
     let T = g.O.Observer.told c.args.observer.now in
     let U = g.O.Observer.told c.gets.new.self in
-    got_stands (Knows b T) (Knows b U) p whole o sent c.args.interpreter.now at used passed c.in-Ok-Some.byte _ _ _ (e ∙ c.from.ensures) (search rules) (known b T U (λ h. Did (Got c.in-Ok-Some.byte) ∷ h) c.gets.ensures) s
+    got_stands (Knows b T) (Knows b U) p whole o sent c.args.interpreter.now at used passed c.in-Ok-Some.byte _ _ _ (search rules) (e ∙ c.from.ensures) (search rules) (known b T U (λ h. Did (Got c.in-Ok-Some.byte) ∷ h) c.gets.ensures.told) s
 
 pub returns-in-Ok-None-clause-meets : goal.returns-in-Ok-None-clause-meets
 returns-in-Ok-None-clause-meets g c b p whole o sent at used passed s =
     let T = g.O.Observer.told c.args.observer.now in
     let U = g.O.Observer.told c.gets-in-Ok-None.new.self in
-    end_stands (Knows b T) (Knows b U) p whole o sent c.args.interpreter.now at used passed _ _ (search rules) (known b T U (λ h. Did GotEnd ∷ h) c.gets-in-Ok-None.ensures) s
+    end_stands (Knows b T) (Knows b U) p whole o sent c.args.interpreter.now at used passed _ _ (search rules) (search rules) (known b T U (λ h. Did GotEnd ∷ h) c.gets-in-Ok-None.ensures.told) s

@@ -10,4 +10,4 @@ pub returns-in-None-clause-meets : goal.returns-in-None-clause-meets
 returns-in-None-clause-meets g c b p whole o sent at used passed port e s =
     let T = g.O.Observer.told c.args.observer.now in
     let U = g.O.Observer.told c.puts.new.self in
-    put_stands (Knows b T) (Knows b U) p whole o sent c.args.interpreter.now at used passed _ c.args.byte port e c.in-None.is refl (known b T U (λ h. Did (Put c.args.byte) ∷ h) c.puts.ensures) s
+    put_stands (Knows b T) (Knows b U) p whole o sent c.args.interpreter.now at used passed _ c.args.byte port e c.in-None.is refl (known b T U (λ h. Did (Put c.args.byte) ∷ h) c.puts.ensures.told) s

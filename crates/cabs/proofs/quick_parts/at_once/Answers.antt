@@ -6,18 +6,18 @@ use Rattle.cabs.proofs.AtOnce.{came_as, once_goes, once_given_up, once_stops, on
 use Rattle.cabs.proofs.quick_parts.at_once.Goals as goal
 
 pub returns-then-not-is_within-clause-meets : goal.returns-then-not-is_within-clause-meets
-returns-then-not-is_within-clause-meets c h p all o sent port room s none =
+returns-then-not-is_within-clause-meets c h p all o sent port room grows s none =
     once_given_up (λ g. g ≡ h) p all o c.args.limit c.args.spent.now sent c.args.interpreter.now (node_of c.args.node.now) port s none c.args.interpreter.now.tally room
 
 pub returns-in-Some-clause-meets : goal.returns-in-Some-clause-meets
-returns-in-Some-clause-meets c h p all o sent port room s none =
+returns-in-Some-clause-meets c h p all o sent port room grows s none =
     let within = on_true ((c.args.spent.now < c.done-found.new.clock.spent) × (c.done-found.new.clock.spent ≤ c.args.limit)) c.is_within.result c.if-not-is_within.false c.is_within.ensures.within in
-    once_goes (λ g. g ≡ h) p all o c.args.limit c.args.spent.now sent c.args.interpreter.now (node_of c.args.node.now) port s none _ c.done-found.new.clock c.in-Some.found refl refl refl refl within.0
+    once_goes (λ g. g ≡ h) p all o c.args.limit c.args.spent.now sent c.args.interpreter.now (node_of c.args.node.now) port s none grows _ c.done-found.new.clock c.in-Some.found refl refl refl refl within.0
     (came_as (λ g. g ≡ h) p all o c.args.limit c.args.spent.now sent c.args.interpreter.now (node_of c.args.node.now) port s none c.done-found.result (Some c.in-Some.found) c.done-found.new.clock c.done-found.new.scene
     c.in-Some.is c.done-found.ensures.does)
 
 pub returns-in-None-clause-meets : goal.returns-in-None-clause-meets
-returns-in-None-clause-meets c h p all o sent port room s none =
+returns-in-None-clause-meets c h p all o sent port room grows s none =
     let within = on_true ((c.args.spent.now < c.done-found.new.clock.spent) × (c.done-found.new.clock.spent ≤ c.args.limit)) c.is_within.result c.if-not-is_within.false c.is_within.ensures.within in
     let P : Run → Type 0 = λ r. RunStops (λ g. g ≡ h) p all o c.args.limit r c.args.interpreter.now.tally port in
     subst P (sym c.stopped.ensures)

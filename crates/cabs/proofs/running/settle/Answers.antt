@@ -9,6 +9,8 @@ pub loop-next-preserved : goal.loop-next-preserved
 loop-next-preserved g c = record {
   quiet = c.in-Ok.ensures.counts ∙ c.loop-next.invariant.quiet;
   stands = λ b p whole o sent s. c.in-Ok.ensures.meets b p whole o sent (c.loop-next.invariant.stands b p whole o sent s);
+  shown = λ objects s. c.in-Ok.ensures.shown objects (c.loop-next.invariant.shown objects s);
+  always = λ a. c.in-Ok.ensures.always (c.loop-next.invariant.always a);
 }
 
 pub returns-in-Enters-clause-meets : goal.returns-in-Enters-clause-meets
