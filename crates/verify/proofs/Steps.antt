@@ -286,3 +286,8 @@ function_there (x ∷ functions) (suc f) g e = function_there functions f g e
 
 pub nothing_listed : (p : Program) (xs ys : List Pos) → length xs ≡ 0 → xs ≡ ys → IsDefinedBut p ys → IsDefined p
 nothing_listed p xs ys e d h = let P : List Pos → Type 0 = λ xs. length xs ≡ 0 in never_undefined p ys (subst P d e) h
+
+-- ---- objects without what is known of single elements
+
+pub begins_without : (p : Program) (outer : List (List ℕ)) (known : Known) (facts : List Fact) → facts ≡ [] → Begins p outer known → Begins p outer (record { objects = known.objects; facts = facts })
+begins_without p outer known facts e h = subst (λ fs. Begins p outer (record { objects = known.objects; facts = fs })) (sym e) (record { objects = h.objects; facts = tt })

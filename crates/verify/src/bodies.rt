@@ -16,7 +16,8 @@ use crate::work::Work;
 use std::alloc::Global;
 use typed_ast::{Function, Program};
 use verify_expressions::{
-    AbsState, Known, Memory, Scope, Stop, Wanted, copied_known, enter_body, is_reached, joined,
+    AbsState, Known, Memory, Scope, Stop, Wanted, copied_known, follows_elements, is_reached,
+    joined,
 };
 use verify_intervals::{either, initialised, single, uninitialised};
 use verify_logic::{AbsValue, ArrayArgument};
@@ -48,7 +49,6 @@ fn body_executed<'a>(
 ) -> Result<Left, Stop>
     ensures { IfOk result (λ r. Executes (frame_in (program_of program.now) work.now outer.now arrays.now (function_of function.now)) (function_of function.now).body (Some (known_of entry)) (ways_of r)) }
 {
-    enter_body(memory);
     let scope = Scope {
         alloc: memory.alloc,
         program,
@@ -118,6 +118,34 @@ fn function_shown(
     Ok(())
 }
 
+/// The objects without what is known of single elements.
+fn without_elements(alloc: Global, program: &Program, before: FirstObjects) -> FirstObjects
+    requires { Begins (program_of program.now) (shapes_in before.outer.items) (known_of before.known) }
+    ensures { Begins (program_of program.now) (shapes_in result.outer.items) (known_of result.known) }
+{
+    let facts = Vec::new(alloc);
+    FirstObjects {
+        outer: before.outer,
+        known: Known {
+            objects: before.known.objects,
+            facts,
+        },
+    }
+}
+
+/// The objects before the run.
+fn objects_before(memory: &Memory, program: &Program) -> Result<FirstObjects, Stop>
+    ensures { IfOk result (λ r. Begins (program_of program.now) (shapes_in r.outer.items) (known_of r.known)) }
+{
+    let before = objects_at_start(memory.alloc, program)?;
+    let elements = follows_elements(memory);
+    if elements {
+        return Ok(before);
+    }
+    let all = without_elements(memory.alloc, program, before);
+    Ok(all)
+}
+
 /// Analyses the body of main.
 ///
 /// Errors: a place is not ruled out, nothing is known of a call, or the analysis does not follow.
@@ -125,7 +153,7 @@ pub fn main_shown(memory: &Memory, program: &Program, work: &Work) -> Result<(),
     requires { IsSoundWork (program_of program.now) work.now }
     ensures { IfOk result (λ u. IsDefinedBut (program_of program.now) work.now.listed.items) }
 {
-    let before = objects_at_start(memory.alloc, program)?;
+    let before = objects_before(memory, program)?;
     match program.functions.get(program.main) {
         None => Err(Stop::Unfollowed(None)),
         Some(function) => function_shown(memory, program, work, before, function),

@@ -10,7 +10,9 @@ use crate::work::Work;
 use srcset::Pos;
 use std::alloc::{AllocError, Global};
 use typed_ast::Program;
-use verify_expressions::{Alarm, Memory, Stop, Summary, Wanted, new_memory};
+use verify_expressions::{
+    Alarm, Memory, Stop, Summary, Wanted, enter_body, met_elements, new_memory,
+};
 
 /// How many calls may be entered in one another.
 const DEPTH: usize = 64;
@@ -148,6 +150,7 @@ fn main_turn(memory: &Memory, program: &Program, work: Work) -> Result<Turn, All
     requires { IsSoundWork (program_of program.now) work }
     ensures { IfOk result (λ t. SaysTurn (program_of program.now) t) }
 {
+    enter_body(memory, 0);
     match main_shown(memory, program, &work) {
         Ok(()) => Ok(Turn::Done(concluded(program, work))),
         Err(stop) => stopped(program, work, stop),
@@ -163,6 +166,7 @@ fn call_turn(
     requires { IsSoundWork (program_of program.now) work }
     ensures { IfOk result (λ t. SaysTurn (program_of program.now) t) }
 {
+    enter_body(memory, work.wanted.len().saturating_add(1));
     match call_shown(memory, program, &work, &call) {
         Ok(end) => {
             let more = learnt(program, work, call, end)?;
@@ -221,21 +225,44 @@ fn nothing(alloc: Global, program: &Program) -> Work
     }
 }
 
-/// Analyses a program, in so many steps at most. A turn analyses one body: main's, or that of a function that is called with arguments of which
-/// nothing is known yet. Each place that is not ruled out is listed.
-///
-/// Errors: memory ran out.
-pub fn verify(alloc: Global, program: &Program, effort: u64) -> Result<Verdict, AllocError>
+/// Analyses a program. A turn analyses one body: main's, or that of a function that is called with arguments of which nothing is known yet.
+/// Each place that is not ruled out is listed.
+fn analysed(memory: &Memory, program: &Program) -> Result<Verdict, AllocError>
     ensures { IfOk result (λ v. Says (program_of program.now) v) }
 {
-    let memory = new_memory(alloc, effort);
-    let mut work = nothing(alloc, program);
+    let mut work = nothing(memory.alloc, program);
     for _turn in 0..TURNS {
-        match turned(&memory, program, work) {
+        match turned(memory, program, work) {
             Err(fault) => return Err(fault),
             Ok(Turn::Done(verdict)) => return Ok(verdict),
             Ok(Turn::More(more)) => work = more,
         }
     }
     Ok(Verdict::Unknown(None))
+}
+
+fn is_followed(verdict: &Verdict) -> bool {
+    match verdict {
+        Verdict::Defined => true,
+        Verdict::DefinedBut(_, _) => true,
+        Verdict::Unknown(_) => false,
+    }
+}
+
+/// Analyses a program, in so many steps at most. If that is not followed to its end with single elements of arrays, in half of the steps, the
+/// analysis begins again without them.
+///
+/// Errors: memory ran out.
+pub fn verify(alloc: Global, program: &Program, effort: u64) -> Result<Verdict, AllocError>
+    ensures { IfOk result (λ v. Says (program_of program.now) v) }
+{
+    let memory = new_memory(alloc, effort, true);
+    let first = analysed(&memory, program)?;
+    let ends = is_followed(&first) || !met_elements(&memory);
+    if ends {
+        return Ok(first);
+    }
+    let again = new_memory(alloc, effort, false);
+    let second = analysed(&again, program)?;
+    Ok(second)
 }

@@ -8,7 +8,7 @@ ghost use Rattle.verify_expressions.specs.Views.{frame_of, known_of, known_or_no
 ghost use Rattle.verify_expressions.specs.Parts.{CallsAt, EntersAt, Fits, Gets, Summarised};
 
 use crate::expressions::Evaluated;
-use crate::memory::{take_search, take_step};
+use crate::memory::{expected_summary, pass_call, take_search, take_step};
 use crate::objects::{copied_known, copied_objects, known_entails};
 use crate::operators::is_listed;
 use crate::places::{object_count, shape};
@@ -383,6 +383,19 @@ fn summarised(
     }
 }
 
+/// Tests whether the same objects are known to have values. A summary that begins with less known tells less of the caller's objects too.
+fn same_marks(xs: &[AbsValue], ys: &[AbsValue]) -> bool {
+    if xs.len() != ys.len() {
+        return false;
+    }
+    for n in 0..xs.len() {
+        if xs[n].initialised != ys[n].initialised {
+            return false;
+        }
+    }
+    true
+}
+
 /// Tests whether the summary is of function `f` and fits, as far as there is work left.
 fn is_found(
     scope: &Scope<'_>,
@@ -395,11 +408,31 @@ fn is_found(
         return false;
     }
     let goes_on = take_step(scope);
-    goes_on && fits(scope, f, a, arrays, entry)
+    goes_on && same_marks(&entry.objects, &a.entry.objects) && fits(scope, f, a, arrays, entry)
 }
 
-/// A summary that fits, if there is one. It is a guess: nothing rests on it.
-fn fitting(scope: &Scope<'_>, f: usize, arrays: &[ArrayArgument], entry: &Known) -> Option<usize> {
+/// The summary by which the call was followed before, if it was and that fits.
+fn found_again(
+    scope: &Scope<'_>,
+    f: usize,
+    arrays: &[ArrayArgument],
+    entry: &Known,
+) -> Option<usize> {
+    let Some(n) = expected_summary(scope) else {
+        return None;
+    };
+    let Some(a) = scope.summaries.get(n) else {
+        return None;
+    };
+    if is_found(scope, f, a, arrays, entry) {
+        Some(n)
+    } else {
+        None
+    }
+}
+
+/// The first summary that fits, if there is one.
+fn searched(scope: &Scope<'_>, f: usize, arrays: &[ArrayArgument], entry: &Known) -> Option<usize> {
     let goes_on = take_search(scope);
     if !goes_on {
         return None;
@@ -410,6 +443,23 @@ fn fitting(scope: &Scope<'_>, f: usize, arrays: &[ArrayArgument], entry: &Known)
         }
     }
     None
+}
+
+/// A summary that fits, if there is one. It is a guess: nothing rests on it.
+///
+/// Errors: memory ran out.
+fn fitting(
+    scope: &Scope<'_>,
+    f: usize,
+    arrays: &[ArrayArgument],
+    entry: &Known,
+) -> Result<Option<usize>, Stop> {
+    let found = match found_again(scope, f, arrays, entry) {
+        Some(n) => Some(n),
+        None => searched(scope, f, arrays, entry),
+    };
+    pass_call(scope, found)?;
+    Ok(found)
 }
 
 fn copied_lengths(alloc: Global, lengths: &[u32]) -> Result<Vec<u32>, Stop> {
@@ -479,7 +529,8 @@ fn begun(
 ) -> Result<Evaluated, Stop>
     ensures { IfOk result (λ e. Summarised (frame_of scope.now) at f used arrays.now (known_of entry.now) e.interval (state_of e.state)) }
 {
-    match fitting(scope, f, arrays, entry) {
+    let found = fitting(scope, f, arrays, entry)?;
+    match found {
         None => Err(wanted(scope, f, arrays, entry)),
         Some(n) => summarised(scope, at, f, used, arrays, entry, n),
     }

@@ -21,8 +21,8 @@ pub use conditions::Tested;
 pub use expressions::{Evaluated, evaluate, test};
 pub use facts::{FOLLOWED_ELEMENTS, elements_read};
 pub use memory::{
-    Memory, enter_body, enter_loop, first_guess, leave_loop, may_unroll, new_memory, recalled,
-    remember, take_statement, take_step,
+    Memory, enter_body, enter_loop, first_guess, follows_elements, leave_loop, may_unroll,
+    met_elements, new_memory, recalled, remember, take_statement, take_step,
 };
 pub use objects::{
     content_at, copied, copied_known, imply, joined, replaced, value_in, with_value, written,

@@ -1,5 +1,6 @@
-//! What an analysis keeps while it goes on: how much work is left to it, and what held at each turn of the loops that it met. It
-//! decides which guesses are tried and when to give up; no clause speaks of it, and nothing rests on it.
+//! What an analysis keeps while it goes on: how much work is left to it, what held at each turn of the loops that it met, and how it
+//! followed the calls of the bodies that it is in. It decides which guesses are tried and when to give up; no clause speaks of it, and
+//! nothing rests on it.
 
 use crate::objects::{copied, imply, joined};
 use crate::scope::Scope;
@@ -32,15 +33,36 @@ struct MetLoop {
     kept: AbsState,
 }
 
-/// The work that is left, and the loops that were met.
+/// A call that was met: how many bodies are around its own, and the number of the summary by which it was followed. There is none if
+/// the analysis stopped there because it wanted one.
+#[derive(Clone, Copy)]
+struct MetCall {
+    bodies: usize,
+    summary: Option<usize>,
+}
+
+/// The work that is left, and the loops and calls that were met.
 #[derive(Drop)]
 pub struct Memory {
     pub alloc: Global,
+    /// Whether single elements of arrays are followed.
+    elements: bool,
+    /// Whether something was known of one.
+    met: Cell<bool>,
     steps: Cell<u64>,
+    /// Single elements are followed while more steps than these are left.
+    half: u64,
     /// Loops are unrolled while more steps than these are left.
     floor: u64,
     depth: Cell<u32>,
     loops: RefCell<Vec<MetLoop>>,
+    /// How many bodies are around the present one.
+    bodies: Cell<usize>,
+    /// The calls of the outermost body, then those of the one that it entered, and so on. A body is analysed anew each time that a
+    /// summary was found which it wanted, and then meets the same calls again.
+    calls: RefCell<Vec<MetCall>>,
+    /// Which of the calls comes next.
+    next: Cell<usize>,
 }
 
 /// How many steps of so many are left when no loop is unrolled any more.
@@ -54,20 +76,115 @@ fn floor_of(steps: u64) -> u64 {
     steps.saturating_sub(taken)
 }
 
-/// A memory of nothing, with so many steps to go.
-pub fn new_memory(alloc: Global, steps: u64) -> Memory {
+/// A memory of nothing, with so many steps to go, half of which may be taken while single elements of arrays are followed, if they are.
+pub fn new_memory(alloc: Global, steps: u64, elements: bool) -> Memory {
     Memory {
         alloc,
+        elements,
+        met: Cell::new(false),
         steps: Cell::new(steps),
+        half: steps / 2,
         floor: floor_of(steps),
         depth: Cell::new(0),
         loops: RefCell::new(Vec::new(alloc)),
+        bodies: Cell::new(0),
+        calls: RefCell::new(Vec::new(alloc)),
+        next: Cell::new(0),
     }
 }
 
-/// A body is entered: no loop is around it.
-pub fn enter_body(memory: &Memory) {
+/// Tests whether single elements of arrays are followed.
+pub fn follows_elements(memory: &Memory) -> bool {
+    memory.elements
+}
+
+/// Tests whether something was known of single elements.
+pub fn met_elements(memory: &Memory) -> bool {
+    memory.met.get()
+}
+
+/// How many calls of the outermost bodies were met, of so many.
+fn count_outside(calls: &[MetCall], bodies: usize) -> usize {
+    let mut count = 0;
+    for n in 0..calls.len() {
+        if calls[n].bodies < bodies {
+            count = n.saturating_add(1);
+        }
+    }
+    count
+}
+
+/// A body is entered, around which there are so many others: no loop is around it. What calls of it were met before is kept, and what
+/// calls of others within it is not.
+pub fn enter_body(memory: &Memory, bodies: usize) {
     memory.depth.set(0);
+    memory.bodies.set(bodies);
+    match memory.calls.try_borrow_mut() {
+        Err(_) => {}
+        Ok(mut calls) => {
+            let first = count_outside(calls.as_slice(), bodies);
+            let count = count_outside(calls.as_slice(), bodies.saturating_add(1));
+            calls.truncate(count);
+            memory.next.set(first);
+        }
+    }
+}
+
+/// The summary of a call that was met: that which was wanted is the latest.
+fn summary_of_call(calls: &[MetCall], n: usize, count: usize) -> Option<usize> {
+    match calls.get(n) {
+        None => None,
+        Some(call) => match call.summary {
+            None => count.checked_sub(1),
+            Some(number) => Some(number),
+        },
+    }
+}
+
+/// The summary by which the call that comes next was followed before, if it was.
+pub fn expected_summary(scope: &Scope<'_>) -> Option<usize> {
+    match scope.memory.calls.try_borrow() {
+        Err(_) => None,
+        Ok(calls) => summary_of_call(
+            calls.as_slice(),
+            scope.memory.next.get(),
+            scope.summaries.len(),
+        ),
+    }
+}
+
+fn is_kept(calls: &[MetCall], n: usize, summary: Option<usize>) -> bool {
+    match calls.get(n) {
+        None => false,
+        Some(call) => call.summary == summary,
+    }
+}
+
+fn put_call(calls: &mut Vec<MetCall>, n: usize, new: MetCall) -> Result<(), Stop> {
+    if is_kept(calls.as_slice(), n, new.summary) {
+        return Ok(());
+    }
+    calls.truncate(n);
+    match calls.push(new) {
+        Ok(()) => Ok(()),
+        Err(_) => Err(Stop::Memory),
+    }
+}
+
+/// Keeps by which summary the call is followed that comes next, or that one is wanted.
+///
+/// Errors: memory ran out.
+pub fn pass_call(scope: &Scope<'_>, summary: Option<usize>) -> Result<(), Stop> {
+    let n = scope.memory.next.get();
+    scope.memory.next.set(n.saturating_add(1));
+    let new = MetCall {
+        bodies: scope.memory.bodies.get(),
+        summary,
+    };
+    match scope.memory.calls.try_borrow_mut() {
+        Err(_) => Ok(()),
+        Ok(mut calls) => put_call(&mut calls, n, new),
+    }
 }
 
 /// A loop is entered.
@@ -102,13 +219,24 @@ pub fn take_step(scope: &Scope<'_>) -> bool {
     take(scope.memory, cost_of(objects))
 }
 
+/// Tests whether there is work left to go on where so much is known of single elements: they take half of the steps at most.
+fn may_go_on(memory: &Memory, facts: usize) -> bool {
+    if facts == 0 {
+        return true;
+    }
+    memory.met.set(true);
+    !memory.elements || memory.half < memory.steps.get()
+}
+
 /// Takes the step of a statement, which costs more where much is known. Tells whether the work left is enough.
 pub fn take_statement(scope: &Scope<'_>, state: &AbsState) -> bool {
-    let count = match &state.objects {
-        None => 0,
-        Some(known) => known.objects.len().saturating_add(known.facts.len()),
-    };
-    take(scope.memory, cost_of(count))
+    match &state.objects {
+        None => take(scope.memory, 1),
+        Some(known) => {
+            let count = known.objects.len().saturating_add(known.facts.len());
+            may_go_on(scope.memory, known.facts.len()) && take(scope.memory, cost_of(count))
+        }
+    }
 }
 
 /// Takes the steps of a search among all summaries. Tells whether the work left is enough.

@@ -9,6 +9,7 @@ ghost use Rattle.verify_expressions.specs.Views.{frame_of, own_shape_in, shape_i
 ghost use Rattle.verify_expressions.specs.Parts.{OneElement};
 
 use crate::facts::FOLLOWED_ELEMENTS;
+use crate::memory::follows_elements;
 use crate::scope::Scope;
 use typed_ast::{ObjectType, Storage};
 use verify_intervals::add_usize;
@@ -151,7 +152,11 @@ pub fn followed_subscript(scope: &Scope<'_>, x: usize, i: Interval) -> Option<In
 {
     let lengths = shape(scope.outer, scope.objects, x);
     let followed = is_followed(lengths);
-    if followed { Some(i) } else { None }
+    if followed && follows_elements(scope.memory) {
+        Some(i)
+    } else {
+        None
+    }
 }
 
 /// Tests whether so many subscripts lead into object `x` to an element.

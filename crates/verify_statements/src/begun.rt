@@ -167,7 +167,7 @@ fn object_defined(
     requires { slice_get (frame_of scope.now).objects n ≡ Some (object_type_of object.now) }
     ensures { IfOk result (λ r. Executes (frame_of scope.now) (typed.define n (initialiser_of i.now)) (state_of state) (ways_of r)) }
 {
-    match short_row(&state, &object.lengths, i) {
+    match short_row(scope, &state, &object.lengths, i) {
         None => array_begun(scope, state, n, object, i),
         Some(length) => row_begun(scope, state, n, object, length, i),
     }

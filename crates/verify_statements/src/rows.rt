@@ -8,11 +8,12 @@ ghost use Rattle.verify_logic.specs.States.{Writes};
 ghost use Rattle.verify_expressions.specs.Views.{frame_of, known_of, state_of};
 ghost use Rattle.verify_statements.specs.Rows.{ElementBegins, RowBecomes, RowBegins, RowClears, RowFills, RowSpells};
 
+use crate::effects::is_quiet;
 use ctypes::IntType;
 use typed_ast::{Initialiser, Value};
 use verify_expressions::{
-    AbsState, FOLLOWED_ELEMENTS, Known, Scope, Stop, elements_read, evaluate, value_in, with_value,
-    written,
+    AbsState, FOLLOWED_ELEMENTS, Known, Scope, Stop, elements_read, evaluate, follows_elements,
+    value_in, with_value, written,
 };
 use verify_intervals::{conversion, initialised, single};
 use verify_logic::Interval;
@@ -245,6 +246,34 @@ fn suits(i: &Initialiser) -> bool {
     }
 }
 
+fn is_simple_one(i: &Initialiser) -> bool {
+    match i {
+        Initialiser::One(_, e) => is_quiet(e),
+        Initialiser::Text(_) => true,
+        Initialiser::InBraces(_) => true,
+        Initialiser::List(_) => true,
+    }
+}
+
+fn are_simple(all: &[Initialiser]) -> bool {
+    for n in 0..all.len() {
+        if !is_simple_one(&all[n]) {
+            return false;
+        }
+    }
+    true
+}
+
+/// Tests whether the first value assigns to nothing and calls nothing, and so may be taken as a whole.
+fn is_simple(i: &Initialiser) -> bool {
+    match i {
+        Initialiser::One(_, _) => true,
+        Initialiser::Text(_) => true,
+        Initialiser::InBraces(_) => true,
+        Initialiser::List(all) => are_simple(all),
+    }
+}
+
 /// Tests whether there is room for what is known of so many elements more.
 fn has_room(state: &AbsState) -> bool {
     match &state.objects {
@@ -262,14 +291,20 @@ fn row_length(lengths: &[u32]) -> Option<u32>
     if more.is_empty() { Some(*n) } else { None }
 }
 
-/// The length of a short array of one row with such a first value.
-pub fn short_row(state: &AbsState, lengths: &[u32], i: &Initialiser) -> Option<u32>
+/// The length of a short array of one row with such a first value, if that is followed element by element.
+pub fn short_row(
+    scope: &Scope<'_>,
+    state: &AbsState,
+    lengths: &[u32],
+    i: &Initialiser,
+) -> Option<u32>
     ensures { IfSome result (λ n. lengths.now ≡ n ∷ []) }
 {
     let Some(n) = row_length(lengths) else {
         return None;
     };
-    if n <= FOLLOWED_ELEMENTS && suits(i) && has_room(state) {
+    let wanted = follows_elements(scope.memory) || !is_simple(i);
+    if wanted && n <= FOLLOWED_ELEMENTS && suits(i) && has_room(state) {
         Some(n)
     } else {
         None

@@ -1,10 +1,12 @@
 //! Guesses of what holds at each turn of a loop. Nothing rests on them: a guess is tested before it is used.
 
-use verify_expressions::{AbsState, Known, Scope, Stop, copied, joined};
+use ctypes::IntType;
+use verify_expressions::{AbsState, Known, Scope, Stop, copied, joined, literal_count};
 use verify_intervals::initialised;
 use verify_logic::{AbsValue, Fact, Interval};
 
-/// Where bounds move that keep growing, beside the lengths of arrays: the bounds of the types, and 0 and 1 between them.
+/// Where bounds move that keep growing, beside the lengths of arrays, if the type of the object is not known or they are past its values: the
+/// bounds of the types, and 0 and 1 between them.
 const STEPS: [i64; 12] = [
     -2147483648,
     -32768,
@@ -58,14 +60,57 @@ fn length_ceiling(v: i64, lengths: &[u32], best: i64) -> i64 {
     found
 }
 
-/// The next bound above: of a type, or among the lengths of arrays as long as these are `near`.
-fn ceiling(scope: &Scope<'_>, v: i64, near: bool) -> i64 {
-    let mut found = type_ceiling(v);
+/// The type of the elements of object `x`, if that is one of the call or has static storage.
+fn element_type(scope: &Scope<'_>, x: usize) -> Option<IntType> {
+    let literals = literal_count(scope);
+    if x >= scope.outer.len() {
+        match scope.objects.get(x - scope.outer.len()) {
+            None => None,
+            Some(object) => Some(object.element),
+        }
+    } else if x >= literals {
+        match scope.program.statics.get(x - literals) {
+            None => None,
+            Some(object) => Some(object.object_type.element),
+        }
+    } else {
+        None
+    }
+}
+
+/// The next bound below: of the type of object `x`, behind 0 and -1.
+fn least(scope: &Scope<'_>, x: usize, v: i64) -> i64 {
+    match element_type(scope, x) {
+        None => floor(v),
+        Some(ty) => if v < -1 && ty.min() <= v {
+            ty.min()
+        } else {
+            floor(v)
+        },
+    }
+}
+
+/// The next bound above: of the type of object `x`, behind 0 and 1.
+fn greatest(scope: &Scope<'_>, x: usize, v: i64) -> i64 {
+    match element_type(scope, x) {
+        None => type_ceiling(v),
+        Some(ty) => if 1 < v && v <= ty.max() {
+            ty.max()
+        } else {
+            type_ceiling(v)
+        },
+    }
+}
+
+/// The next bound above: of a type, or among the lengths of arrays as long as these are `near`. String literals are no such arrays: a
+/// program has many of them, and their lengths bound little.
+fn ceiling(scope: &Scope<'_>, x: usize, v: i64, near: bool) -> i64 {
+    let mut found = greatest(scope, x, v);
     if !near {
         return found;
     }
-    for lengths in scope.outer {
-        found = length_ceiling(v, lengths, found);
+    for n in literal_count(scope)..scope.outer.len() {
+        found = length_ceiling(v, &scope.outer[n], found);
     }
     for object in scope.objects {
         found = length_ceiling(v, &object.lengths, found);
@@ -73,14 +118,14 @@ fn ceiling(scope: &Scope<'_>, v: i64, near: bool) -> i64 {
     found
 }
 
-fn wider(scope: &Scope<'_>, old: AbsValue, new: AbsValue, near: bool) -> AbsValue {
+fn wider(scope: &Scope<'_>, x: usize, old: AbsValue, new: AbsValue, near: bool) -> AbsValue {
     let low = if new.interval.low < old.interval.low {
-        floor(new.interval.low)
+        least(scope, x, new.interval.low)
     } else {
         new.interval.low
     };
     let high = if old.interval.high < new.interval.high {
-        ceiling(scope, new.interval.high, near)
+        ceiling(scope, x, new.interval.high, near)
     } else {
         new.interval.high
     };
@@ -99,7 +144,7 @@ fn each_wider(
     let mut out = Vec::new(scope.alloc);
     for i in 0..news.len() {
         let k = if i < olds.len() {
-            wider(scope, olds[i], news[i], near)
+            wider(scope, i, olds[i], news[i], near)
         } else {
             news[i]
         };
@@ -120,6 +165,17 @@ fn same_fact(olds: &[Fact], new: Fact, near: usize) -> Option<Interval> {
     None
 }
 
+fn fact_wider(scope: &Scope<'_>, new: Fact, old: Interval, near: bool) -> Interval {
+    let all = wider(
+        scope,
+        new.object,
+        initialised(old),
+        initialised(new.interval),
+        near,
+    );
+    all.interval
+}
+
 fn facts_wider(
     scope: &Scope<'_>,
     olds: &[Fact],
@@ -131,7 +187,7 @@ fn facts_wider(
         let new = news[n];
         let interval = match same_fact(olds, new, n) {
             None => new.interval,
-            Some(old) => wider(scope, initialised(old), initialised(new.interval), near).interval,
+            Some(old) => fact_wider(scope, new, old, near),
         };
         let Ok(()) = out.push(Fact {
             object: new.object,

@@ -55,6 +55,7 @@ DEFINED = {
     'the zeros behind a static list': 'static int a[3] = { 2 };\nint main(void) { return 10 / (a[0] - a[2] - 1); }',
     'up to the end of a text': 'void rv_putbyte(int c);\nint main(void) { char s[] = "abc"; for (int i = 0; s[i] != 0; i++) rv_putbyte(s[i]); return 0; }',
     'up to the end of a literal': 'void rv_putbyte(int c);\nvoid say(const char s[]) { for (int i = 0; s[i] != 0; i++) rv_putbyte(s[i]); }\nint main(void) { say("hello"); say(""); return 0; }',
+    'a bound among the lengths of many texts': 'int rv_getbyte(void);\nvoid rv_putbyte(int c);\nstatic char line[61];\nvoid say(const char s[], int n) { for (int k = 0; k < n; k++) rv_putbyte(s[k]); }\nint main(void) { int n = 0, c; say("a", 1); say("ab", 2); say("abc", 3); say("abcd", 4); say("abcde", 5); say("abcdef", 6); say("abcdefg", 7); say("abcdefgh", 8); say("abcdefghi", 9); say("abcdefghijklmn", 14); say("abcdefghijklmnopqrst", 20); while ((c = rv_getbyte()) >= 0) if (c == 8) n = n > 0 ? n - 1 : 0; else if (n < 60) line[n++] = c; line[n] = 0; return 0; }',
     'elements that calls write': 'void f(int a[], int n) { a[n] = n; }\nint main(void) { int a[2]; f(a, 0); f(a, 1); return 10 / (a[1] - a[0]); }',
     'an element that is left alone': 'int rv_getbyte(void);\nint main(void) { int a[3] = { 5, 6, 7 }, n = rv_getbyte() & 1; a[n] = 0; return 10 / a[2]; }',
     'a list that calls': 'int f(int n) { return n + 1; }\nint main(void) { int a[2] = { f(1), f(2) }; return 6 / (a[1] - a[0]); }',
