@@ -3,7 +3,11 @@
 run.sh says how it is called. Crates are tried side by side; of one crate each edit is checked over what the check of the crate
 as it is has proved. Edits of the bodies of different functions are checked together, since a proof rests on no other body:
 each of them is refused where the prover says of its own function that it is not proved. What is left is checked edit by edit,
-and what was not refused so once more from nothing."""
+and what was not refused so once more from nothing.
+
+A file of an edit may be one of a crate that this one names (`file: ../select/specs/Selected.antt`): that crate has to be proved
+with its part of the edit, and this one must be refused over it. So a definition and the code that meets it are changed
+together, and a law above has to refuse both."""
 import concurrent.futures
 import os
 import re
@@ -34,8 +38,9 @@ def library(crate):
     return os.path.join(tried.ROOT, 'crates', crate, 'out/rlib', crate + '.rlib')
 
 
-def words(crate, all_of_them):
-    """What `rattle check` is given of a crate."""
+def words(crate, all_of_them, instead=None):
+    """What `rattle check` is given of a crate, with other libraries in place of some."""
+    instead = instead or {}
     own = tried.below(crate, all_of_them)
     roots = [root for root in ('src/main.rt', 'src/lib.rt') if os.path.isfile(os.path.join(tried.ROOT, 'crates', crate, root))]
     given = ['--crate-name', crate, *roots]
@@ -44,8 +49,8 @@ def words(crate, all_of_them):
     given += ['-L', f'dependency={KIT}/rlibs']
     for name in all_of_them[crate]:
         if name in all_of_them:
-            given += ['--extern', f'{name}={library(name)}']
-    for place in dict.fromkeys(os.path.dirname(library(name)) for name in own):
+            given += ['--extern', f'{name}={instead.get(name, library(name))}']
+    for place in dict.fromkeys(os.path.dirname(instead.get(name, library(name))) for name in own):
         given += ['-L', f'dependency={place}']
     return given + ['--antt-project', f'{KIT}/rattle/logic/antt-project.json', '--logic-built', f'{KIT}/logic_built', '--jobs', '1']
 
@@ -59,13 +64,16 @@ def build(crate, all_of_them):
     return '' if ran.returncode == 0 else f'{crate} is not proved: {(ran.stdout + ran.stderr)[:600]}'
 
 
+PLACE = re.compile(r'(?:\.\./(\w+)/)?(src|specs|proofs)/')
+
+
 def edited(edit, folder):
     """The texts of the files that an edit changes, or why it cannot be applied."""
     path, old, texts = '', None, {}
     for line in tried.text_of(edit).split('\n'):
         if line.startswith('file: '):
             path = line[6:].strip()
-            if os.path.normpath(path) != path or not path.startswith(('src/', 'specs/', 'proofs/')):
+            if os.path.normpath(path) != path or not PLACE.match(path):
                 return None, "a 'file:' line names no file below src/, specs/ or proofs/"
         elif line.startswith('old: '):
             old = line[5:]
@@ -82,18 +90,43 @@ def edited(edit, folder):
     return (texts, '') if texts else (None, "it has no 'old:' and 'new:' pair")
 
 
-def check(crate, all_of_them, texts, kept):
-    """Checks a copy of the crate with these texts in place of its own, over what `kept` holds where it is given."""
+def copied(crate, texts, room):
+    """Puts a copy of a crate into a folder, with these texts in place of its own."""
+    for part in ('src', 'specs', 'proofs'):
+        if os.path.isdir(f'{tried.ROOT}/crates/{crate}/{part}'):
+            shutil.copytree(f'{tried.ROOT}/crates/{crate}/{part}', f'{room}/{part}')
+    for path, text in texts.items():
+        with open(f'{room}/{path}', 'w', encoding='utf-8') as file:
+            file.write(text)
+
+
+def check(crate, all_of_them, texts, kept, instead=None):
+    """Checks a copy of the crate with these texts in place of its own, over what `kept` holds where it is given, and over these
+    libraries in place of others."""
     with tempfile.TemporaryDirectory(prefix='edit-') as room:
-        for part in ('src', 'specs', 'proofs'):
-            if os.path.isdir(f'{tried.ROOT}/crates/{crate}/{part}'):
-                shutil.copytree(f'{tried.ROOT}/crates/{crate}/{part}', f'{room}/{part}')
-        for path, text in texts.items():
-            with open(f'{room}/{path}', 'w', encoding='utf-8') as file:
-                file.write(text)
-        command = [f'{KIT}/bin/rattle', 'check', *words(crate, all_of_them), *(['--incremental', kept] if kept else [])]
+        copied(crate, texts, room)
+        command = [f'{KIT}/bin/rattle', 'check', *words(crate, all_of_them, instead), *(['--incremental', kept] if kept else [])]
         ran = subprocess.run(command, cwd=room, stdin=subprocess.DEVNULL, stdout=subprocess.PIPE, stderr=subprocess.STDOUT, text=True, errors='replace')
     return ran.returncode, ran.stdout.rstrip('\n').split('\n')
+
+
+def with_lower(crate, all_of_them, texts, place):
+    """Proves the crates below that an edit changes, into this folder: their libraries, or why there are none."""
+    made = {}
+    lower = {PLACE.match(path)[1] for path in texts} - {None}
+    for name in (it for it in tried.below(crate, all_of_them) if it in lower):
+        between = [it for it in tried.below(crate, all_of_them) if it not in lower and name in tried.below(it, all_of_them)]
+        if between:
+            return None, f'{between[0]} stands between {crate} and {name}, and would have to be proved anew'
+        with tempfile.TemporaryDirectory(prefix='edit-') as room:
+            copied(name, {path.split('/', 2)[2]: text for path, text in texts.items() if PLACE.match(path)[1] == name}, room)
+            made[name] = f'{place}/{name}.rlib'
+            command = [f'{KIT}/bin/rattle', 'build', *words(name, all_of_them, made), '--statements', '-o', made[name]]
+            ran = subprocess.run(command, cwd=room, stdin=subprocess.DEVNULL, stdout=subprocess.PIPE, stderr=subprocess.STDOUT, text=True, errors='replace')
+        if ran.returncode:
+            said = next((line for line in ran.stdout.split('\n') if ': error' in line), ran.stdout[:200])
+            return None, f'{name} is not proved with it, so that an edit of {name} says more: {said[:200]}'
+    return made, '' if lower == set(made) else f'{crate} does not name all that it changes'
 
 
 def unread(line, changed):
@@ -110,8 +143,13 @@ def refused(crate, all_of_them, edit, kept):
     texts, why = edited(edit, f'{tried.ROOT}/crates/{crate}')
     if why:
         return False, 'BAD EDIT: ' + why
-    status, lines = check(crate, all_of_them, texts, kept)
-    bad = next((line for line in lines if unread(line, texts)), '')
+    with tempfile.TemporaryDirectory(prefix='edited-') as place:
+        made, why = with_lower(crate, all_of_them, texts, place)
+        if why:
+            return False, 'BAD EDIT: ' + why
+        own = {path: text for path, text in texts.items() if not PLACE.match(path)[1]}
+        status, lines = check(crate, all_of_them, own, kept, made)
+    bad = next((line for line in lines if unread(line, own)), '')
     if bad:
         return False, 'BAD EDIT: the prover cannot read the edited text: ' + bad[:200]
     if status == 0:

@@ -4,7 +4,7 @@ refused when it was as it is now. A crate that does not fit is told, with the co
 name is skipped, and told too. The last line counts.
 
 TRIED has a line a crate, its name and a digest, which run.sh writes when all edits of the crate were refused. The digest is
-that of the crate's libraries by crates.txt, its src/, specs/ and edits, and of the contracts of each crate below it: the files
+that of the crate's libraries by crates.txt, its src/, specs/ and edits, the files of other crates that its edits change, and of the contracts of each crate below it: the files
 of specs/ but for specs/inside, and of src/ types, constants, the signatures, with their clauses, of functions that others
 can call, and the imports that these name; all without comments. So its comments, and proofs, bodies, private functions and tactics of the crates below, are free to
 change.
@@ -148,6 +148,8 @@ def digest(crate, all_of_them):
         taken.update(repr((os.path.relpath(path, ROOT), without_comments(text_of(path)))).encode())
     for path in files(os.path.join(ROOT, 'tests/edits', crate), '.edit'):
         taken.update(repr((os.path.relpath(path, ROOT), text_of(path))).encode())
+        for lower in sorted(set(re.findall(r'^file: \.\./(\S+)$', text_of(path), re.M))):
+            taken.update(without_comments(text_of(os.path.join(ROOT, 'crates', lower))).encode())
     for lower in sorted(below(crate, all_of_them)):
         taken.update((lower + sum_of_contracts(lower)).encode())
     return taken.hexdigest()
