@@ -1,4 +1,4 @@
--- Where a run stands behind a step that takes no tick, and how it stops there.
+-- The state of a run after a step that takes no tick, and how it stops there.
 use Rattle.std.proofs.Common.{◌≡◌, ℕ, ℤ, pos, negsuc, List, [], ◌∷◌, ◌++◌, Option, Some, None, refl, sym, ap, ◌∙◌, subst, Bor}
 use Rattle.std.specs.Prelude.{Ok, Err, Bool, true, false, slice_get}
 use Rattle.std.specs.Io.KnownBytes.{Keeps, Appends}
@@ -37,7 +37,7 @@ use Rattle.cabs.proofs.Telling.{first_taken, none_left, input_kept, output_kept,
 pub called_as : (old new : Machine) (at : Pos) (callee : typed.Callee) (used : Bool) (passed : List Passed) (x y : Called) → x ≡ y → CallActs old at callee used passed (Ok x) new → CallActs old at callee used passed (Ok y) new
 called_as old new at callee used passed x y e h = let P : Called → Type 0 = λ x. CallActs old at callee used passed (Ok x) new in subst P e h
 
--- ---- calls put no byte
+-- ---- calls write no byte
 
 bytes_left : (flow ends : Bool) (h : List Entry) → bytes_of (left_where flow ends h) ≡ bytes_of h
 bytes_left false ends h = refl
@@ -55,12 +55,12 @@ bytes_called p typed.put_byte h = refl
 bytes_called p typed.exit h = refl
 bytes_called p (typed.missing name) h = refl
 
--- a call's history, by the program at hand
+-- the history of a call, by the program at hand
 pub told_at : (p q : typed.Program) (callee : typed.Callee) (T U : List Entry → Type 0) → q ≡ p → ((h : List Entry) → T h → U (history_called q callee h)) → (h : List Entry) → T h → U (history_called p callee h)
 told_at p q callee T U e t = let P : typed.Program → Type 0 = λ p. (h : List Entry) → T h → U (history_called p callee h) in subst P e t
 
 module _ (T U : List Entry → Type 0) (p : typed.Program) (whole : Whole) (o : Outset) (sent : List ℕ) where
-  -- ---- the byte that waits is sent
+  -- ---- the pending byte is written
 
   pub stop_sent : (e : machine.Ending) (m : Interpreter) (tally : Tally) (old new : PortView) → Stopping T p whole o sent e m old → Keeps old.input new.input →
       Appends old.output new.output (waiting m.kept) → tally ≡ m.tally → Stopped T p whole o e tally new
@@ -80,7 +80,7 @@ module _ (T U : List Entry → Type 0) (p : typed.Program) (whole : Whole) (o : 
   pub stopping_as : (a b : Stop) (m : Interpreter) (port : PortView) → a ≡ b → StoppingBy T p whole o sent a m port → StoppingBy T p whole o sent b m port
   stopping_as a b m port e h = let P : Stop → Type 0 = λ a. StoppingBy T p whole o sent a m port in subst P e h
 
-  -- ---- what is found goes to a frame
+  -- ---- a result is passed to a frame
 
   module _ (old new : Interpreter) (mid : Machine) (f : on.Frame) (x : on.Found) (port : PortView) (popped : frames_of old.machine ≡ frames_of mid ++ f ∷ []) (scene : mid.scene ≡ old.machine.scene)
       (program : mid.program ≡ old.machine.program) (tells : (h : List Entry) → Tells p h old.tally → Tells p (history_left f x h) new.tally) (told : (h : List Entry) → T h → U (history_left f x h)) (kept : new.kept ≡ old.kept)

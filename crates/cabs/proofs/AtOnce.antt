@@ -1,4 +1,4 @@
--- Parts that are done as a whole.
+-- Parts that are evaluated as a whole.
 use Rattle.std.proofs.Common.{◌≡◌, ◌≤◌, ◌<◌, inl, ℕ, ◌+◌, ◌-◌, List, ◌++◌, Option, Some, None, refl, sym, ap, ◌∙◌, subst, arith, Bor}
 use Rattle.std.specs.Prelude.{Result, Ok, Err, Bool, true}
 use Rattle.std.specs.Bool.{OnTrue}
@@ -33,7 +33,7 @@ use Rattle.cabs.proofs.Following.{resume_stops}
 use Rattle.cabs.proofs.Telling.{output_as, none_waits, tells_as}
 use Rattle.cabs.proofs.Ticking.{bytes_now}
 
--- what the frames do with what is found
+-- what the frames do with a result
 abbrev pub goes_to : typed.Program → List on.Frame → on.Found → State → machine.Run on.Found
 goes_to p fs x s = resume p (call_in p) fs (Goes x s)
 
@@ -116,7 +116,7 @@ module _ (T : List Entry → Type 0) (p : typed.Program) (all : Whole) (o : Outs
   once_stops tally scene spent why.Memory t room le h = once_given_up tally room
   once_stops tally scene spent why.Elsewhere t room le h = once_given_up tally room
 
--- ---- no port was asked
+-- ---- the port was not used
 
 pub calm_stop : (w : Why) → IsCalm (Err (stopped_for w))
 calm_stop why.Ticks = tt

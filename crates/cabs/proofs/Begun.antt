@@ -1,4 +1,4 @@
--- What was got and put before a byte that waits, and that the run does it first.
+-- What was read and written before a pending byte, and that the run does it first.
 use Rattle.std.proofs.Common.{◌≡◌, ℕ, List, [], ◌∷◌, ◌++◌, Option, Some, None, refl, sym, ap, ◌∙◌, subst, append_assoc}
 use Rattle.std.proofs.lemmas.List.{reverse-append}
 use Rattle.std.specs.Io.KnownBytes.{Keeps, Appends}
@@ -15,7 +15,7 @@ use Rattle.cabs.specs.inside.Standing.{Outset, Whole, waiting, unsent, Done, Add
 use Rattle.cabs.proofs.Growing.{left_adds}
 use Rattle.cabs.proofs.Telling.{append_none, input_kept, output_kept, output_as}
 
--- ---- what was done before the byte that waits
+-- ---- what was done before the pending byte
 
 module _ (start : List ℕ) (h : List Entry) (input sent : List ℕ) where
   pub done_kept : (kept kept2 : Option ℕ) → kept2 ≡ kept → Done start h input sent kept → Done start h input sent kept2
@@ -110,7 +110,7 @@ module _ (whole : machine.Run on.Found) (o : Outset) where
   }
 
 module _ (T : List Entry → Type 0) (p : typed.Program) (whole : Whole) (o : Outset) (sent : List ℕ) where
-  -- a run that is given up where it stands
+  -- a run that is given up at this state
   pub given_up_here : (m : Interpreter) (x : on.Step) (port : PortView) → Stands T p whole o sent m x port → GivenUp whole o sent port
   given_up_here m x port s =
       let a = left_adds p (frames_of m.machine) m.machine.scene x s.input s.history in

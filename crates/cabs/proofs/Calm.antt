@@ -1,4 +1,4 @@
--- What a step that takes no tick does outside the objects, and how it nears the next node.
+-- What a step that takes no tick changes besides the objects, and how it nears the next node.
 use Rattle.std.proofs.Common.{◌≡◌, ◌≤◌, ℕ, zero, suc, ◌+◌, ◌*◌, ◌-◌, ℤ, pos, negsuc, List, [], ◌∷◌, ◌++◌, length, Option, Some, None, Bool, true, false, refl, sym, ap, ◌∙◌, arith, length-append}
 use Rattle.std.specs.Prelude.{Result, Ok, Err, nat_lt, slice_get}
 use Rattle.srcset.specs.declared.refusal.Pos.{Pos}
@@ -23,7 +23,7 @@ use Rattle.interp_transitions.specs.Acts.{outside_of, outside_behind}
 use Rattle.interp_transitions.specs.Calls.{IsInside}
 use Rattle.cabs.specs.inside.Standing.{history_left, entered_where, history_called, distance}
 
--- behind the step this is outside; it goes on with a node, or with less than there was: calls only where they may come
+-- after the step this is outside; it goes on with a node, or with less than there was, and with calls only if they may come
 abbrev pub Calm : Bool → Outside → Moved → Type 0
 Calm may o (halts e s) = outside_of s ≡ o
 Calm may o (moves pushed (enters n) s) = outside_of s ≡ o
@@ -40,7 +40,7 @@ calm_outside may o (moves [] (calls at callee used passed) s) h = h.0
 calm_outside may o (moves (f ∷ fs) (leaves x) s) h = absurd h
 calm_outside may o (moves (f ∷ fs) (calls at callee used passed) s) h = absurd h
 
--- ---- how near the next node is
+-- ---- the distance to the next node
 
 one_less : (fs gs : List Frame) → gs ≡ fs ++ [] → length gs ≡ length fs
 one_less fs gs e = ap length e ∙ length-append fs [] ∙ (omega arith)

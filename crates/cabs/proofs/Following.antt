@@ -1,4 +1,4 @@
--- What is left of a run is the same behind a step, and how it stops.
+-- After a step the rest of a run is the same, and how it stops.
 use Rattle.std.proofs.Common.{◌≡◌, ◌≤◌, ◌<◌, ℕ, suc, ◌+◌, ◌*◌, List, [], ◌∷◌, ◌++◌, length, Bool, true, false, refl, sym, ap, ◌∙◌, arith, length-append}
 use Rattle.srcset.specs.declared.refusal.Pos.{Pos}
 use Rattle.typing_spec.specs.Program.{Callee, Program}
@@ -25,12 +25,12 @@ onto_resumed : (p : Program) (call : Calling) (fs : List Frame) (m : Moved) → 
 onto_resumed p call fs (moves pushed step s) = resume_more p call fs pushed (present p call step s)
 onto_resumed p call fs (halts e s) = sym (resume_stops p call fs e s)
 
--- ---- what a step comes to
+-- ---- the result of a step
 
 abbrev pub outside : ℕ → List ℕ → List Entry → Outside
 outside n input h = record { clock = n; input = input; history = h }
 
--- it goes on, where outside is what it is
+-- it goes on, and the state outside is the same
 module _ (p : Program) (fs gs : List Frame) (scene : Scene) where
   pub goes_on : (m : Moved) (y : Step) (o : Outside) → onto fs m ≡ moves gs y (state_in scene (outside_behind m)) → outside_behind m ≡ o →
       resume p (call_in p) gs (present p (call_in p) y (state_in scene o)) ≡ resume p (call_in p) fs (resumed p (call_in p) m)
@@ -145,7 +145,7 @@ module _ (p : Program) (fs gs : List Frame) (x : Node) (old new : Scene) (input 
         history_is = refl;
       }
 
-  -- no tick is left for it
+  -- it has no tick left
   pub node_waits_in : whole 0 ≡ Stops TicksUsed (state_in old (outside 0 input h))
   node_waits_in = sym (node_is 0) ∙ resume_stops p (call_in p) fs TicksUsed (state_in old (outside 0 input h))
 
@@ -157,7 +157,7 @@ module _ (p : Program) (fs gs : List Frame) (x : Node) (old new : Scene) (input 
     history_is = refl;
   }
 
--- ---- nothing waits
+-- ---- no frame waits
 
 pub rests : (p : Program) (fs : List Frame) (x : Found) (scene : Scene) (input : List ℕ) (h : List Entry) (whole : Whole) → fs ≡ [] →
     ((n : ℕ) → left_of p fs scene (leaves x) input h n ≡ whole n) → (n : ℕ) → (y : Found) × ((s : State) × (whole n ≡ Goes y s))

@@ -1,4 +1,4 @@
--- What is left of a run takes back nothing that was done.
+-- The rest of a run revokes nothing that was done.
 use Rattle.std.proofs.Common.{◌≡◌, ◌≤◌, ◌<◌, ◌⊎◌, inl, inr, ℕ, zero, suc, ◌+◌, ◌*◌, List, [], ◌∷◌, ◌++◌, length, Option, Some, None, Bool, true, false, pos, negsuc, refl, sym, ap, ◌∙◌, subst, arith, append_assoc, length-append}
 use Rattle.std.specs.Prelude.{slice_get}
 use Rattle.srcset.specs.declared.refusal.Pos.{Pos}
@@ -23,7 +23,7 @@ use Rattle.cabs.specs.inside.Standing.{left_of, left_where, entered_where, histo
 use Rattle.cabs.proofs.Calm.{Calm, calm_outside, calm_near, steady_near, left_calm, called_calm}
 use Rattle.cabs.proofs.Following.{resume_stops, outside}
 
--- ---- calls got and put nothing
+-- ---- calls read and write nothing
 
 pub trace_left : (flow ends : Bool) (h : List Entry) → trace_of (left_where flow ends h) ≡ trace_of h
 trace_left false ends h = refl
@@ -63,12 +63,12 @@ Grown p far = (fs : List Frame) (x : Step) (s : State) → s.clock ≡ 0 → dis
 adds_as : (h : List Entry) (r r2 : Run Found) → r ≡ r2 → Adds h r2 → Adds h r
 adds_as h r r2 e a = (a.0, ap (λ r. trace_of (last_of r).history) e ∙ a.1)
 
--- behind a step that did this
+-- after a step that did this
 adds_behind : (h h2 : List Entry) (more : List Event) (r : Run Found) → trace_of h2 ≡ more ++ trace_of h → Adds h2 r → Adds h r
 adds_behind h h2 more r e a = (a.0 ++ more, a.1 ∙ ap (λ l. a.0 ++ l) e ∙ sym (append_assoc a.0 more (trace_of h)))
 
 module _ (p : Program) (fs : List Frame) (h : List Entry) (more : List Event) where
-  -- a step behind which the next node is nearer
+  -- a step after which the next node is nearer
   step_grows : (far : ℕ) → Grown p far → (m : Moved) → (outside_behind m).clock ≡ 0 → trace_of (outside_behind m).history ≡ more ++ trace_of h →
       ((gs : List Frame) (y : Step) (t : State) → onto fs m ≡ moves gs y t → distance gs y ≤ far) → Adds h (resume p (call_in p) fs (resumed p (call_in p) m))
   step_grows far rec (moves pushed y t) clock done near =
@@ -110,7 +110,7 @@ module _ (p : Program) (far : ℕ) (rec : Grown p far) where
       (step_grows p fs s.history [] far rec m (ap (λ (o : Outside). o.clock) out ∙ none) (ap (λ (o : Outside). trace_of o.history) out ∙ trace_called p callee s.history)
       (λ hs y t eq. let near : distance hs y ≤ 2 * length fs + 1 = steady_near _ m fs hs y t calm eq in omega (arith, near, le)))
 
-  -- a byte is got or put
+  -- a byte is read or written
   byte_grows : (fs : List Frame) (x : Found) (e : Event) (h : List Entry) (t : State) → t.history ≡ Did e ∷ h → t.clock ≡ 0 → 2 * length fs + 2 ≤ far + 1 → Adds h (resume p (call_in p) fs (Goes x t))
   byte_grows fs x e h t did none le =
       let near : 2 * length fs + 1 ≤ far = omega (arith, le) in
@@ -138,7 +138,7 @@ grown p (suc far) fs (enters n) s none le = node_stays p fs n s none
 grown p (suc far) fs (leaves x) s none le = found_grows p far (grown p far) fs x s (has_last fs) none (omega (arith, le))
 grown p (suc far) fs (calls at callee used passed) s none le = call_grows p far (grown p far) fs at callee used passed s none (omega (arith, le))
 
--- what was done stays done, whatever is left of the run
+-- what was done stays done, whatever the rest of the run is
 pub left_adds : (p : Program) (fs : List Frame) (scene : Scene) (x : Step) (input : List ℕ) (h : List Entry) → Adds h (left_of p fs scene x input h 0)
 unfolding left_of
 left_adds p fs scene x input h = grown p (distance fs x) fs x (state_in scene (outside 0 input h)) refl (le_self (distance fs x))

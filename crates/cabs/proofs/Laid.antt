@@ -1,4 +1,4 @@
--- Objects before the run.
+-- The objects before the run.
 use Rattle.std.proofs.Common.{◌≡◌, ℕ, ℤ, zero, suc, ◌+◌, ◌*◌, ◌<◌, ◌≤◌, ◌⊎◌, inl, inr, get_or, List, [], ◌∷◌, ◌++◌, length, map, drop, refl, sym, ap, ◌∙◌, arith, pos, drop-cons, Some}
 use Rattle.std.proofs.lemmas.Bool.{cases_lt}
 use Rattle.csem.specs.Store as machine
@@ -6,7 +6,7 @@ use Rattle.csem.specs.Store.{first_or_zero}
 use Rattle.typing_spec.specs.Types.{elements_in}
 use Rattle.interp_store.specs.Cells.{value_in, cell, rows, shaped}
 
--- ---- one cell more
+-- ---- one more cell
 
 pub cell_before : (cs : List ℤ) (c : ℤ) (k : ℕ) → k < length cs → cell (cs ++ c ∷ []) k ≡ cell cs k
 cell_before [] c k h = absurd (omega arith)
@@ -17,7 +17,7 @@ pub cell_behind : (cs : List ℤ) (c : ℤ) → cell (cs ++ c ∷ []) (length cs
 cell_behind [] c = refl
 cell_behind (d ∷ cs) c = cell_behind cs c
 
--- so many values, and one more
+-- that many values, and one more
 pub one_laid : (cs vs : List ℤ) (c v : ℤ) (k : ℕ) → length cs ≡ k → value_in c ≡ Some v → v ≡ first_or_zero (drop k vs) →
     ((j : ℕ) → j < k → cell cs j ≡ Some (first_or_zero (drop j vs))) → (j : ℕ) → j < k + 1 → cell (cs ++ c ∷ []) j ≡ Some (first_or_zero (drop j vs))
 one_laid cs vs c v k size is e each j h = by_place (cases_lt j k)

@@ -1,4 +1,4 @@
--- What an observer was shown, through a run.
+-- What an observer was shown during a run.
 use Rattle.std.proofs.Common.{◌≡◌, ◌≤◌, ◌<◌, inl, inr, ℕ, zero, suc, ◌+◌, List, [], ◌∷◌, refl, sym, ap, ◌∙◌, subst, arith, Bor}
 use Rattle.std.proofs.lemmas.Bool.{cases_lt}
 use Rattle.typing_spec.specs.Program as typed
@@ -23,7 +23,7 @@ use Rattle.cabs.specs.inside.Standing.{Outset, Whole, Stands, StopsAs, StoppedBy
 use Rattle.cabs.proofs.Following.{outside, node_waits_in}
 use Rattle.cabs.proofs.Ticking.{given_stops, given_last, never_goes, as_found, run_of}
 
--- ---- before the first tick, and a tick more
+-- ---- before the first tick, and one tick more
 
 pub nothing_shown : (S : List Store → Type 0) (all : Whole) → S [] → Showing S all 0
 nothing_shown S all s = record { shown = s; waits = λ j (lt : j < 0). absurd (omega (arith, lt)) }

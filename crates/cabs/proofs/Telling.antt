@@ -1,4 +1,4 @@
--- What is told of the input, the output and the active calls.
+-- What is known of the input, the output and the active calls.
 use Rattle.std.proofs.Common.{◌≡◌, ◌≤◌, ℕ, List, [], ◌∷◌, ◌++◌, Option, Some, None, refl, sym, ap, ◌∙◌, subst, append_assoc, arith}
 use Rattle.std.proofs.lemmas.List.{reverse-append}
 use Rattle.std.specs.Io.KnownBytes.{Keeps, Appends, Consumes}
@@ -10,7 +10,7 @@ use Rattle.interp_transitions.specs.Tallied.{Tells}
 use Rattle.io_ports.specs.Port.{GivesByte}
 use Rattle.cabs.specs.inside.Standing.{bytes_of, waiting}
 
--- ---- what a port tells
+-- ---- what a port shows
 
 pub first_taken : (i j : Option (List ℕ)) (xs : List ℕ) (b : ℕ) → Consumes i j (b ∷ []) → i ≡ Some xs → (rest : List ℕ) × ((xs ≡ b ∷ rest) × (j ≡ Some rest))
 first_taken None j xs b h e = absurd (let t = e in cc)
@@ -54,7 +54,7 @@ nothing_sent (Some xs) = append_none xs
 pub output_as : (o p : Option (List ℕ)) (xs ys : List ℕ) → xs ≡ ys → Appends o p xs → Appends o p ys
 output_as o p xs ys e h = let P : List ℕ → Type 0 = λ xs. Appends o p xs in subst P e h
 
--- ---- the bytes that a history has put
+-- ---- the bytes that a history has written
 
 pub byte_put : (b : ℕ) (h : List Entry) (sent : List ℕ) (kept kept2 : Option ℕ) → kept ≡ None → kept2 ≡ Some b → bytes_of h ≡ sent ++ waiting kept →
     bytes_of (Did (Put b) ∷ h) ≡ sent ++ waiting kept2

@@ -1,7 +1,8 @@
--- Ticks, and the whole run.
+-- The ticks, and the whole run.
 use Rattle.std.proofs.Common.{◌≡◌, ◌≤◌, ◌<◌, inl, inr, ℕ, suc, ◌+◌, ◌-◌, ℤ, List, [], ◌∷◌, ◌++◌, Option, Some, None, refl, sym, ap, ◌∙◌, subst, arith, Bor}
 use Rattle.std.specs.Prelude.{Result, Ok, Err, false, slice_get}
 use Rattle.std.specs.Io.KnownBytes.{Keeps, Appends}
+use Rattle.csem_events.specs.Events.{Event}
 use Rattle.typing_spec.specs.Program as typed
 use Rattle.typed_ast.specs.declared.units.Program as unit
 use Rattle.typed_ast.specs.View.{program_of}
@@ -68,7 +69,7 @@ node_reached T p whole o sent old new x port port2 s i a m t k = (
 pub stands_as : (T : List Entry → Type 0) (p : typed.Program) (whole : Whole) (o : Outset) (sent : List ℕ) (m : Interpreter) (x y : on.Step) (port : PortView) → x ≡ y → Stands T p whole o sent m x port → Stands T p whole o sent m y port
 stands_as T p whole o sent m x y port e s = let P : on.Step → Type 0 = λ x. Stands T p whole o sent m x port in subst P e s
 
--- ---- the port rests
+-- ---- the port flushes
 
 pub stands_rested : (T : List Entry → Type 0) (p : typed.Program) (whole : Whole) (o : Outset) (sent : List ℕ) (m : Interpreter) (x : on.Step) (old new : PortView) → Stands T p whole o sent m x old →
     Flushes old new → Stands T p whole o sent m x new
@@ -97,7 +98,7 @@ runs_rested T p all o k m x old new r f = record {
 }
 
 module _ (T : List Entry → Type 0) (p : typed.Program) (all : Whole) (o : Outset) where
-  -- ---- how a run stops that has so many ticks
+  -- ---- how a run of that many ticks stops
 
   given_up_by : (k clock : ℕ) (sent : List ℕ) (port : PortView) → clock ≤ k → sent ≡ bytes_of (last_of (all clock)).history → GivenUp (λ n. all (n + k)) o sent port → GivenUpBy all o k port
   given_up_by k clock sent port le e s = record {
@@ -174,7 +175,7 @@ module _ (T : List Entry → Type 0) (p : typed.Program) (all : Whole) (o : Outs
   -- ---- a tick
 
   module _ (k : ℕ) (now : List ℕ) (mid : Interpreter) (x : on.Node) (port : PortView) (s : Stands T p (λ n. all (n + k)) o now mid (enters x) port) (none : mid.kept ≡ None) where
-    -- without a tick more the run stops before the node
+    -- without a further tick the run stops before the node
     waits_here : StopsAs (all (0 + k)) machine.TicksUsed s.input s.history
     waits_here = node_waits p (frames_of mid.machine) (frames_of mid.machine) x mid.machine.scene mid.machine.scene s.input s.history (λ n. all (n + k)) s.follows
 
@@ -296,21 +297,28 @@ bytes_are_output : (p : typed.Program) (input : List ℕ) (n : ℕ) → bytes_of
 unfolding run_of
 bytes_are_output p input n = ap (λ (s : State). bytes_of s.history) (given_last as_found (cstep n p input))
 
--- ---- what a run came to is what the definition answers
+-- ---- the result of a run is the answer of the definition
 
--- with each tick it does more
+-- with each further tick it does more
 trace_more : (newer h : List Entry) → trace_of (newer ++ h) ≡ trace_of newer ++ trace_of h
 trace_more [] h = refl
 trace_more (Did e ∷ newer) h = ap (λ l. e ∷ l) (trace_more newer h)
 trace_more (Entered f ∷ newer) h = trace_more newer h
 trace_more (Left ∷ newer) h = trace_more newer h
 
+one_more : (k : ℕ) → suc k ≡ 1 + k
+one_more k = omega arith
+
+no_more_events : (l : List Event) → l ≡ l ++ []
+no_more_events [] = refl
+no_more_events (e ∷ l) = ap (λ l. e ∷ l) (no_more_events l)
+
 run_grows : (p : typed.Program) (input : List ℕ) → Grows (run_of p input)
 unfolding run_of
 run_grows p input k =
     let g = history_grows k 1 p input in (
       trace_of g.0,
-      ap (λ (s : State). trace_of s.history) (given_last as_found (cstep (suc k) p input)) ∙ ap trace_of g.1 ∙ trace_more g.0 (last_of (cstep k p input)).history
+      ap (λ (s : State). trace_of s.history) (given_last as_found (cstep (suc k) p input)) ∙ ap (λ n. trace_of (last_of (cstep n p input)).history) (one_more k) ∙ ap trace_of g.1 ∙ trace_more g.0 (last_of (cstep k p input)).history
           ∙ ap (λ (s : State). trace_of g.0 ++ trace_of s.history) (sym (given_last as_found (cstep k p input))),
     )
 
@@ -410,16 +418,16 @@ bytes_entered None f = refl
 bytes_entered (Some g) f = refl
 
 pub given_up_first : (p : typed.Program) (input : List ℕ) (ticks : ℕ) (port : PortView) → port.input ≡ Some input → IsGivenUp p input ticks port port × IsBegun p input ticks port port
-given_up_first p input ticks port given = (
+given_up_first p input ticks port known = (
   (0, (omega arith, output_as port.output port.output _ _ (nothing_put p input) (nothing_sent port.output))),
   record {
     clock = 0;
     within = omega arith;
     events = [];
-    begins = (trace_of (last_of (cstep 0 p input)).history, append_none (trace_of (last_of (cstep 0 p input)).history));
+    begins = (trace_of (last_of (cstep 0 p input)).history, no_more_events (trace_of (last_of (cstep 0 p input)).history));
     output_is = nothing_sent port.output;
     left = input;
-    left_is = given;
+    left_is = known;
     got_is = refl;
   },
 )
@@ -491,7 +499,7 @@ module _ (T : List Entry → Type 0) (p : typed.Program) (input : List ℕ) (old
     output_is = nothing_sent port.output;
     begins = record {
       events = [];
-      begins = (trace_of (last_of (run_of p input (0 + 0))).history, append_none (trace_of (last_of (run_of p input (0 + 0))).history));
+      begins = (trace_of (last_of (run_of p input (0 + 0))).history, no_more_events (trace_of (last_of (run_of p input (0 + 0))).history));
       output_is = nothing_sent port.output;
       left = input;
       left_is = given;
@@ -527,7 +535,7 @@ meets_new a b input ticks r greatest old new e h = let P : Bor unit.Program → 
 pub told_new : (T : List Entry → Type 0) (a b : Bor unit.Program) (input : List ℕ) (ticks : ℕ) (r : Run) → a ≡ b → IsTold T (program_of a.now) input ticks r → IsTold T (program_of b.now) input ticks r
 told_new T a b input ticks r e h = let P : Bor unit.Program → Type 0 = λ b. IsTold T (program_of b.now) input ticks r in subst P e h
 
--- ---- behind the last tick
+-- ---- after the last tick
 
 pub used_up : (T : List Entry → Type 0) (p : typed.Program) (all : Whole) (o : Outset) (k ticks : ℕ) (sent : List ℕ) (m : Interpreter) (n : Node) (r : Run) (port : PortView) → k ≡ ticks → r ≡ run.TicksUsed →
     SettleMeets T p (λ n. all (n + k)) o sent (Ok n) m port → RunStops T p all o ticks r m.tally port

@@ -1,4 +1,4 @@
--- What an observer was told, through a run.
+-- What was reported to an observer during a run.
 use Rattle.std.proofs.Common.{◌≡◌, inl, inr, ℕ, ◌+◌, List, refl, sym, subst}
 use Rattle.std.specs.Prelude.{Result, Ok, Err, Bool, true, false, ⊤}
 use Rattle.std.specs.Bool.{OnTrue}
@@ -19,12 +19,12 @@ use Rattle.cabs.specs.declared.outcome.Run.TheVariants as run
 use Rattle.cabs.specs.Interpreting.{IsTold}
 use Rattle.cabs.specs.inside.Standing.{Outset, Whole, Knows, Stands, Stopping, StoppingBy, Stopped, StoppedBy, SettleMeets, Runs, EndsAs, RunStops, MeetsAt}
 
--- what is known of one observer behind something that is told gives what is known of the other before it
+-- what is known of one observer after a report gives what is known of the other before it
 pub known : (b : Bool) (T U : List Entry → Type 0) (f : List Entry → List Entry) → ((h : List Entry) → T h → U (f h)) → (h : List Entry) → Knows b T h → Knows b U (f h)
 known true T U f k h t = k h t
 known false T U f k h t = tt
 
--- what is told of a run, where that is asked
+-- what is reported of a run, if that is asked for
 pub asked : (b : Bool) (T : List Entry → Type 0) (p : typed.Program) (input : List ℕ) (ticks : ℕ) (r : Run) → IsTold (Knows b T) p input ticks r → OnTrue b (IsTold T p input ticks r)
 asked false T p input ticks r h = tt
 asked true T p input ticks (run.Ended n) h = h
@@ -37,7 +37,7 @@ pub nothing_told : (b : Bool) → OnTrue b ⊤
 nothing_told true = tt
 nothing_told false = tt
 
--- where a history is the one that was told
+-- if a history is the one that was reported
 pub same_history : (T : List Entry → Type 0) (h : List Entry) → T h → (g : List Entry) → g ≡ h → T g
 same_history T h t g e = subst T (sym e) t
 

@@ -1,4 +1,4 @@
--- What interpreting a program comes to, over a port that tells its input, and perhaps its output.
+-- The result of interpreting a program over a port whose input, and perhaps whose output, contracts can see.
 use Rattle.std.specs.Prelude.{◌≡◌, ◌≤◌, ◌<◌, ℕ, zero, suc, List, [], ◌∷◌, ◌++◌, Option, None, Some, ⊤}
 use Rattle.std.specs.Io.KnownBytes.{Appends}
 use Rattle.typing_spec.specs.Program.{Program}
@@ -12,19 +12,19 @@ use Rattle.io_ports.specs.Port.{PortView, Rises}
 use Rattle.cabs.specs.declared.outcome.Run.{Run}
 use Rattle.cabs.specs.declared.outcome.Run.TheVariants as run
 
--- the answer ends so; the input left, the bytes that were put, and the greatest sum are the answer's
+-- the answer ends in this way; the input left, the bytes written and the greatest sum are those of the answer
 pub record IsAnswer (a : Answer) (e : Ending) (greatest : ℕ) (old new : PortView) : Type 0 where
   pub ending_is : a.ending ≡ e
   pub input_is : new.input ≡ Some a.input_left
   pub output_is : Appends old.output new.output a.output
   pub greatest_is : greatest ≡ a.greatest
 
--- the bytes that were put are those of the answer of a clock no greater
+-- the bytes written are those of the answer for a clock that is no greater
 abbrev pub IsGivenUp : Program → List ℕ → ℕ → PortView → PortView → Type 0
 IsGivenUp p input ticks old new = (clock : ℕ) × ((clock ≤ ticks) × Appends old.output new.output (answer clock p input).output)
 
--- what was got and put together is a beginning of what the run does with some clock no greater: all events up to one of them, the
--- newest first. So no byte is held back that was put before another was got
+-- what was read and written together is a beginning of what the run does with some clock that is no greater: all events up to one of them,
+-- the newest first. So no byte is held back that was written before another was read
 pub record IsBegun (p : Program) (input : List ℕ) (ticks : ℕ) (old new : PortView) : Type 0 where
   pub clock : ℕ
   pub within : clock ≤ ticks
@@ -35,7 +35,7 @@ pub record IsBegun (p : Program) (input : List ℕ) (ticks : ℕ) (old new : Por
   pub left_is : new.input ≡ Some left
   pub got_is : input ≡ taken events ++ left
 
--- what the run of p on this input with so many ticks came to: it is the definition's, or it was given up
+-- the result of the run of p on this input with that many ticks: that of the definition, or the run was given up
 abbrev pub RunMeets : Program → List ℕ → ℕ → Run → ℕ → PortView → PortView → Type 0
 RunMeets p input ticks (run.Ended status) greatest old new = IsAnswer (answer ticks p input) (Ended status) greatest old new
 RunMeets p input ticks (run.Undefined act at) greatest old new = IsAnswer (answer ticks p input) (Undefined act at) greatest old new
@@ -43,14 +43,14 @@ RunMeets p input ticks run.TicksUsed greatest old new = IsAnswer (answer ticks p
 RunMeets p input ticks (run.Port fault) greatest old new = IsGivenUp p input ticks old new × IsBegun p input ticks old new
 RunMeets p input ticks run.Memory greatest old new = IsGivenUp p input ticks old new × IsBegun p input ticks old new
 
--- ---- what an observer was told
+-- ---- what was reported to an observer
 
--- what was got: a byte, or that the input is at its end
+-- what was read: a byte, or the end of the input
 abbrev pub got_of : Option ℕ → Event
 got_of None = GotEnd
 got_of (Some b) = Got b
 
--- where the run was not given up, what was told is the history of the definition's run
+-- if the run was not given up, what was reported is the history of the definition's run
 abbrev pub IsTold : (List Entry → Type 0) → Program → List ℕ → ℕ → Run → Type 0
 IsTold T p input ticks (run.Ended status) = T (last_of (cstep ticks p input)).history
 IsTold T p input ticks (run.Undefined act at) = T (last_of (cstep ticks p input)).history
@@ -61,17 +61,17 @@ IsTold T p input ticks run.Memory = ⊤
 -- ---- what an observer was shown
 
 -- the objects at the first k ticks of the run of p on this input, those of the last tick first. Tick number k, counted from 0, is
--- the one for which a clock of k ticks has nothing left
+-- the one for which a clock of k ticks has none left
 abbrev pub moments : Program → List ℕ → ℕ → List Store
 moments p input zero = []
 moments p input (suc k) = (last_of (cstep k p input)).store ∷ moments p input k
 
--- the run takes k ticks and ends so: no smaller clock is enough for it
+-- the run takes k ticks and ends in this way: no smaller clock suffices for it
 pub record Lasts (p : Program) (input : List ℕ) (k : ℕ) (e : Ending) : Type 0 where
   pub ends : (answer k p input).ending ≡ e
   pub waits : (j : ℕ) → j < k → (answer j p input).ending ≡ TicksUsed
 
--- each tick of the run that ends so was shown, and nothing else
+-- each tick of the run that ends in this way was shown, and nothing else
 abbrev pub IsShownWhole : (List Store → Type 0) → Program → List ℕ → ℕ → Ending → Type 0
 IsShownWhole S p input ticks e = (k : ℕ) × ((k ≤ ticks) × (Lasts p input k e × S (moments p input k)))
 
@@ -79,7 +79,7 @@ IsShownWhole S p input ticks e = (k : ℕ) × ((k ≤ ticks) × (Lasts p input k
 abbrev pub IsShownSome : (List Store → Type 0) → Program → List ℕ → ℕ → Type 0
 IsShownSome S p input ticks = (k : ℕ) × ((k ≤ ticks) × S (moments p input k))
 
--- what was shown are the objects of the definition's run at its ticks, each tick once, in order; where the run was given up, at its
+-- what was shown are the objects of the definition's run at its ticks, each tick once, in order; if the run was given up, at its
 -- first ticks
 abbrev pub IsShown : (List Store → Type 0) → Program → List ℕ → ℕ → Run → Type 0
 IsShown S p input ticks (run.Ended status) = IsShownWhole S p input ticks (Ended status)
@@ -90,7 +90,7 @@ IsShown S p input ticks run.Memory = IsShownSome S p input ticks
 
 -- ---- the port's failures
 
--- the port's count of failures rose where its fault is answered, and nowhere else
+-- the port's count of failures rose if its fault is returned, and otherwise not
 abbrev pub Counts : Run → ℕ → ℕ → Type 0
 Counts (run.Ended status) old new = new ≡ old
 Counts (run.Undefined act at) old new = new ≡ old
@@ -98,7 +98,7 @@ Counts run.TicksUsed old new = new ≡ old
 Counts (run.Port fault) old new = Rises old new
 Counts run.Memory old new = new ≡ old
 
--- what the port says of its fault holds of the fault that is answered
+-- what the port states of its fault holds of the fault that is returned
 abbrev pub Blames : (PortFault → Type 0) → Run → Type 0
 Blames P (run.Ended status) = ⊤
 Blames P (run.Undefined act at) = ⊤

@@ -1,2 +1,2 @@
--- What only proofs and private functions need: nothing here has to be believed.
+-- Needed only by proofs and private functions: nothing here has to be trusted.
 pub mod Standing

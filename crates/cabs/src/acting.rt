@@ -1,4 +1,4 @@
-//! Steps that take no tick, at the port and between calls.
+//! Steps that take no tick: at the port and between calls.
 
 ghost use Rattle.std.specs.Prelude.{◌≡◌, ℕ, Bool, List, IfErr, IfOk, Option, map};
 ghost use Rattle.srcset.specs.declared.refusal.Pos.{Pos};
@@ -26,7 +26,7 @@ use io_ports::Port;
 use srcset::Pos;
 use typed_ast::Callee;
 
-/// The run stops: the byte that waits is put first.
+/// Stops the run, after the pending byte is written.
 pub fn finish<P: Port, O: Observer>(
     interpreter: &mut Interpreter<'_>,
     port: &mut P,
@@ -54,9 +54,9 @@ pub fn finish<P: Port, O: Observer>(
     }
 }
 
-/// What is found goes to the innermost frame.
+/// Passes a result to the innermost frame.
 ///
-/// Errors: how the run stops. Where nothing waits its ticks go by: the run of a program never comes there.
+/// Errors: how the run stops. If no frame waits, the ticks pass; the run of a program never reaches that state.
 fn act_found<'p, P: Port, O: Observer>(
     interpreter: &mut Interpreter<'p>,
     port: &mut P,
@@ -85,9 +85,9 @@ fn act_found<'p, P: Port, O: Observer>(
     }
 }
 
-/// The next byte of the input, or -1 at its end.
+/// Reads the next byte of the input, or returns -1 at its end.
 ///
-/// Errors: the port refused; no byte may wait.
+/// Errors: the port refused; no byte may be pending.
 fn get<'p, P: Port, O: Observer>(
     interpreter: &mut Interpreter<'p>,
     port: &mut P,
@@ -118,9 +118,9 @@ fn get<'p, P: Port, O: Observer>(
     }
 }
 
-/// A byte is to be put.
+/// Makes a byte pending, to be written.
 ///
-/// Errors: no other byte may wait.
+/// Errors: no other byte may be pending.
 fn put<'p, O: Observer>(
     interpreter: &mut Interpreter<'p>,
     observer: &mut O,
@@ -145,7 +145,7 @@ fn put<'p, O: Observer>(
     }
 }
 
-/// Tells that a function of the program was entered.
+/// Reports that a function of the program was entered.
 fn tell_call<O: Observer>(
     interpreter: &Interpreter<'_>,
     observer: &mut O,
@@ -161,7 +161,7 @@ fn tell_call<O: Observer>(
     }
 }
 
-/// A call whose arguments are done.
+/// A call whose arguments have been evaluated.
 ///
 /// Errors: how the run stops.
 fn act_call<'p, P: Port, O: Observer>(
@@ -197,7 +197,7 @@ fn act_call<'p, P: Port, O: Observer>(
     }
 }
 
-/// One step, which takes no tick: a node stays.
+/// One step, which takes no tick; a node is returned as it is.
 ///
 /// Errors: how the run stops.
 pub fn act<'p, P: Port, O: Observer>(

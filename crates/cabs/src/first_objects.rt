@@ -50,7 +50,7 @@ fn literal_object(alloc: Global, text: &[u8]) -> Result<Tree, AllocError>
     }
 }
 
-/// The first one of these values, 0 if there is none (6.7.9p10).
+/// The first of these values, or 0 if there is none (6.7.9p10).
 fn first_or_zero(values: &[i64]) -> i64
     ensures { result ≡ machine.first_or_zero values.now }
 {
@@ -60,7 +60,7 @@ fn first_or_zero(values: &[i64]) -> i64
     }
 }
 
-/// Value `k` of these, 0 past their end (6.7.9p21).
+/// Value `k` of these, or 0 after the last (6.7.9p21).
 fn value_or_zero(values: &[i64], k: usize) -> i64
     ensures { result ≡ machine.first_or_zero (drop k values.now) }
 {
@@ -70,7 +70,7 @@ fn value_or_zero(values: &[i64], k: usize) -> i64
     }
 }
 
-/// So many values in order, those behind the last one being zero, as cells (6.7.9p10, p21).
+/// That many values in order, with zeros after the last, as cells (6.7.9p10, p21).
 ///
 /// Errors: memory ran out.
 fn laid_cells(alloc: Global, count: usize, values: &[i64]) -> Result<Vec<i64>, Stop>
@@ -134,7 +134,7 @@ fn push_literals(store: &mut Store, alloc: Global, literals: &[Vec<u8>]) -> Resu
     Ok(())
 }
 
-/// One more object, of a string literal.
+/// Adds the object of a string literal.
 ///
 /// Errors: memory ran out.
 fn push_literal(store: &mut Store, alloc: Global, text: &[u8]) -> Result<(), Stop>
@@ -150,7 +150,7 @@ fn push_literal(store: &mut Store, alloc: Global, text: &[u8]) -> Result<(), Sto
     }
 }
 
-/// One more object, with static storage.
+/// Adds an object with static storage.
 ///
 /// Errors: memory ran out.
 fn push_static(store: &mut Store, alloc: Global, of: &Static) -> Result<(), Stop>

@@ -1,4 +1,4 @@
-//! Parts of the program that call nothing, each done as a whole.
+//! Parts of the program without calls, each evaluated as a whole.
 
 ghost use Rattle.std.specs.Prelude.{◌≡◌, ◌≢◌, ◌<◌, ◌≤◌, ◌+◌, ℕ, List, Option, None, true};
 ghost use Rattle.std.specs.Bool.{OnTrue};
@@ -17,7 +17,7 @@ use interp_eval::clock::{Clock, Why};
 use interp_eval::parts::done;
 use interp_store::frames::{Node, Step};
 
-/// How the run stops in a part that is evaluated.
+/// How the run stops inside a part that is evaluated as a whole.
 fn stopped(why: Why) -> Run
     requires { why ≢ Elsewhere }
     ensures { result ≡ stopped_for why }
@@ -30,7 +30,7 @@ fn stopped(why: Why) -> Run
     }
 }
 
-/// Whether ticks were spent, and no more than are allowed.
+/// Whether ticks were spent, and at most as many as are allowed.
 #[inline(always)]
 fn is_within(old: u64, new: u64, limit: u64) -> bool
     ensures within { OnTrue result ((old < new) × (new ≤ limit)) }
@@ -39,7 +39,7 @@ fn is_within(old: u64, new: u64, limit: u64) -> bool
     old < new && new <= limit
 }
 
-/// A node that calls nothing, with all its ticks.
+/// A node without calls, with all its ticks.
 ///
 /// Errors: how the run stops in it.
 pub fn at_once<'p>(

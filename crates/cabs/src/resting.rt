@@ -1,4 +1,4 @@
-//! When the port may rest.
+//! When the port may flush.
 
 ghost use Rattle.io_ports.specs.Port.{Flushes};
 
@@ -6,10 +6,10 @@ use interp_store::frames::Node;
 use io_ports::Port;
 use typed_ast::Statement;
 
-/// So many ticks after the last time the port may rest.
+/// The number of ticks after which the port may flush again.
 pub const PERIOD: u64 = 1 << 22;
 
-/// Lets the port rest where that is due behind so many ticks, and answers when it is due next.
+/// Lets the port flush if that is due after this many ticks, and returns when it is due next.
 #[inline(always)]
 pub fn rest_at<P: Port>(port: &mut P, spent: u64, due: u64) -> u64
     ensures { Flushes (P.seen port.old) (P.seen port.new) }
@@ -21,7 +21,7 @@ pub fn rest_at<P: Port>(port: &mut P, spent: u64, due: u64) -> u64
     spent.saturating_add(PERIOD)
 }
 
-/// Lets the port rest before a part that calls nothing and may take any number of ticks.
+/// Lets the port flush before a part without calls that may take any number of ticks.
 #[inline(always)]
 pub fn rest_before<P: Port>(port: &mut P, node: &Node<'_>)
     ensures { Flushes (P.seen port.old) (P.seen port.new) }
@@ -31,7 +31,7 @@ pub fn rest_before<P: Port>(port: &mut P, node: &Node<'_>)
     }
 }
 
-/// Whether what takes the next tick may take any number of ticks, where it calls nothing.
+/// Whether the node that takes the next tick may take any number of ticks without a call.
 #[inline(always)]
 fn is_long(node: &Node<'_>) -> bool {
     match node {
@@ -46,7 +46,7 @@ fn is_long(node: &Node<'_>) -> bool {
     }
 }
 
-/// Whether one of these statements holds a loop.
+/// Whether one of these statements contains a loop.
 #[cycle(holding)]
 fn hold_loop(all: &[Statement]) -> bool {
     for a in all {
@@ -57,7 +57,7 @@ fn hold_loop(all: &[Statement]) -> bool {
     false
 }
 
-/// Whether a statement holds a loop.
+/// Whether a statement contains a loop.
 #[cycle(holding)]
 fn holds_loop(a: &Statement) -> bool {
     match a {

@@ -1,4 +1,4 @@
-//! Ticks, and the run.
+//! The ticks, and the run.
 
 ghost use Rattle.std.specs.Bool.{OnTrue};
 ghost use Rattle.std.specs.Prelude.{◌≡◌, ◌<◌, ◌∷◌, [], ℕ, Bool, List, Option, Some, true, false};
@@ -30,7 +30,7 @@ use io_ports::Port;
 use std::alloc::Global;
 use typed_ast::{Callee, Program};
 
-/// A node is reached: the byte that waits is put before its tick.
+/// Reaches a node: the pending byte is written before its tick.
 ///
 /// Errors: the port refused.
 #[inline(always)]
@@ -50,9 +50,9 @@ fn reach<'p, P: Port>(
     }
 }
 
-/// The node that takes the next tick, behind steps that take none.
+/// The node that takes the next tick, after the steps that take none.
 ///
-/// Errors: how the run stops before.
+/// Errors: how the run stops before it.
 fn settle<'p, P: Port, O: Observer>(
     interpreter: &mut Interpreter<'p>,
     port: &mut P,
@@ -78,7 +78,7 @@ fn settle<'p, P: Port, O: Observer>(
     }
 }
 
-/// Whether a node is done as a whole: it calls nothing, and nobody is told of its ticks.
+/// Whether a node is evaluated as a whole: it has no call, and its ticks are not observed.
 #[inline(always)]
 fn is_whole<O: Observer>(observer: &O, node: &Node<'_>) -> bool
     ensures quick { OnTrue result (quick_node (node_of node.now) ≡ true) }
@@ -87,7 +87,7 @@ fn is_whole<O: Observer>(observer: &O, node: &Node<'_>) -> bool
     !observer.wants_ticks() && is_quick_node(node)
 }
 
-/// A node takes its tick, of which the observer is told before.
+/// A node takes its tick, which is reported to the observer first.
 ///
 /// Errors: why there is no next step.
 #[inline(always)]
@@ -108,7 +108,7 @@ fn take_tick<'p, O: Observer>(
     enter(&mut interpreter.machine, node)
 }
 
-/// What takes the next tick: as a whole where it calls nothing, else one tick and the step behind it.
+/// Takes the next tick or ticks: the node as a whole if it has no call, else one tick and the step after it.
 ///
 /// Errors: how the run stops.
 fn tick<'p, P: Port, O: Observer>(
@@ -145,7 +145,7 @@ fn tick<'p, P: Port, O: Observer>(
     }
 }
 
-/// At most so many ticks.
+/// Runs for at most this many ticks.
 fn run_on<'p, P: Port, O: Observer>(
     interpreter: &mut Interpreter<'p>,
     port: &mut P,
@@ -177,7 +177,7 @@ fn run_on<'p, P: Port, O: Observer>(
     }
 }
 
-/// The run from the call of `main` on (5.1.2.2.1).
+/// The run, from the call of `main` on (5.1.2.2.1).
 fn start<P: Port, O: Observer>(
     interpreter: &mut Interpreter<'_>,
     port: &mut P,
@@ -205,12 +205,12 @@ fn start<P: Port, O: Observer>(
     }
 }
 
-/// What `program` does on the port's input, with so many ticks (ISO/IEC 9899:2011 5.1.2.3). A tick is spent on each node that is
+/// Runs `program` on the port's input for at most this many ticks (ISO/IEC 9899:2011 5.1.2.3). A tick is spent on each node that is
 /// entered, each case that is tested, and each element that an initialiser gives a value.
 ///
-/// Nested calls take memory of the allocator, and not the host's stack. `Run::Port` is answered only where the port's count of
-/// failures rose. Behind that answer, and behind `Run::Memory`, the bytes that were put are those of the run with a smaller
-/// number of ticks.
+/// Nested calls allocate memory and do not use the host's stack. `Run::Port` is returned only if the port's count of
+/// failures rose. After that result, and after `Run::Memory`, the bytes read and written are a beginning of those of a run with no more
+/// ticks, in their order.
 pub fn interpret<P: Port>(alloc: Global, program: &Program, port: &mut P, ticks: u64) -> Interpreted
     ensures meets { (input : List ℕ) → (P.seen port.old).input ≡ Some input →
         RunMeets (program_of program.now) input ticks result.run result.greatest (P.seen port.old) (P.seen port.new) }
@@ -221,10 +221,10 @@ pub fn interpret<P: Port>(alloc: Global, program: &Program, port: &mut P, ticks:
     observe(alloc, program, port, ticks, &mut nobody)
 }
 
-/// What `interpret` answers, and while the program runs the observer is told what it does.
+/// Does what `interpret` does, and reports the run to the observer while it goes on.
 ///
-/// An observer that was told nothing is told the history of the abstract machine, unless the run is given up. One that always asks for
-/// all ticks is told of each as it comes, with the objects that the abstract machine has there.
+/// An observer that starts with an empty history receives the history of the abstract machine, unless the run is given up. One that always asks
+/// for all ticks receives each of them as it comes, with the objects that the abstract machine has there.
 pub fn observe<P: Port, O: Observer>(
     alloc: Global,
     program: &Program,

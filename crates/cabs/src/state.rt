@@ -1,4 +1,4 @@
-//! The machine with what it has told the outside so far.
+//! The interpreter's state, with what it has reported so far.
 
 ghost use Rattle.std.specs.Prelude.{◌≡◌, ◌∷◌, [], Some, None, Ok, List, ℕ, IfErr, IfOk, MatchResult, OnOk};
 ghost use Rattle.std.specs.Io.KnownBytes.{Appends, Keeps};
@@ -24,7 +24,7 @@ use io_ports::{Port, PortFault};
 use std::alloc::Global;
 use typed_ast::{Callee, Program};
 
-/// A run between two steps: the machine, the weights of the calls that are active, and a byte that waits to be put.
+/// A run between two steps: the machine, the weights of the active calls, and a byte that is pending.
 ///
 /// A byte goes to the port with the next tick and not before, so that after each refusal the output is that of a whole number
 /// of ticks.
@@ -68,7 +68,7 @@ impl<'p> Interpreter<'p> {
         })
     }
 
-    /// The byte that waits goes to the port.
+    /// Writes the pending byte to the port.
     #[inline(always)]
     pub fn send<P: Port>(&mut self, port: &mut P) -> Result<(), PortFault>
         ensures input { Keeps (P.seen port.old).input (P.seen port.new).input }
@@ -91,7 +91,7 @@ impl<'p> Interpreter<'p> {
         }
     }
 
-    /// A call ends, where this frame is one that gets what it waited for.
+    /// Ends a call if this frame was waiting for a call's body.
     #[inline(always)]
     pub fn count_end<O: Observer>(&mut self, observer: &mut O, frame: &Frame<'p>, found: &Found)
         ensures tells { (p : typed.Program) (h : List Entry) → Tells p h self.old.tally → Tells p (history_left (frame_of frame.now) (found_of found.now) h) self.new.tally }
@@ -107,7 +107,7 @@ impl<'p> Interpreter<'p> {
         }
     }
 
-    /// A call of a function that has a definition begins.
+    /// Begins the call of a function that has a definition.
     ///
     /// Errors: memory ran out.
     pub fn count_call<O: Observer>(&mut self, observer: &mut O, callee: Callee) -> Result<(), Stop>
@@ -129,7 +129,7 @@ impl<'p> Interpreter<'p> {
         }
     }
 
-    /// A call of function `f` begins, where it has a definition.
+    /// Begins the call of function `f` if that has a definition.
     ///
     /// Errors: memory ran out.
     fn count_function<O: Observer>(&mut self, observer: &mut O, f: usize) -> Result<(), Stop>
@@ -149,7 +149,7 @@ impl<'p> Interpreter<'p> {
         }
     }
 
-    /// A call of function `f`, which has this weight, begins.
+    /// Begins the call of function `f`, which has this weight.
     ///
     /// Errors: memory ran out.
     fn begin_call<O: Observer>(
@@ -202,7 +202,7 @@ fn is_return_flow(frame: &FlowFrame<'_>) -> bool
     }
 }
 
-/// Whether a statement was left.
+/// Whether a statement has ended.
 #[inline(always)]
 fn is_flow(found: &Found) -> bool
     ensures { result ≡ is_flow (found_of found.now) }

@@ -1,4 +1,4 @@
--- The laws of a built file, joined.
+-- The laws of a built file, together.
 use Rattle.std.proofs.Common.{◌≡◌, ℕ, List, Ok, sym, ◌∙◌, subst}
 use Rattle.srcset.specs.NameTable.{Texts}
 use Rattle.tree.specs.Tree.{ExternalTree}
@@ -45,7 +45,7 @@ same stack p file frames made image input m convention below = record {
   touches_nothing_below = below;
 }
 
--- the image from which the file runs serves
+-- the image from which the file runs suffices
 serves : (stack : ℕ) (p : Program) (frames file : List ℕ) → RunsAs stack p frames file → HasImage file (λ image. (input : List ℕ) → IsInput input → StaysDefined stack p input → Serves p image input)
 serves stack p frames file r = (r.image, r.loads, λ input bytes fine. by_weights stack p frames file r input bytes fine)
 

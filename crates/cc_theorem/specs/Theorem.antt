@@ -1,4 +1,4 @@
--- The theorem about the compiler in one statement: what is promised of each file that it answers.
+-- The theorem about the compiler in one statement: what is promised of each file that it returns.
 use Rattle.std.specs.Prelude.{◌≡◌, ◌≤◌, ℕ, ◌+◌, ◌*◌, List, reverse}
 use Rattle.rv32.specs.declared.state.Cause.{Cause}
 use Rattle.rv32.specs.Step.{register}
@@ -17,7 +17,7 @@ use Rattle.cc_laws.specs.Laws.{IsDefined, StaysDefined, HasImage, run_of, done_i
 use Rattle.cc_laws.specs.Overflow.{IsAlwaysDefined, GoesUpToOverflow}
 use Rattle.cc_laws.specs.Frames.{StaysWithinFrames, RunsWithinFrames}
 
--- Where nothing is undefined, and the stack serves: the file does all that the abstract machine does and nothing else, ends where that ends, never traps and
+-- If there is no undefined behaviour, and the stack suffices: the file does all that the abstract machine does and nothing else, ends if that ends, never traps and
 -- stays in its memory; each call, and main, keeps the calling convention; and at no instruction is anything in the stack below the stack pointer loaded or stored.
 pub record DoesTheSame {stack : ℕ} {p : Program} {file frames : List ℕ} (made : IsFileOf stack p file frames) (image : Image) (input : List ℕ) : Type 0 where
   pub does_all : (n : ℕ) → (k : ℕ) × (done_in (run_of image input k) ≡ (answer n p input).trace)
@@ -31,12 +31,12 @@ pub record DoesTheSame {stack : ℕ} {p : Program} {file frames : List ℕ} (mad
 
 -- on one input of bytes
 pub record OnInput {stack : ℕ} {p : Program} {file frames : List ℕ} (made : IsFileOf stack p file frames) (image : Image) (input : List ℕ) : Type 0 where
-  -- the stack serves by the weights that the source gives, or by the frames in the file, which are never larger
+  -- the stack suffices by the weights that the source gives, or by the frames in the file, which are never larger
   pub within_stack : StaysDefined stack p input → DoesTheSame made image input
   pub within_frames : StaysWithinFrames stack frames p input → DoesTheSame made image input
   pub beyond_stack : IsAlwaysDefined p input → GoesUpToOverflow made.parts p image input
   pub by_frames : RunsWithinFrames stack p frames image input
-  -- whatever comes later, undefined behaviour too
+  -- whatever comes later, including undefined behaviour
   pub so_far : (n : ℕ) → IsDefined (answer n p input).ending → (answer n p input).greatest ≤ stack
       → (k : ℕ) × (done_in (run_of image input k) ≡ (answer n p input).trace) × ((j : ℕ) → j ≤ k → IsBeginning (done_in (run_of image input j)) (answer n p input).trace)
   pub in_time : (n status : ℕ) → (answer n p input).ending ≡ Ended status → (answer n p input).greatest ≤ stack
@@ -44,7 +44,7 @@ pub record OnInput {stack : ℕ} {p : Program} {file frames : List ℕ} (made : 
   -- gp and tp stay 0, whatever the program does
   pub reserved : (k : ℕ) (w : World) → run_of image input k ≡ Running w → (register w.machine 3 ≡ 0) × (register w.machine 4 ≡ 0)
 
--- for each file that the compiler answers; `compiles` of `IsMade` says of which program
+-- for each file that the compiler returns; `compiles` of `IsMade` states of which program
 abbrev pub TheTheorem : Type 0
 TheTheorem =
     (stack : ℕ) (set : Files) (name : List ℕ) (built : Built) (made : IsMade stack set name built)

@@ -1,4 +1,4 @@
--- Where a run stands between two steps, and how it stops, over a port that tells its input.
+-- The state of a run between two steps, and how it stops, over a port whose input contracts can see.
 use Rattle.std.specs.Prelude.{◌≡◌, ◌≤◌, ◌<◌, ◌⊎◌, ℕ, zero, suc, ◌+◌, ◌*◌, List, [], ◌∷◌, ◌++◌, length, Bool, true, false, Option, Some, None, Result, Ok, Err, ⊤, slice_get}
 use Rattle.std.specs.Bool.{OnTrue}
 use Rattle.std.specs.Io.KnownBytes.{Appends}
@@ -48,7 +48,7 @@ left_where false ends h = h
 left_where true false h = h
 left_where true true h = Left ∷ h
 
--- a call ends where its frame gets the flow that it waited for
+-- a call ends if its frame gets the flow that it waited for
 abbrev pub history_left : on.Frame → on.Found → List Entry → List Entry
 history_left f x h = left_where (is_flow x) (is_return f) h
 
@@ -56,7 +56,7 @@ abbrev pub entered_where : Option typed.Function → ℕ → List Entry → List
 entered_where None f h = h
 entered_where (Some g) f h = Entered f ∷ h
 
--- a call begins where its function has a definition
+-- a call begins if its function has a definition
 abbrev pub history_called : typed.Program → typed.Callee → List Entry → List Entry
 history_called p (typed.function f) h = entered_where (slice_get p.functions f) f h
 history_called p typed.get_byte h = h
@@ -64,64 +64,64 @@ history_called p typed.put_byte h = h
 history_called p typed.exit h = h
 history_called p (typed.missing name) h = h
 
--- ---- what an observer was told
+-- ---- what was reported to an observer
 
--- what is told, where that is asked
+-- what is reported, if that is asked for
 abbrev pub Knows : Bool → (List Entry → Type 0) → List Entry → Type 0
 Knows b T h = OnTrue b (T h)
 
--- ---- how far it is to the next node
+-- ---- the distance to the next node
 
 abbrev pub distance : List on.Frame → on.Step → ℕ
 distance fs (on.enters n) = 0
 distance fs (on.leaves x) = 2 * length fs + 1
 distance fs (on.calls at callee used passed) = 2 * length fs + 2
 
--- ---- where a run stands
+-- ---- the state of a run
 
--- a run, as a function of the ticks that its clock has
+-- a run, as a function of the number of ticks of its clock
 abbrev pub Whole : Type 0
 Whole = ℕ → machine.Run on.Found
 
--- what is left of the run, by the ticks that are left
+-- the rest of the run, by the number of ticks that are left
 unfoldable pub left_of : typed.Program → List on.Frame → Scene → on.Step → List ℕ → List Entry → ℕ → machine.Run on.Found
 left_of p fs scene x input h n = resume p (call_in p) fs (present p (call_in p) x (state_in scene (record { clock = n; input = input; history = h })))
 
--- the byte that waits for the next tick, if there is one
+-- the pending byte, if there is one
 abbrev pub waiting : Option ℕ → List ℕ
 waiting None = []
 waiting (Some b) = b ∷ []
 
--- the bytes that a history has put
+-- the bytes that a history has written
 abbrev pub bytes_of : List Entry → List ℕ
 bytes_of h = written (trace_of h)
 
--- what the port told before the run
+-- what the port showed before the run
 pub record Outset : Type 0 where
   pub input : List ℕ
   pub output : Option (List ℕ)
 
--- the event of the byte that waits
+-- the event of the pending byte
 abbrev pub unsent : Option ℕ → List Event
 unsent None = []
 unsent (Some b) = Put b ∷ []
 
--- what a history did before the byte that waits: its bytes were sent, and what it got is gone from the input
+-- what a history did before the pending byte: its bytes were written, and what it read is gone from the input
 pub record Done (start : List ℕ) (h : List Entry) (input sent : List ℕ) (kept : Option ℕ) : Type 0 where
   pub events : List Event
   pub events_are : trace_of h ≡ unsent kept ++ events
   pub sent_are : written events ≡ sent
   pub got_is : start ≡ taken events ++ input
 
--- what this history did is what the run did first
+-- this history is the first part of what the run does
 abbrev pub Adds : List Entry → machine.Run on.Found → Type 0
 Adds h r = (newer : List Event) × (trace_of (last_of r).history ≡ newer ++ trace_of h)
 
--- with each tick a run does what it did without, and perhaps more
+-- with each further tick a run does what it did without it, and perhaps more
 abbrev pub Grows : Whole → Type 0
 Grows all = (k : ℕ) → Adds (last_of (all k)).history (all (suc k))
 
--- what was got and put is what the run does first
+-- what was read and written is the first part of what the run does
 pub record Begins (whole : machine.Run on.Found) (o : Outset) (port : PortView) : Type 0 where
   pub events : List Event
   pub begins : (newer : List Event) × (trace_of (last_of whole).history ≡ newer ++ events)
@@ -130,13 +130,13 @@ pub record Begins (whole : machine.Run on.Found) (o : Outset) (port : PortView) 
   pub left_is : port.input ≡ Some left
   pub got_is : o.input ≡ taken events ++ left
 
--- a run that is given up, where these bytes were sent
+-- a run that is given up after these bytes were written
 pub record GivenUp (whole : Whole) (o : Outset) (sent : List ℕ) (port : PortView) : Type 0 where
   pub output_is : Appends o.output port.output sent
   pub begins : Begins (whole 0) o port
 
 -- the run `whole`, a function of the ticks that are left, is at this machine and this step; the port was as o says, and these bytes
--- were sent since
+-- were written since
 pub record Stands (T : List Entry → Type 0) (p : typed.Program) (whole : Whole) (o : Outset) (sent : List ℕ) (m : Interpreter) (x : on.Step) (port : PortView) : Type 0 where
   pub input : List ℕ
   pub history : List Entry
@@ -156,11 +156,11 @@ pub record StopsAs (whole : machine.Run on.Found) (e : Ending) (input : List ℕ
   pub input_is : state.input ≡ input
   pub history_is : state.history ≡ h
 
--- however many ticks are left
+-- for any number of ticks that are left
 abbrev pub StopsAt : Whole → Ending → List ℕ → List Entry → Type 0
 StopsAt whole e input h = (n : ℕ) → StopsAs (whole n) e input h
 
--- before a byte that waits is sent
+-- before the pending byte is written
 pub record Stopping (T : List Entry → Type 0) (p : typed.Program) (whole : Whole) (o : Outset) (sent : List ℕ) (e : Ending) (m : Interpreter) (port : PortView) : Type 0 where
   pub input : List ℕ
   pub history : List Entry
@@ -177,7 +177,7 @@ StoppingBy T p whole o sent (stop.Ended status) m port = Stopping T p whole o se
 StoppingBy T p whole o sent (stop.Undefined act at) m port = Stopping T p whole o sent (machine.Undefined act at) m port
 StoppingBy T p whole o sent stop.Memory m port = GivenUp whole o sent port
 
--- and behind it
+-- and after it
 pub record Stopped (T : List Entry → Type 0) (p : typed.Program) (whole : Whole) (o : Outset) (e : Ending) (tally : Tally) (port : PortView) : Type 0 where
   pub input : List ℕ
   pub history : List Entry
@@ -187,11 +187,11 @@ pub record Stopped (T : List Entry → Type 0) (p : typed.Program) (whole : Whol
   pub tells : Tells p history tally
   pub told : T history
 
--- a run that no definition gives: nothing waits, and something is found
+-- a run that no definition gives: no frame waits, and there is a result
 abbrev pub Rests : Whole → Type 0
 Rests whole = (n : ℕ) → (x : on.Found) × ((s : State) × (whole n ≡ Goes x s))
 
--- how a run stops between two ticks, where these bytes were sent before
+-- how a run stops between two ticks, if these bytes were written before
 abbrev pub StoppedBy : (List Entry → Type 0) → typed.Program → Whole → Outset → List ℕ → Run → Tally → PortView → Type 0
 StoppedBy T p whole o sent (run.Ended status) tally port = Stopped T p whole o (machine.Ended status) tally port
 StoppedBy T p whole o sent (run.Undefined act at) tally port = Stopped T p whole o (machine.Undefined act at) tally port
@@ -204,7 +204,7 @@ IsLeft (step.Enters n) = ⊥
 IsLeft (step.Leaves x) = ⊤
 IsLeft (step.Calls at callee used passed) = ⊥
 
--- a step that takes no tick comes to one that is nearer to the next node
+-- a step that takes no tick leads to one that is nearer to the next node
 abbrev pub Nears : List on.Frame → on.Step → Result Step Run → List on.Frame → Type 0
 Nears fs x (Ok y) gs = distance gs (step_of y) < distance fs x
 Nears fs x (Err r) gs = ⊤
@@ -214,7 +214,7 @@ NearsFrom fs (on.enters n) r gs = ⊤
 NearsFrom fs (on.leaves x) r gs = Nears fs (on.leaves x) r gs
 NearsFrom fs (on.calls at callee used passed) r gs = Nears fs (on.calls at callee used passed) r gs
 
--- what one step came to
+-- the result of one step
 abbrev pub ActMeets : (List Entry → Type 0) → typed.Program → Whole → Outset → List ℕ → Result Step Run → Interpreter → PortView → Type 0
 ActMeets T p whole o sent (Ok x) m port = Stands T p whole o sent m (step_of x) port
 ActMeets T p whole o sent (Err r) m port = StoppedBy T p whole o sent r m.tally port
@@ -231,12 +231,12 @@ BlamesUntil P (Err r) = Blames P r
 
 -- ---- nodes and ticks
 
--- a node takes the next tick, and no byte waits
+-- a node takes the next tick, and no byte is pending
 abbrev pub SettleMeets : (List Entry → Type 0) → typed.Program → Whole → Outset → List ℕ → Result Node Run → Interpreter → PortView → Type 0
 SettleMeets T p whole o sent (Ok n) m port = (now : List ℕ) × (Stands T p whole o now m (on.enters (node_of n)) port × (m.kept ≡ None))
 SettleMeets T p whole o sent (Err r) m port = StoppedBy T p whole o sent r m.tally port
 
--- the run `all`, a function of its clock, of which so many ticks are spent; what was sent are the bytes of a clock no greater
+-- the run `all`, a function of its clock, of which that many ticks are spent; the bytes written are those of a clock that is no greater
 pub record Runs (T : List Entry → Type 0) (p : typed.Program) (all : Whole) (o : Outset) (spent : ℕ) (m : Interpreter) (x : on.Step) (port : PortView) : Type 0 where
   pub sent : List ℕ
   pub clock : ℕ
@@ -245,11 +245,11 @@ pub record Runs (T : List Entry → Type 0) (p : typed.Program) (all : Whole) (o
   pub grows : Grows all
   pub stands : Stands T p (λ n. all (n + spent)) o sent m x port
 
--- what was sent are the bytes of a clock no greater
+-- the bytes written are those of a clock that is no greater
 abbrev pub IsEarlier : Whole → Outset → ℕ → PortView → Type 0
 IsEarlier all o spent port = (clock : ℕ) × ((clock ≤ spent) × Appends o.output port.output (bytes_of (last_of (all clock)).history))
 
--- what was got and put is what the run with a clock no greater does first
+-- what was read and written is the first part of what the run with a clock that is no greater does
 abbrev pub IsFirst : Whole → Outset → ℕ → PortView → Type 0
 IsFirst all o spent port = (clock : ℕ) × ((clock ≤ spent) × Begins (all clock) o port)
 
@@ -258,7 +258,7 @@ pub record GivenUpBy (all : Whole) (o : Outset) (spent : ℕ) (port : PortView) 
   pub earlier : IsEarlier all o spent port
   pub first : IsFirst all o spent port
 
--- how a run stops that has so many ticks or more
+-- how a run stops that has at least that many ticks
 abbrev pub StopsBy : (List Entry → Type 0) → typed.Program → Whole → Outset → ℕ → Run → Tally → PortView → Type 0
 StopsBy T p all o spent (run.Ended status) tally port = Stopped T p (λ n. all (n + spent)) o (machine.Ended status) tally port
 StopsBy T p all o spent (run.Undefined act at) tally port = Stopped T p (λ n. all (n + spent)) o (machine.Undefined act at) tally port
@@ -276,7 +276,7 @@ pub record Fresh (m : Interpreter) : Type 0 where
   pub none_kept : m.kept ≡ None
   pub none_told : (p : typed.Program) → Tells p [] m.tally
 
--- the run stops so, with this input left and this history
+-- the run stops in this way, with this input left and this history
 pub record EndsAs (T : List Entry → Type 0) (p : typed.Program) (whole : machine.Run on.Found) (o : Outset) (e : Ending) (tally : Tally) (port : PortView) : Type 0 where
   pub input : List ℕ
   pub history : List Entry
@@ -286,7 +286,7 @@ pub record EndsAs (T : List Entry → Type 0) (p : typed.Program) (whole : machi
   pub tells : Tells p history tally
   pub told : T history
 
--- how a run of so many ticks stops
+-- how a run of that many ticks stops
 abbrev pub RunStops : (List Entry → Type 0) → typed.Program → Whole → Outset → ℕ → Run → Tally → PortView → Type 0
 RunStops T p all o ticks (run.Ended status) tally port = EndsAs T p (all ticks) o (machine.Ended status) tally port
 RunStops T p all o ticks (run.Undefined act at) tally port = EndsAs T p (all ticks) o (machine.Undefined act at) tally port
@@ -294,7 +294,7 @@ RunStops T p all o ticks run.TicksUsed tally port = EndsAs T p (all ticks) o mac
 RunStops T p all o ticks (run.Port fault) tally port = GivenUpBy all o ticks port
 RunStops T p all o ticks run.Memory tally port = GivenUpBy all o ticks port
 
--- ---- parts that are done as a whole
+-- ---- parts that are evaluated as a whole
 
 abbrev pub stopped_for : Why → Run
 stopped_for why.Ticks = run.TicksUsed
@@ -302,7 +302,7 @@ stopped_for (why.Undefined act at) = run.Undefined act at
 stopped_for why.Memory = run.Memory
 stopped_for why.Elsewhere = run.Memory
 
--- the run goes on with so many ticks spent, or it stops where so many are allowed
+-- the run goes on with that many ticks spent, or it stops with at most the allowed number
 abbrev pub MeetsAt : (List Entry → Type 0) → typed.Program → Whole → Outset → ℕ → Result Step Run → ℕ → Interpreter → PortView → Type 0
 MeetsAt T p all o limit (Ok x) spent m port = Runs T p all o spent m (step_of x) port
 MeetsAt T p all o limit (Err r) spent m port = RunStops T p all o limit r m.tally port
@@ -311,7 +311,7 @@ abbrev pub Spends : Result Step Run → ℕ → ℕ → ℕ → Type 0
 Spends (Ok x) old new limit = (old < new) × (new ≤ limit)
 Spends (Err r) old new limit = ⊤
 
--- no port was asked
+-- the port was not used
 abbrev pub IsCalm : Result Step Run → Type 0
 IsCalm (Ok x) = ⊤
 IsCalm (Err (run.Ended status)) = ⊤
@@ -327,7 +327,7 @@ abbrev pub moments_of : Whole → ℕ → List Store
 moments_of all zero = []
 moments_of all (suc k) = (last_of (all k)).store ∷ moments_of all k
 
--- a run stops for want of a tick
+-- a run stops because no tick is left
 abbrev pub Waits : machine.Run on.Found → Type 0
 Waits whole = (s : State) × (whole ≡ Stops machine.TicksUsed s)
 
@@ -347,7 +347,7 @@ pub record ShowsWhole (S : List Store → Type 0) (all : Whole) (ticks : ℕ) (e
 abbrev pub ShowsSome : (List Store → Type 0) → Whole → ℕ → Type 0
 ShowsSome S all ticks = (k : ℕ) × ((k ≤ ticks) × Showing S all k)
 
--- what was shown of a run of so many ticks that stops so
+-- what was shown of a run of that many ticks that stops in this way
 abbrev pub ShowsUntil : (List Store → Type 0) → Whole → ℕ → Run → Type 0
 ShowsUntil S all ticks (run.Ended status) = ShowsWhole S all ticks (machine.Ended status)
 ShowsUntil S all ticks (run.Undefined act at) = ShowsWhole S all ticks (machine.Undefined act at)
@@ -355,7 +355,7 @@ ShowsUntil S all ticks run.TicksUsed = Showing S all ticks ⊎ ((k : ℕ) × ((x
 ShowsUntil S all ticks (run.Port fault) = ShowsSome S all ticks
 ShowsUntil S all ticks run.Memory = ShowsSome S all ticks
 
--- the run goes on with so many ticks spent, or it stops where so many are allowed
+-- the run goes on with that many ticks spent, or it stops with at most the allowed number
 abbrev pub ShowsAt : (List Store → Type 0) → Whole → ℕ → Result Step Run → ℕ → Type 0
 ShowsAt S all limit (Ok x) spent = Showing S all spent
 ShowsAt S all limit (Err r) spent = ShowsUntil S all limit r

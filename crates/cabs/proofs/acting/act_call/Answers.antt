@@ -7,6 +7,7 @@ use Rattle.interp_store.specs.layer.Views.{passed_of, step_of}
 use Rattle.interp_store.specs.layer.Agrees.{frames_of}
 use Rattle.cabs.specs.inside.Standing.{Knows, distance, history_called}
 use Rattle.cabs.proofs.Following.{outside, call_nears}
+use Rattle.cabs.proofs.Begun.{given_up_here}
 use Rattle.cabs.proofs.Told.{known}
 use Rattle.cabs.proofs.Acts.{called_as, tells_at, told_at, still_stands, call_stands, call_stopping}
 use Rattle.cabs.proofs.acting.act_call.Goals as goal
@@ -74,3 +75,7 @@ returns-in-Err-call-clause-meets g c b p whole o sent s =
     let passed = map passed_of c.args.passed.now in
     c.finish.ensures.meets b p whole o sent (call_stopping (Knows b T) (Knows b U) p whole o sent c.args.interpreter.now _ mid c.args.at callee c.args.used passed _ c.in-Ok.ensures.machine
     (tells_at T U p whole o sent q callee c.args.interpreter.now.tally c.count_call.new.self.tally s.program_is c.in-Ok.ensures.tells) (known b T U (history_called p callee) begun) c.in-Ok.ensures.kept s c.in-Err-call.stop c.in-Err-call.ensures.acts.0 c.in-Err-call.ensures.acts.1)
+
+pub returns-in-Err-clause-meets : goal.returns-in-Err-clause-meets
+returns-in-Err-clause-meets g c b p whole o sent s =
+    given_up_here (Knows b (g.O.Observer.told c.args.observer.now)) p whole o sent c.args.interpreter.now (on.calls c.args.at (callee_of c.args.callee) c.args.used (map passed_of c.args.passed.now)) (g.P.Port.seen c.args.port.now) s
