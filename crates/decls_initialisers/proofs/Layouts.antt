@@ -90,8 +90,9 @@ zeros_are (suc n) = ap (λ l. pos 0 ∷ l) (zeros_are n)
 
 missing_after : (end : ℕ) (old : List ℤ) → end - length old ≡ end - length (take end old)
 missing_after end old = elim (cases_lt end (length old)) [
-    inl lt ↦ (let k = length-take-le end old (omega (arith, lt)) in omega (arith, k, lt)) |
-    inr ge ↦ ap (λ l. end - length l) (sym (take_all end old ge)) ]
+  | inl lt ↦ (let k = length-take-le end old (omega (arith, lt)) in omega (arith, k, lt))
+  | inr ge ↦ ap (λ l. end - length l) (sym (take_all end old ge))
+]
 
 -- a count that a vector can have is below the greatest word
 in_a_word : (n count start end : ℕ) → count ≡ capped n → end ≡ min (start + count) (2 ^ 64 - 1) → end < 2 ^ 63 → end ≡ start + n

@@ -102,7 +102,7 @@ ended_early s0 s ps types own i place r k h inv =
     let os = map object_type_of (drop k own) in
     inv.changed
     ∙ ap (λ l. with_bindings l s0)
-      (sym (ap (λ l. bound s0.level r k ns (map parameter_type_of l) os s.bindings) (drop_all i types (subst (λ j. length types ≤ j) inv.placed h)) ∙ no_types s0.level r k ns os s.bindings) ∙ inv.so)
+    (sym (ap (λ l. bound s0.level r k ns (map parameter_type_of l) os s.bindings) (drop_all i types (subst (λ j. length types ≤ j) inv.placed h)) ∙ no_types s0.level r k ns os s.bindings) ∙ inv.so)
 
 -- ---- the bindings of parameters, and the parts of the scope that they leave unchanged
 
