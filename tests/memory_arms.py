@@ -74,11 +74,11 @@ WORD = re.compile(r"'\w+(?!')|\w+!?|=>|->|::|[-+*/%&|^<>=!]=|&&|\|\||[^\s\w]")
 HEADS = (';', '{', '}', 'let', 'if', 'while', 'match', 'fn', 'for', 'loop', 'impl', '=>')
 CLOSERS = {')': '(', ']': '[', '}': '{'}
 # Calls of std whose only error is that a growth was refused.
-GROWS = {'push', 'push_str', 'reserve', 'try_reserve', 'extend_from_slice', 'extend_from_within', 'with_capacity', 'from_elem', 'to_vec', 'insert', 'insert_full',
+GROWS = {'push', 'push_str', 'reserve', 'try_reserve', 'extend_from_slice', 'extend_from_within', 'with_capacity', 'from_elem', 'to_vec', 'insert', 'insert_full', 'format!', 'vec!',
          'Box::new', 'Rc::new', 'BufWriter::new', 'BufReader::new', 'String::from_str', 'Vec::from_slice'}
 # Functions that are called where a growth was refused: the first one's calls are places, and the second prints.
 GIVEN = {'out_of_memory', 'say_memory'}
-NAMED = re.compile(r'\b(?:AllocError|AllocFailed|OutOfMemory|is_memory|is_for_memory|wants_memory|has_memory)\b|:: Memory\b')
+NAMED = re.compile(r'\b(?:AllocError|AllocFailed|OutOfMemory|is_memory|is_for_memory|wants_memory|has_memory|had_memory)\b|:: Memory\b')
 ONLY_MEMORY = re.compile(r'IfErr result \(λ \w+\. (\w+ ≡ ([\w.]+\.)?Memory|IsMemoryFault \w+)\)|IfErr result IsMemoryFault')
 HEAD = re.compile(r'^( *)(?:pub(?:\([a-z]+\))? )?fn (\w+)', re.M)
 
