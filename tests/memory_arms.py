@@ -19,15 +19,11 @@ import harness
 
 # To go with the next change of their crates: a file below crates, and a function.
 OPEN = {
-    ('cabs/src/acting.rt', 'act_call'),
     ('cabs/src/acting.rt', 'get'),
     ('cabs/src/acting.rt', 'put'),
     ('cabs/src/first_objects.rt', 'laid_cells'),
     ('cabs/src/first_objects.rt', 'literal_object'),
     ('cabs/src/quick_parts.rt', 'at_once'),
-    ('cabs/src/running.rt', 'start'),
-    ('cli_io/src/saying.rt', 'say'),
-    ('cli_sources/src/gathering.rt', 'twice'),
     ('cli_sources/src/sources.rt', 'note'),
     ('cmd_trace/src/running.rt', 'map_of'),
     ('const_expr/src/measures.rt', 'size_is'),
@@ -44,7 +40,6 @@ OPEN = {
     ('interp_steps/src/initialisers.rt', 'element_count'),
     ('interp_steps/src/initialisers.rt', 'next_part'),
     ('interp_steps/src/labels.rt', 'seek'),
-    ('interp_steps/src/objects.rt', 'renew_all'),
     ('interp_steps/src/switches.rt', 'enter_case'),
     ('interp_store/src/element_tree.rt', 'fill'),
     ('interp_store/src/element_tree.rt', 'filled'),
