@@ -47,7 +47,6 @@ OPEN = {
     ('interp_store/src/grid.rt', 'set'),
     ('interp_store/src/scene.rt', 'object_behind'),
     ('interp_transitions/src/tally.rt', 'begin'),
-    ('lint_unit/src/warning.rt', 'warnings_of'),
     ('lower_ops/src/changes.rt', 'put_call'),
     ('lower_ops/src/row_sizes.rt', 'times'),
     ('lower_ops/src/waiting.rt', 'next'),
