@@ -31,7 +31,7 @@ use Rattle.frames_regalloc.specs.Renumbered.{IsRenumbered}
 use Rattle.select_correct.specs.Runs.{slack}
 use Rattle.cc_backend.specs.FlatImages.{IsImageOf}
 use Rattle.cc_backend.specs.Runs.{bytes_or_none}
-use Rattle.cc_backend.specs.Simulation.{System, Terms, Simulates, step_for_step, both}
+use Rattle.cc_backend.specs.Simulation.{Doing, System, Terms, Simulates, step_for_step, both}
 
 -- the stack pointer is a multiple of 16, and lies below the stack's end by just the frames of these calls
 abbrev pub StandsBelow : (frames calls : List ℕ) → World → Type 0
