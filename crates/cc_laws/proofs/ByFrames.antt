@@ -66,6 +66,10 @@ module _ (stack : ℕ) (p : Program) (file frames : List ℕ) (made : IsFileOf s
         let x : Doing = record { trace = trace_of s.history; input = s.input; calls = active s.history } in
         let w = simulates.goes_on n x (s, over, refl, refl, refl) (fit n s (ap last_of over) small) in
         (w.0, w.4.0, omega (arith, w.3), (past n terms w.0 w.1 w.2, (w.4.1, (w.4.2, w.4.3), w.4.4)));
+    stops = λ n act at s over small.
+        let x : Doing = record { trace = trace_of s.history; input = s.input; calls = active s.history } in
+        let w = simulates.halts n x (act, at, s, over, refl, refl, refl) (fit n s (ap last_of over) small) in
+        (w.0, w.2.0, omega (arith, w.1), (w.2.1, (w.2.2, w.2.3), w.2.4));
   }
 
   pub runs_within : RunsWithinFrames stack p frames (program_image made.parts) input

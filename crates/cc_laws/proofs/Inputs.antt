@@ -16,7 +16,7 @@ use Rattle.typing_spec.specs.Program.{Program}
 use Rattle.csem.specs.Machine.{Ending, Ended, Undefined, TicksUsed, Stops}
 use Rattle.csem.specs.Meaning.{cstep, answer, ending_of, last_of}
 use Rattle.cc_backend.specs.Runs.{RunsAs, IsInput}
-use Rattle.cc_laws.specs.Laws.{IsDefined, run_of, done_in, IsBeginning}
+use Rattle.cc_laws.specs.Laws.{run_of, done_in, IsBeginning}
 use Rattle.cc_laws.specs.Inputs.{DoesAllSoFar, reads, trace_in, leaving, with_left, ReadsAsItGoes}
 use Rattle.cc_laws.proofs.Clock.{run_stops}
 use Rattle.cc_laws.proofs.Whole.{begins}
@@ -36,19 +36,22 @@ module _ (stack : ℕ) (p : Program) (frames file : List ℕ) (r : RunsAs stack 
         subst (IsBeginning (done_in (run_of r.image input j))) (ap (λ i. done_in (run_of r.image input i)) sum ∙ same) (begins r.image input j (k - j)),
   )
 
-  at_ending : (n : ℕ) (e : Ending) → ending_of (cstep n p input) ≡ e → IsDefined e → (answer n p input).greatest ≤ stack → SoFar n
-  at_ending n (Ended status) e ok small =
+  at_ending : (n : ℕ) (e : Ending) → ending_of (cstep n p input) ≡ e → (answer n p input).greatest ≤ stack → SoFar n
+  at_ending n (Ended status) e small =
       let stops : cstep n p input ≡ Stops (Ended status) (last_of (cstep n p input)) = run_stops n p input ∙ ap (λ x. Stops x (last_of (cstep n p input))) e in
       let found = r.ends input bytes n status (last_of (cstep n p input)) stops small in
       so_far n found.0 (ap done_in found.3.0 ∙ ap reverse found.3.1.0)
-  at_ending n (Undefined act there) e ok small = absurd ok
-  at_ending n TicksUsed e ok small =
+  at_ending n (Undefined act there) e small =
+      let stops : cstep n p input ≡ Stops (Undefined act there) (last_of (cstep n p input)) = run_stops n p input ∙ ap (λ x. Stops x (last_of (cstep n p input))) e in
+      let found = r.stops input bytes n act there (last_of (cstep n p input)) stops small in
+      so_far n found.0 (ap done_in found.3.0 ∙ ap reverse found.3.1.0)
+  at_ending n TicksUsed e small =
       let stops : cstep n p input ≡ Stops TicksUsed (last_of (cstep n p input)) = run_stops n p input ∙ ap (λ x. Stops x (last_of (cstep n p input))) e in
       let found = r.goes_on input bytes n (last_of (cstep n p input)) stops small in
       so_far n found.0 (ap done_in found.3.1.0 ∙ ap reverse found.3.1.1.0)
 
 pub does_all_so_far : DoesAllSoFar
-does_all_so_far stack p frames file r = (r.image, r.loads, λ input bytes n ok small. at_ending stack p frames file r input bytes n (ending_of (cstep n p input)) refl ok small)
+does_all_so_far stack p frames file r = (r.image, r.loads, λ input bytes n small. at_ending stack p frames file r input bytes n (ending_of (cstep n p input)) refl small)
 
 -- ---- of the input
 

@@ -7,17 +7,17 @@ use Rattle.sim.specs.Runs.{World, Progress, Running, Trapped}
 use Rattle.typing_spec.specs.Program.{Program}
 use Rattle.csem.specs.Meaning.{answer}
 use Rattle.cc_backend.specs.Runs.{RunsAs, IsInput}
-use Rattle.cc_laws.specs.Laws.{IsDefined, HasImage, run_of, done_in, IsBeginning}
+use Rattle.cc_laws.specs.Laws.{HasImage, run_of, done_in, IsBeginning}
 
 -- ---- up to undefined behaviour
 
--- Where the abstract machine has met nothing undefined within n ticks, and its calls were within the stack, whatever comes later: after some k instructions the file
--- has done all that it did, and at each before, a beginning of it.
+-- Whatever the abstract machine does within n ticks, up to undefined behaviour where it meets any, also within the tick in which it meets it, and whatever would come
+-- later: where its calls were within the stack, after some k instructions the file has done all that it did, and at each before, a beginning of it.
 abbrev pub DoesAllSoFar : Type 0
 DoesAllSoFar =
     (stack : ℕ) (p : Program) (frames file : List ℕ) → RunsAs stack p frames file
     → HasImage file (λ image. (input : List ℕ) → IsInput input
-    → (n : ℕ) → IsDefined (answer n p input).ending → (answer n p input).greatest ≤ stack
+    → (n : ℕ) → (answer n p input).greatest ≤ stack
     → (k : ℕ) × (done_in (run_of image input k) ≡ (answer n p input).trace)
     × ((j : ℕ) → j ≤ k → IsBeginning (done_in (run_of image input j)) (answer n p input).trace))
 

@@ -89,7 +89,7 @@ pub fn files_run_within_frames()
     ensures { FilesRunWithinFrames }
 {}
 
-/// What the abstract machine does before it meets undefined behaviour, the file does too, up to the last tick before; and until then nothing else.
+/// All that the abstract machine does before it meets undefined behaviour, the file does too, also within the same tick; and until then nothing else.
 pub fn does_all_so_far()
     ensures { DoesAllSoFar }
 {}
