@@ -53,9 +53,9 @@ module _ (stack : ℕ) (p : Program) (frames file : List ℕ) (r : RunsAs stack 
 pub does_all_so_far : DoesAllSoFar
 does_all_so_far stack p frames file r = (r.image, r.loads, λ input bytes n small. at_ending stack p frames file r input bytes n (ending_of (cstep n p input)) refl small)
 
--- ---- of the input
+-- ---- the input
 
--- what comes of a world whatever its input: something that reads none of it, or a read
+-- the next step of a world, whatever its input: it reads none of it, or it is a read
 abbrev Quiet : World → (List ℕ → Progress) → Type 0
 Quiet w f = (x : Progress) × ((i : List ℕ) → f i ≡ with_left i x) × (reads (trace_in x) ≡ reads w.trace)
 
@@ -69,7 +69,7 @@ if_form : (t : Bool) (w : World) (f g : List ℕ → Progress) → Form w f → 
 if_form true w f g x y = x
 if_form false w f g x y = y
 
--- with a world that stands for all that differ from it in the input alone
+-- with a world that represents all that differ from it in the input alone
 puts_form : (w : World) (a : ℕ) → Form w (λ i. puts (leaving i w) a)
 puts_form w a = inl (puts w a, λ i. refl, refl)
 
@@ -93,7 +93,7 @@ tick_form : (w : World) → Form w (λ i. tick_of (leaving i w))
 unfolding tick_of
 tick_form w = let s = step_of w.machine in result_form w s.machine s.result
 
--- reads are not undone
+-- reads are not revoked
 reads_more : (x y : List Event) → reads y ≤ reads (x ++ y)
 reads_more [] y = omega arith
 reads_more (Got b ∷ x) y = omega (arith, reads_more x y)

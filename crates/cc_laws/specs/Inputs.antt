@@ -1,4 +1,4 @@
--- What a file does before it meets undefined behaviour, and that it depends on no more of its input than it has read.
+-- What a file does before it meets undefined behaviour, and that it depends only on the input that it has read.
 use Rattle.std.specs.Prelude.{◌≡◌, ◌≤◌, ℕ, suc, List, [], ◌∷◌, ◌++◌, length}
 use Rattle.csem_events.specs.Events.{Event, Got, GotEnd, Put}
 use Rattle.loader.specs.File.{Image}
@@ -21,9 +21,9 @@ DoesAllSoFar =
     → (k : ℕ) × (done_in (run_of image input k) ≡ (answer n p input).trace)
     × ((j : ℕ) → j ≤ k → IsBeginning (done_in (run_of image input j)) (answer n p input).trace))
 
--- ---- of its input
+-- ---- the input
 
--- how often the input was read, its end too
+-- how often the input was read, the end included
 abbrev pub reads : List Event → ℕ
 reads [] = 0
 reads (Got b ∷ earlier) = suc (reads earlier)
@@ -44,7 +44,7 @@ with_left input (Running w) = Running (leaving input w)
 with_left input (sim.Ended status w) = sim.Ended status (leaving input w)
 with_left input (Trapped c w) = Trapped c (leaving input w)
 
--- The runs of an image on two inputs that begin with the same bytes a: as long as the first has read no more often than a has bytes, they are the same but for the
+-- The runs of an image on two inputs that begin with the same bytes a: as long as the first has read no more often than a has bytes, they are the same except for the
 -- input that is left.
 abbrev pub ReadsAsItGoes : Type 0
 ReadsAsItGoes =
