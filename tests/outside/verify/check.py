@@ -159,11 +159,12 @@ def nest(depth):
 
 
 CALCULATIONS = ('', '7', '1+2*3', '(1+2)*3-4/2', '2*(3-(4+5))*2', '100/7/2', '10-20', '7-3-2', '(10-20)/3', '12*(3)+1', '8/0+1', '((((5))))-6')
-# A program for gcc, and one that is not followed (VERIFY says so).
-NOT_SHOWN = ('library.c', 'console.c')
+# A program for gcc.
+NOT_SHOWN = ('library.c',)
 # Programs that are written anew in examples/verify, and lines of input for both.
 ANEW = {
     'LANGUAGE/calculator.c': CALCULATIONS,
+    'examples/console.c': ('', 'quit 7', 'set 3 5\nadd 3 6\nget 3\nsum\necho hello  you\ncount\nhelp\nfoo\nset 11 2\nset 1\nget\nquit', 'add 0 4294967295\nadd 0 2\nget 0\n\nquitx\nquit 300'),
 }
 
 
