@@ -5,3 +5,4 @@ pub mod Adequate
 pub mod Scenes
 pub mod Taken
 pub mod Held
+mod Counts

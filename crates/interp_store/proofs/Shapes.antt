@@ -298,26 +298,6 @@ too_far path at ls inner rest n k whole limit e h far all stands =
     let same : number (drop (at + 1) path) inner (k * n + get_or path at 0) ≡ whole = counts_on path at ls inner n k whole e h all in
     omega (arith, on, same, far)
 
-counted_from : (ls : List ℕ) (i : ℕ) → i < length ls → elements_in (drop i ls) ≡ get_or ls i 0 * elements_in (drop (suc i) ls)
-counted_from [] i h = absurd (omega (arith, h))
-counted_from (n ∷ ls) zero h = refl
-counted_from (n ∷ ls) (suc i) h = counted_from ls i (omega (arith, h))
-
--- one length more
-pub one_counted : (ls : List ℕ) (i product next whole : ℕ) → i < length ls → next ≡ product * get_or ls i 0 →
-    product * elements_in (drop i ls) ≡ whole → next * elements_in (drop (i + 1) ls) ≡ whole
-one_counted ls i product next whole h e all =
-    let rest = elements_in (drop (suc i) ls) in
-    let place : i + 1 ≡ suc i = omega arith in
-    let around : (product * get_or ls i 0) * rest ≡ product * (get_or ls i 0 * rest) = grind arith in
-    ap (λ k. next * elements_in (drop k ls)) place ∙ ap (λ x. x * rest) e ∙ around ∙ ap (λ x. product * x) (sym (counted_from ls i h)) ∙ all
-
-pub all_counted : (ls : List ℕ) (i product : ℕ) → length ls ≤ i → product * elements_in (drop i ls) ≡ 1 * elements_in ls → product ≡ elements_in ls
-all_counted ls i product h all =
-    let none : drop i ls ≡ [] = past_all ls i h in
-    let last : product * elements_in (drop i ls) ≡ product * 1 = ap (λ l. product * elements_in l) none in
-    omega (arith, last, all)
-
 -- ---- reads
 
 there : (path ls : List ℕ) (cs : List ℤ) (o : Option (List ℕ)) → behind path ls ≡ o → at_path (Some (shaped ls cs 0)) path ≡ option_map (part_from cs path ls 0) o

@@ -1,12 +1,12 @@
 //! Objects as their elements.
 
-ghost use Rattle.std.specs.Prelude.{◌≡◌, Some, IfOk, IfSome, OnOk};
+ghost use Rattle.std.specs.Prelude.{◌≡◌, Some, None, IfOk, IfSome, OnOk};
 ghost use Rattle.csem.specs.Store.{at_path, put_at, length_of, value_of, filled};
 ghost use Rattle.csem.specs.Store as machine;
 ghost use Rattle.interp_store.specs.Cells.{shaped};
 ghost use Rattle.interp_store.specs.View.{tree_of};
 
-use crate::grid::{Grid, count, number_for};
+use crate::grid::{Grid, count};
 use std::alloc::{AllocError, Global};
 
 /// An object (6.2.4, 6.2.5p20).
@@ -87,22 +87,16 @@ impl Tree {
         Ok(())
     }
 
-    /// An object of these lengths with each element alike (6.2.4p6, 6.7.9p10).
+    /// An object of these lengths with each element indeterminate (6.2.4p6).
     ///
     /// Errors: memory ran out.
-    pub fn filled(alloc: Global, value: Option<i64>, lengths: &[u32]) -> Result<Tree, AllocError>
-        ensures { IfOk result (λ t. tree_of t ≡ filled value lengths.now) }
+    pub fn indeterminate(alloc: Global, lengths: &[u32]) -> Result<Tree, AllocError>
+        ensures { IfOk result (λ t. tree_of t ≡ filled None lengths.now) }
     {
         if lengths.is_empty() {
-            return Ok(Tree::Element(value));
+            return Ok(Tree::Element(None));
         }
-        let Some(number) = number_for(value) else {
-            return Err(AllocError);
-        };
-        let Some(n) = count(lengths) else {
-            return Err(AllocError);
-        };
-        match Vec::from_elem(alloc, number, n) {
+        match Vec::from_elem(alloc, i64::MIN, count(lengths)) {
             Ok(cells) => Tree::array(alloc, lengths, cells),
             Err(e) => Err(e),
         }

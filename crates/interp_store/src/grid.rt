@@ -1,6 +1,6 @@
 //! Arrays as the values of their elements, in order.
 
-ghost use Rattle.std.specs.Prelude.{◌≡◌, ◌+◌, ◌*◌, ◌^◌, ◌≤◌, ◌<◌, ◌⊎◌, ℕ, List, [], Some, None, IfNone, IfSome, IsTrue, OnOk, option_map, length};
+ghost use Rattle.std.specs.Prelude.{◌≡◌, ◌+◌, ◌*◌, ◌^◌, ◌≤◌, ◌<◌, ◌⊎◌, ℕ, List, [], Some, None, IfNone, IfSome, IsTrue, OnOk, option_map, length, min};
 ghost use Rattle.typing_spec.specs.Types.{elements_in};
 ghost use Rattle.csem.specs.Store as machine;
 ghost use Rattle.csem.specs.Statements.{same_value};
@@ -90,18 +90,15 @@ fn number(lengths: &[u32], path: &[usize]) -> Option<usize>
     Some(k)
 }
 
-/// How many elements an array of these lengths has, if that is a number that memory has.
-pub fn count(lengths: &[u32]) -> Option<usize>
-    ensures { IfSome result (λ n. n ≡ elements_in lengths.now) }
+/// How many elements an array of these lengths has, or the greatest number where there are more.
+pub fn count(lengths: &[u32]) -> usize
+    ensures { result ≡ min (elements_in lengths.now) usize.MAX }
 {
     let mut product: usize = 1;
     for n in lengths {
-        let Some(next) = product.checked_mul(*n as usize) else {
-            return None;
-        };
-        product = next;
+        product = product.saturating_mul(*n as usize);
     }
-    Some(product)
+    product
 }
 
 /// Sets `count` numbers, from `first` on, to `v`.
@@ -219,9 +216,7 @@ impl Grid {
         if rest != lengths {
             return None;
         }
-        let Some(count) = count(lengths) else {
-            return None;
-        };
+        let count = count(lengths);
         let Some(k) = number(self.lengths.as_slice(), path) else {
             return None;
         };
