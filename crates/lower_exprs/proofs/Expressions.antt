@@ -131,7 +131,7 @@ one_jump_wrote size a b sense t k to end way {c0} {c1} {c2} {c3} e ew x0 x1 x2 =
 
 -- the position of the 0 of a truth that is to be a number
 at_zero : (other l na nb k1 k2 k3 k4 : ℕ) → other ≡ plus l (plus 1 (plus na (plus nb 2))) → k1 ≡ l + 1 → k2 ≡ k1 + na → k3 ≡ k2 + nb → k4 ≡ k3 + truths_size
-    → k4 < 4611686018427387904 → other ≡ k3 + 2
+    → k4 < 9223372036854775808 → other ≡ k3 + 2
 at_zero other l na nb k1 k2 k3 k4 e e1 e2 e3 e4 b =
     let three_is : truths_size ≡ 3 = plus_is 1 (plus 1 1) 3 (omega (arith, plus_is 1 1 2 (omega arith) (omega arith))) (omega arith) ∙ ap (λ n. 1 + n) (plus_is 1 1 2 (omega arith) (omega arith)) in
     reach_four other l 1 na nb 2 (k3 + 2) e (omega (arith, e1, e2, e3)) (omega (arith, e4, three_is, b))

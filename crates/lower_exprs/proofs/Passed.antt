@@ -116,7 +116,7 @@ waits_behind size a more rest free less frees next whole first c c0 c1 er so_far
 
 pub all_waited : (size : Place → ℕ) (rest : List Argument) (free : Free) (frees : List Free) (whole : List Given) (first : Free) (c c0 : List Instruction)
     → ((fs : List Free) (end : List Instruction) → AllWait size (map argument_of rest) fs free c0 end → AllWait size whole (frees ++ fs) first c end)
-    → length rest ≡ 0 → length c0 < 4611686018427387904 → AllWait size whole frees first c c0
+    → length rest ≡ 0 → length c0 < 9223372036854775808 → AllWait size whole frees first c c0
 all_waited size [] free frees whole first c c0 so_far e l = subst (λ l. AllWait size whole l first c c0) (append-nil frees) (so_far [] c0 (refl, l))
 all_waited size (a ∷ rest) free frees whole first c c0 so_far e l = absurd (omega (arith, e))
 

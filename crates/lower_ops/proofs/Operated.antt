@@ -40,7 +40,7 @@ to_ends (target.Temporary j) o x = x
 to_ends (target.Kept j) o x = x
 to_ends (target.Object y) o x = x
 
-pub no_follows : (g : Target) (t : ℕ) (c : List Instruction) → length c < 4611686018427387904 → Wrote (λ w p q. Follows w (To g) t p q) (follows_size (shape_of (To g))) c c
+pub no_follows : (g : Target) (t : ℕ) (c : List Instruction) → length c < 9223372036854775808 → Wrote (λ w p q. Follows w (To g) t p q) (follows_size (shape_of (To g))) c c
 no_follows (target.Temporary j) t c l = none_wrote (λ w p q. p ≡ q) c c refl l (λ w. refl)
 no_follows (target.Kept j) t c l = none_wrote (λ w p q. p ≡ q) c c refl l (λ w. refl)
 no_follows (target.Object y) t c l = none_wrote (λ w p q. p ≡ q) c c refl l (λ w. refl)

@@ -1,44 +1,39 @@
 -- Parts of code, one after the other.
-use Rattle.std.proofs.Common.{◌≡◌, ℕ, ◌+◌, ◌<◌, ◌≤◌, List, [], ◌∷◌, ◌++◌, length, slice_get, Some, Bool, true, refl, ap, sym, ◌∙◌, subst, append_assoc, append-nil, length-append, arith}
-use Rattle.std.specs.Prelude.{nat_lt}
-use Rattle.std.proofs.lemmas.Bool.Decides.{nat_tests}
+use Rattle.std.proofs.Common.{◌≡◌, ℕ, ◌+◌, ◌<◌, ◌≤◌, List, [], ◌∷◌, ◌++◌, length, slice_get, Some, refl, ap, sym, ◌∙◌, subst, append_assoc, append-nil, length-append, arith}
 use Rattle.tac_code.specs.declared.code.Instruction.{Instruction}
 use Rattle.lower_correct.specs.Code.{One}
 use Rattle.lower_ops.specs.layer.Parts.{plus, Begins, Wrote}
 
 -- ---- sums
 
-pub plus_is : (m n k : ℕ) → m + n ≤ k → k < 4611686018427387904 → plus m n ≡ m + n
+pub plus_is : (m n k : ℕ) → m + n ≤ k → k < 9223372036854775808 → plus m n ≡ m + n
 unfolding plus
 plus_is m n k h l = omega arith
 
-pub sum_two : (n m a b c : ℕ) → b ≡ a + n → c ≡ b + m → c < 4611686018427387904 → c ≡ a + plus n m
+pub sum_two : (n m a b c : ℕ) → b ≡ a + n → c ≡ b + m → c < 9223372036854775808 → c ≡ a + plus n m
 unfolding plus
 sum_two n m a b c e f l = omega arith
 
 -- a position that was computed before as a sum is correct once it is reached
-pub reach_one : (e l n k : ℕ) → e ≡ plus l n → k ≡ l + n → k < 4611686018427387904 → e ≡ k
+pub reach_one : (e l n k : ℕ) → e ≡ plus l n → k ≡ l + n → k < 9223372036854775808 → e ≡ k
 unfolding plus
 reach_one e l n k h g b = omega arith
 
-pub reach_two : (e l n m k : ℕ) → e ≡ plus l (plus n m) → k ≡ l + (n + m) → k < 4611686018427387904 → e ≡ k
+pub reach_two : (e l n m k : ℕ) → e ≡ plus l (plus n m) → k ≡ l + (n + m) → k < 9223372036854775808 → e ≡ k
 reach_two e l n m k h g b =
     reach_one e l (plus n m) k h (g ∙ ap (λ x. l + x) (sym (plus_is n m k (omega (arith, g)) b))) b
 
-pub reach_three : (e l n m o k : ℕ) → e ≡ plus l (plus n (plus m o)) → k ≡ l + (n + (m + o)) → k < 4611686018427387904 → e ≡ k
+pub reach_three : (e l n m o k : ℕ) → e ≡ plus l (plus n (plus m o)) → k ≡ l + (n + (m + o)) → k < 9223372036854775808 → e ≡ k
 reach_three e l n m o k h g b =
     reach_two e l n (plus m o) k h (g ∙ ap (λ x. l + (n + x)) (sym (plus_is m o k (omega (arith, g)) b))) b
 
-pub reach_four : (e l n m o p k : ℕ) → e ≡ plus l (plus n (plus m (plus o p))) → k ≡ l + (n + (m + (o + p))) → k < 4611686018427387904 → e ≡ k
+pub reach_four : (e l n m o p k : ℕ) → e ≡ plus l (plus n (plus m (plus o p))) → k ≡ l + (n + (m + (o + p))) → k < 9223372036854775808 → e ≡ k
 reach_four e l n m o p k h g b =
     reach_three e l n m (plus o p) k h (g ∙ ap (λ x. l + (n + (m + x))) (sym (plus_is o p k (omega (arith, g)) b))) b
 
-pub reach_five : (e l n m o p q k : ℕ) → e ≡ plus l (plus n (plus m (plus o (plus p q)))) → k ≡ l + (n + (m + (o + (p + q)))) → k < 4611686018427387904 → e ≡ k
+pub reach_five : (e l n m o p q k : ℕ) → e ≡ plus l (plus n (plus m (plus o (plus p q)))) → k ≡ l + (n + (m + (o + (p + q)))) → k < 9223372036854775808 → e ≡ k
 reach_five e l n m o p q k h g b =
     reach_four e l n m o (plus p q) k h (g ∙ ap (λ x. l + (n + (m + (o + x)))) (sym (plus_is p q k (omega (arith, g)) b))) b
-
-pub room_left : (n : ℕ) (has : Bool) → has ≡ nat_lt n 4611686018427387902 → has ≡ true → n < 4611686018427387902
-room_left n has is h = grind (arith, nat_tests)
 
 -- ---- beginnings
 
@@ -54,7 +49,7 @@ get_behind : (xs : List Instruction) (x : Instruction) (rest : List Instruction)
 get_behind [] x rest = refl
 get_behind (y ∷ xs) x rest = get_behind xs x rest
 
-pub one_wrote : (i : Instruction) (c0 c1 : List Instruction) → c1 ≡ c0 ++ i ∷ [] → length c1 < 4611686018427387904 → Wrote (λ w p q. One w i p q) 1 c0 c1
+pub one_wrote : (i : Instruction) (c0 c1 : List Instruction) → c1 ≡ c0 ++ i ∷ [] → length c1 < 9223372036854775808 → Wrote (λ w p q. One w i p q) 1 c0 c1
 one_wrote i c0 c1 e l =
     let grows : length c1 ≡ length c0 + 1 = ap length e ∙ length-append c0 (i ∷ []) in
     record {
@@ -67,7 +62,7 @@ one_wrote i c0 c1 e l =
       };
     }
 
-pub none_wrote : (P : List Instruction → ℕ → ℕ → Type 0) (c0 c1 : List Instruction) → c1 ≡ c0 → length c0 < 4611686018427387904 → ((w : List Instruction) → P w (length c0) (length c0)) → Wrote P 0 c0 c1
+pub none_wrote : (P : List Instruction → ℕ → ℕ → Type 0) (c0 c1 : List Instruction) → c1 ≡ c0 → length c0 < 9223372036854775808 → ((w : List Instruction) → P w (length c0) (length c0)) → Wrote P 0 c0 c1
 none_wrote P c0 c1 e l h = subst (λ c. Wrote P 0 c0 c) (sym e) (record { begins = begins_all c0; grows = omega arith; short = l; stands = λ w b. h w })
 
 pub as_wrote : {P : List Instruction → ℕ → ℕ → Type 0} {n : ℕ} {a b : List Instruction} → (Q : List Instruction → ℕ → ℕ → Type 0) → Wrote P n a b

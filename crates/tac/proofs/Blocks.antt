@@ -101,11 +101,11 @@ do_while_wrote p f a e out again back top at end {c0} {c1} {c2} {c3} h1 h2 h3 x0
       stands = λ w h. (length c1, length c2, x0.stands w (begins_on y1.begins (begins_on y2.begins h)), y1.stands w (begins_on y2.begins h), y2.stands w h);
     }
 
-reach_six : (e l n m o p q r k : ℕ) → e ≡ plus l (plus n (plus m (plus o (plus p (plus q r))))) → k ≡ l + (n + (m + (o + (p + (q + r))))) → k < 4611686018427387904 → e ≡ k
+reach_six : (e l n m o p q r k : ℕ) → e ≡ plus l (plus n (plus m (plus o (plus p (plus q r))))) → k ≡ l + (n + (m + (o + (p + (q + r))))) → k < 9223372036854775808 → e ≡ k
 reach_six e l n m o p q r k h g b =
     reach_five e l n m o p (plus q r) k h (g ∙ ap (λ x. l + (n + (m + (o + (p + x))))) (sym (plus_is q r k (omega (arith, g)) b))) b
 
-reach_seven : (e l n m o p q r s k : ℕ) → e ≡ plus l (plus n (plus m (plus o (plus p (plus q (plus r s)))))) → k ≡ l + (n + (m + (o + (p + (q + (r + s)))))) → k < 4611686018427387904 → e ≡ k
+reach_seven : (e l n m o p q r s k : ℕ) → e ≡ plus l (plus n (plus m (plus o (plus p (plus q (plus r s)))))) → k ≡ l + (n + (m + (o + (p + (q + (r + s)))))) → k < 9223372036854775808 → e ≡ k
 reach_seven e l n m o p q r s k h g b =
     reach_six e l n m o p q (plus r s) k h (g ∙ ap (λ x. l + (n + (m + (o + (p + (q + x)))))) (sym (plus_is r s k (omega (arith, g)) b))) b
 

@@ -74,14 +74,14 @@ start_as P s t n i e1 e2 e3 x =
 pub record Filling (p : typed.Program) (f : typed.Function) (all : Initialisers) (count : ℕ) (lengths : List ℕ) (a : Start)
     (rest : Initialisers) (k : ℕ) (b : Start) (old new : List Instruction) : Type 0 where
   pub begins : Begins old new
-  pub short : length new < 4611686018427387904
+  pub short : length new < 9223372036854775808
   pub done : ℕ
   pub grows : length new ≡ length old + done
   pub size : fill_all_size p.literals all count lengths ≡ plus done (fill_all_size p.literals rest k lengths)
   pub stands : (w : List Instruction) (q : ℕ) → Begins new w → FillAll w p.literals (size_of_place p f) rest b.element k lengths b.array b.number (length new) q
       → FillAll w p.literals (size_of_place p f) all a.element count lengths a.array a.number (length old) q
 
-pub none_filled : (p : typed.Program) (f : typed.Function) (all : Initialisers) (count : ℕ) (lengths : List ℕ) (a : Start) (c : List Instruction) → length c < 4611686018427387904
+pub none_filled : (p : typed.Program) (f : typed.Function) (all : Initialisers) (count : ℕ) (lengths : List ℕ) (a : Start) (c : List Instruction) → length c < 9223372036854775808
     → Filling p f all count lengths a all count a c c
 none_filled p f all count lengths a c l = record {
   begins = begins_all c;

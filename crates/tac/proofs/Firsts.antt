@@ -30,7 +30,7 @@ array_sized texts (k ∷ lengths) i h = refl
 -- ---- code
 
 module _ (p : typed.Program) (f : typed.Function) (i : Initialiser) (n : ℕ) where
-  pub no_object : (o : Option ObjectType) (c : List Instruction) → o ≡ None → length c < 4611686018427387904 → WroteInitialises p f o i n c c
+  pub no_object : (o : Option ObjectType) (c : List Instruction) → o ≡ None → length c < 9223372036854775808 → WroteInitialises p f o i n c c
   no_object o c e l = subst (λ k. WroteInitialises p f k i n c c) (sym e) (none_wrote (λ w pc pc2. Initialises w p f None i n pc pc2) c c refl l (λ w. refl))
 
   word_object : (t : IntType) (lengths : List ℕ) {c0 c1 : List Instruction} → length lengths ≡ 0

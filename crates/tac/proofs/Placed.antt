@@ -47,7 +47,7 @@ module _ (p : typed.Program) (f : typed.Function) (o : Operand) (x : Statement) 
 
 -- ---- statements with the places of their labels
 
-pub none_placed : (p : typed.Program) (f : typed.Function) (out again back : ℕ) (c0 c1 : List Instruction) → c1 ≡ c0 → length c0 < 4611686018427387904 → WrotePlaced p f typed.no_statements out again back c0 c1
+pub none_placed : (p : typed.Program) (f : typed.Function) (out again back : ℕ) (c0 c1 : List Instruction) → c1 ≡ c0 → length c0 < 9223372036854775808 → WrotePlaced p f typed.no_statements out again back c0 c1
 none_placed p f out again back c0 c1 e l = none_wrote (λ w pc pc2. StandAt w p f typed.no_statements [] out again back pc pc2) c0 c1 e l (λ w. (refl, refl))
 
 pub and_placed : (p : typed.Program) (f : typed.Function) (x : Statement) (more : Statements) (out again back : ℕ) {c0 c1 c2 : List Instruction}

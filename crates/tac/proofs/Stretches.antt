@@ -18,20 +18,20 @@ use Rattle.tac.specs.inside.Starts.{element_at, WroteBegins, WroteClears}
 -- ---- loops
 
 -- a loop begins at its first instruction
-at_top : (limit top : ℕ) (c0 : List Instruction) {c1 c2 : List Instruction} → top ≡ plus (length c0) 0 → length c0 < 4611686018427387904
+at_top : (limit top : ℕ) (c0 : List Instruction) {c1 c2 : List Instruction} → top ≡ plus (length c0) 0 → length c0 < 9223372036854775808
     → Wrote (λ w p q. GoesOn w limit top p q) goes_on_size c1 c2 → Wrote (λ w p q. GoesOn w limit (length c0) p q) goes_on_size c1 c2
 at_top limit top c0 {c1} {c2} e l x =
     let here : top ≡ length c0 = reach_one top (length c0) 0 (length c0) e (omega arith) l in
     subst (λ n. Wrote (λ w p q. GoesOn w limit n p q) goes_on_size c1 c2) here x
 
-pub clears_to_wrote : (t : IntType) (limit top : ℕ) {c0 c1 c2 c3 : List Instruction} → top ≡ plus (length c0) 0 → length c0 < 4611686018427387904
+pub clears_to_wrote : (t : IntType) (limit top : ℕ) {c0 c1 c2 c3 : List Instruction} → top ≡ plus (length c0) 0 → length c0 < 9223372036854775808
     → Wrote (λ w p q. One w (instruction.Element t (target.Temporary 2) (operand.Temporary 1) (operand.Temporary 0)) p q) 1 c0 c1
     → Wrote (λ w p q. One w (instruction.Store t zero_word (place.At (operand.Temporary 2))) p q) 1 c1 c2
     → Wrote (λ w p q. GoesOn w limit top p q) goes_on_size c2 c3 → Wrote (λ w p q. ClearsTo w t limit p q) clears_to_size c0 c3
 clears_to_wrote t limit top {c0} {c1} {c2} {c3} e l x0 x1 x2 =
     as_wrote (λ w p q. ClearsTo w t limit p q) (three x0 x1 (at_top limit top c0 e l x2)) (λ w h. h)
 
-pub copies_to_wrote : (t : IntType) (limit top : ℕ) {c0 c1 c2 c3 c4 c5 : List Instruction} → top ≡ plus (length c0) 0 → length c0 < 4611686018427387904
+pub copies_to_wrote : (t : IntType) (limit top : ℕ) {c0 c1 c2 c3 c4 c5 : List Instruction} → top ≡ plus (length c0) 0 → length c0 < 9223372036854775808
     → Wrote (λ w p q. One w (instruction.Element ty.Char (target.Temporary 3) (operand.Temporary 2) (operand.Temporary 0)) p q) 1 c0 c1
     → Wrote (λ w p q. One w (instruction.Load ty.Char (target.Temporary 3) (place.At (operand.Temporary 3))) p q) 1 c1 c2
     → Wrote (λ w p q. One w (instruction.Element t (target.Temporary 4) (operand.Temporary 1) (operand.Temporary 0)) p q) 1 c2 c3
@@ -40,7 +40,7 @@ pub copies_to_wrote : (t : IntType) (limit top : ℕ) {c0 c1 c2 c3 c4 c5 : List 
 copies_to_wrote t limit top {c0} {c1} {c2} {c3} {c4} {c5} e l x0 x1 x2 x3 x4 =
     as_wrote (λ w p q. CopiesTo w t limit p q) (five x0 x1 x2 x3 (at_top limit top c0 e l x4)) (λ w h. h)
 
-pub none_copied : (t : IntType) (limit : ℕ) (c : List Instruction) → limit ≡ 0 → length c < 4611686018427387904
+pub none_copied : (t : IntType) (limit : ℕ) (c : List Instruction) → limit ≡ 0 → length c < 9223372036854775808
     → Wrote (λ w p q. CopiesFirst w t limit p q) (copies_first_size limit) c c
 none_copied t limit c e l =
     subst (λ k. Wrote (λ w p q. CopiesFirst w t k p q) (copies_first_size k) c c) (sym e) (none_wrote (λ w p q. CopiesFirst w t 0 p q) c c refl l (λ w. refl))
@@ -52,7 +52,7 @@ some_copied t (suc limit) {c0} {c1} h x = x
 
 -- ---- stretches of elements
 
-pub no_clears : (a : Start) (n : ℕ) (c : List Instruction) → n ≡ 0 → length c < 4611686018427387904 → WroteClears n a c c
+pub no_clears : (a : Start) (n : ℕ) (c : List Instruction) → n ≡ 0 → length c < 9223372036854775808 → WroteClears n a c c
 no_clears a n c e l = subst (λ k. WroteClears k a c c) (sym e) (none_wrote (λ w p q. Clears w a.element a.array a.number 0 p q) c c refl l (λ w. refl))
 
 pub clears_one : (a : Start) (n : ℕ) {c0 c1 : List Instruction} → n ≡ 1 → Wrote (λ w p q. One w (instruction.Store a.element zero_word (element_at a)) p q) 1 c0 c1 → WroteClears n a c0 c1
@@ -72,7 +72,7 @@ pub rest_cleared : (less : Bool) (t : IntType) (limit : ℕ) {c0 c1 : List Instr
     → Wrote (λ w p q. ClearsRest w less t limit p q) (clears_rest_size less) c0 c1
 rest_cleared less t limit {c0} {c1} e x = subst (λ b. Wrote (λ w p q. ClearsRest w b t limit p q) (clears_rest_size b) c0 c1) (sym e) x
 
-pub no_rest : (less : Bool) (t : IntType) (limit : ℕ) (c : List Instruction) → less ≡ false → length c < 4611686018427387904
+pub no_rest : (less : Bool) (t : IntType) (limit : ℕ) (c : List Instruction) → less ≡ false → length c < 9223372036854775808
     → Wrote (λ w p q. ClearsRest w less t limit p q) (clears_rest_size less) c c
 no_rest less t limit c e l =
     subst (λ b. Wrote (λ w p q. ClearsRest w b t limit p q) (clears_rest_size b) c c) (sym e)

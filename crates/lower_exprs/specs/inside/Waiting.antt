@@ -36,7 +36,7 @@ Fetches (array_given array) more free old new =
 
 -- all wait, the first one below
 abbrev pub AllWait : (size : Place → ℕ) → List Given → List Free → Free → (old new : List Instruction) → Type 0
-AllWait size [] [] free old new = (old ≡ new) × (length old < 4611686018427387904)
+AllWait size [] [] free old new = (old ≡ new) × (length old < 9223372036854775808)
 AllWait size [] (f ∷ fs) free old new = ⊥
 AllWait size (g ∷ gs) [] free old new = ⊥
 AllWait size (g ∷ gs) (f ∷ fs) free old new =

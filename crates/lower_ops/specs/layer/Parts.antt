@@ -39,9 +39,9 @@ pub record Begins (old new : List Instruction) : Type 0 where
   pub rest : List Instruction
   pub is : new ≡ old ++ rest
 
--- n instructions were written that satisfy P, whatever follows them; the whole has fewer than 2^62 instructions
+-- n instructions were written that satisfy P, whatever follows them; the whole has fewer than 2^63 instructions
 pub record Wrote (P : List Instruction → ℕ → ℕ → Type 0) (n : ℕ) (old new : List Instruction) : Type 0 where
   pub begins : Begins old new
   pub grows : length new ≡ length old + n
-  pub short : length new < 4611686018427387904
+  pub short : length new < 9223372036854775808
   pub stands : (whole : List Instruction) → Begins new whole → P whole (length old) (length new)
