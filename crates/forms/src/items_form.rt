@@ -11,7 +11,7 @@ use cc_backend::{code_map, items};
 use forms_text::{Style, Writer};
 use memory_map::TEXT_START;
 use rv32::Test;
-use srcset::{Names, Pos};
+use srcset::{Code, Names, Pos};
 use std::alloc::{AllocError, Global};
 use typed_ast::Program;
 
@@ -86,14 +86,21 @@ fn lay_out(alloc: Global, items: &Items, map: &CodeMap) -> Result<Placed, AllocE
     })
 }
 
+/// The listing, which has no line where the assembler refuses the items.
 fn listing_of(alloc: Global, items: &Items) -> Result<Vec<u8>, AllocError>
     requires { IsLow text_start items.now }
 {
     let mut listing = Vec::new(alloc);
     match list(alloc, items, TEXT_START, &mut listing) {
         Ok(()) => Ok(listing),
-        Err(_) => Err(AllocError),
+        Err(fault) if is_for_memory(fault.code) => Err(AllocError),
+        Err(_) => Ok(listing),
     }
+}
+
+/// Whether a listing was refused because memory ran out: the bytes that it is written to refuse for nothing else.
+fn is_for_memory(code: u16) -> bool {
+    code == Code::OutOfMemory.number() || code == Code::CannotWrite.number()
 }
 
 fn rows_of(alloc: Global, map: &CodeMap) -> Result<Vec<CodeRow>, AllocError> {
