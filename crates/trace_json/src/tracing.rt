@@ -5,7 +5,7 @@ use machine_kept::Feed;
 use object_names::{ProgramNames, names_of_set};
 use srcset::{Fault, FileSet, Names};
 use std::alloc::{AllocError, Global};
-use traced_interp::{SourceLines, Trace, TraceForm};
+use traced_interp::{SourceLines, Trace, TraceForm, Written};
 use typed_ast::Program;
 
 /// The message where the port failed to read: 802.
@@ -103,11 +103,15 @@ fn run_told(
         &mut trace,
     );
     let (written, lines) = trace.into_writer();
-    if written.is_whole {
-        Ok(ended(status, message, lines))
-    } else {
-        Err(AllocError)
+    if !had_memory(written) {
+        return Err(AllocError);
     }
+    Ok(ended(status, message, lines))
+}
+
+/// Whether there was memory for the trace: the `Vec` that it is written to refuses for nothing else.
+fn had_memory(written: Written) -> bool {
+    written.is_whole
 }
 
 /// The result of a run that ended with this status and message. The port fails to read only where the input is open and used up.
