@@ -72,7 +72,7 @@ for crate in $externs; do
 done
 cd "$root/crates/zikorape"
 "$KIT/bin/rattle" build --crate-name zikorape src/lib.rt "$@" -L "dependency=$work/libs" -L "dependency=$KIT/rlibs" \
-    --antt-project "$KIT/rattle/logic/antt-project.json" --logic-built "$KIT/logic_built" --jobs "${JOBS:-$(getconf _NPROCESSORS_ONLN 2>/dev/null || echo 1)}" --links zikorape= \
+    --antt-project "$KIT/rattle/logic/antt-project.json" --logic-built "$KIT/logic_built" --jobs "${JOBS:-1}" --links zikorape= \
     --crate-type staticlib --backend llvm --toolchain "$work/tools" -o "$work/libzikorape.a"
 
 # The heap of the kit goes into the same archive.
