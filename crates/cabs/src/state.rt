@@ -119,6 +119,7 @@ impl<'p> Interpreter<'p> {
         ensures always { O.always observer.old → O.always observer.new }
         ensures machine { self.new.machine ≡ self.old.machine }
         ensures kept { self.new.kept ≡ self.old.kept }
+        ensures err { IfErr result (λ e. e ≡ Memory) }
     {
         match callee {
             Callee::Function(f) => self.count_function(observer, f),
@@ -141,6 +142,7 @@ impl<'p> Interpreter<'p> {
         ensures always { O.always observer.old → O.always observer.new }
         ensures machine { self.new.machine ≡ self.old.machine }
         ensures kept { self.new.kept ≡ self.old.kept }
+        ensures err { IfErr result (λ e. e ≡ Memory) }
     {
         let program = self.machine.program;
         match program.functions.get(f) {
@@ -164,6 +166,7 @@ impl<'p> Interpreter<'p> {
         ensures always { O.always observer.old → O.always observer.new }
         ensures machine { self.new.machine ≡ self.old.machine }
         ensures kept { self.new.kept ≡ self.old.kept }
+        ensures err { IfErr result (λ e. e ≡ Memory) }
     {
         match self.tally.begin(weight) {
             Ok(()) => {

@@ -142,6 +142,10 @@ module _ (f g : flat.Program) (same : IsRenumbered f g) (input : List ℕ) where
         let e = costs_alike f g same n input in
         let stands : behind g input n ≡ flat_run.running (moved from goes.0) = run_is n ∙ ap (moved_progress from) goes.1 in
         (n, omega arith, omega arith, omega (arith, e), (moved from goes.0, stands, goes.2, goes.3, calls_same from goes.0 ∙ goes.4), same_calls n);
+    halts = λ n x goes fit.
+        let e = costs_alike f g same n input in
+        let stands : behind g input n ≡ flat_run.running (moved from goes.0) = run_is n ∙ ap (moved_progress from) goes.1 in
+        (n, omega (arith, e), (moved from goes.0, stands, goes.2, goes.3, calls_same from goes.0 ∙ goes.4), same_calls n);
     ends = λ n x ends fit.
         let e = costs_alike f g same n input in
         (n, omega (arith, e), run_is n ∙ ap (moved_progress from) ends, same_calls n);

@@ -13,7 +13,7 @@ use Rattle.cc_backend.specs.Runs.{IsInput}
 use Rattle.cc_backend.specs.Made.{IsFileOf}
 use Rattle.cc.specs.declared.compiling.Built.{Built}
 use Rattle.cc.specs.Made.{IsMade}
-use Rattle.cc_laws.specs.Laws.{IsDefined, StaysDefined, HasImage, run_of, done_in, IsBeginning, IsInside, TouchesNothingBelow, IsLaidOut, CallsAreKept, MainIsKept}
+use Rattle.cc_laws.specs.Laws.{StaysDefined, HasImage, run_of, done_in, IsBeginning, IsInside, TouchesNothingBelow, IsLaidOut, CallsAreKept, MainIsKept}
 use Rattle.cc_laws.specs.Overflow.{IsAlwaysDefined, GoesUpToOverflow}
 use Rattle.cc_laws.specs.Frames.{StaysWithinFrames, RunsWithinFrames}
 
@@ -36,8 +36,8 @@ pub record OnInput {stack : ℕ} {p : Program} {file frames : List ℕ} (made : 
   pub within_frames : StaysWithinFrames stack frames p input → DoesTheSame made image input
   pub beyond_stack : IsAlwaysDefined p input → GoesUpToOverflow made.parts p image input
   pub by_frames : RunsWithinFrames stack p frames image input
-  -- whatever comes later, including undefined behaviour
-  pub so_far : (n : ℕ) → IsDefined (answer n p input).ending → (answer n p input).greatest ≤ stack
+  -- up to undefined behaviour if there is some, and whatever would come later
+  pub so_far : (n : ℕ) → (answer n p input).greatest ≤ stack
       → (k : ℕ) × (done_in (run_of image input k) ≡ (answer n p input).trace) × ((j : ℕ) → j ≤ k → IsBeginning (done_in (run_of image input j)) (answer n p input).trace)
   pub in_time : (n status : ℕ) → (answer n p input).ending ≡ Ended status → (answer n p input).greatest ≤ stack
       → (k : ℕ) × (w : World) × (k ≤ 64 * n + 64) × (run_of image input k ≡ sim.Ended status w) × (reverse w.trace ≡ (answer n p input).trace)

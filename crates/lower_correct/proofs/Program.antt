@@ -33,7 +33,7 @@ use Rattle.lower_correct.specs.Code.{One}
 use Rattle.lower_correct.specs.Bodies.{Idles, Closes, Stands, IsFunctionFor, IsCodeFor}
 use Rattle.lower_correct.specs.Laws.{CodeBehaves}
 use Rattle.lower_correct.proofs.Words.{differ, low8, left_true, right_true}
-use Rattle.lower_correct.proofs.Steps.{stays, from, GoesTo, EndsAt, PausesAt, Sim, goes, sim_after, sim_then, sim_more, sim_map, sim_move, tick_in}
+use Rattle.lower_correct.proofs.Steps.{stays, from, GoesTo, EndsAt, PausesAt, HaltsAt, Sim, goes, sim_after, sim_then, sim_more, sim_map, sim_move, tick_in}
 use Rattle.lower_correct.proofs.Standing.{Scratch, here, put_scratch, set_same, does_one, does_nothing, does_move, world, first_automatic, types_below, rows_of, parameters_of, IsCode}
 use Rattle.lower_correct.proofs.Stores.{below_length, length_mapped, all_types, Fine, After, fine_later, after_later}
 use Rattle.lower_correct.proofs.Passing.{Fitting, Gave, CallGood, CallsDo}
@@ -493,6 +493,10 @@ code_behaves p q input checked asked code bytes =
           let l : PausesAt q (60 * n + 18) n (tac.start q input) s =
           subst (λ r. Sim q 14 (60 * n + 18) n (tac.start q input) (Never p q checked.well_typed asked checked.literals code checked.main_gives_int) r) h (all n) in
           (l.j, l.progress, (l.u, l.reaches.by, l.history, l.input), costs n l.j l.c l.reaches.spends l.within);
+      stops = λ n act at s h.
+          let l : HaltsAt q (60 * n + 18) (tac.start q input) s =
+          subst (λ r. Sim q 14 (60 * n + 18) n (tac.start q input) (Never p q checked.well_typed asked checked.literals code checked.main_gives_int) r) h (all n) in
+          (l.j, (l.u, l.reaches.by, l.history, l.input), costs n l.j l.c l.reaches.spends l.within);
     }
   where
     left_part : is_typed p ≡ true → nat_lt p.main (length p.functions) ≡ true
