@@ -133,7 +133,7 @@ module _ (code : List Instruction) where
   -- from the end of the body to the Return after it; 5.1.2.2.3p1: the end of main's body returns 0
   abbrev pub Closes : (is_main : Bool) → ℕ → ℕ → Type 0
   Closes true end back = One code (instruction.Move (target.Temporary 0) (operand.Constant 0)) end back
-  Closes false end back = end ≡ back
+  Closes false end back = One code (instruction.Forget 0 0) end back
 
 -- ---- functions
 

@@ -55,6 +55,7 @@ pub record Behaves (p : typed.Program) (q : Program) (input : List ℕ) : Type 0
 pub record IsCodeOf (f : typed.Function) (g : Function) : Type 0 where
   pub objects : g.objects ≡ f.objects
   pub parameters : g.parameters ≡ map kind_of f.type.parameters
+  pub result : g.result ≡ f.type.result
   pub within_weight : call_bytes g ≤ f.weight
   pub within_span : call_bytes g ≤ span f
   pub code : function_bytes g ≤ 128 * f.nodes + 1024
