@@ -98,3 +98,10 @@ pub record AreItemsOf (stack : ℕ) (p : Program) (items : List Item) : Type 0 w
   pub items_are : items ≡ program_items is_file.code
   pub low : IsLow text_start items
   pub reach : AllReach text_start items
+
+-- This executable file of the program, with the bytes of each frame, and the items of this very file.
+pub record IsListedFileOf (stack : ℕ) (p : Program) (file frames : List ℕ) (items : List Item) : Type 0 where
+  pub runs : RunsAs stack p frames file
+  pub is_file : IsFileOf stack p file frames
+  pub items_are : items ≡ program_items is_file.code
+  pub low : IsLow text_start items

@@ -12,7 +12,7 @@ mod sizes;
 
 pub use describing::{CodeMap, CodeRow, DataObject, FunctionCode, Reference, ScopeCode, code_map};
 pub use flat_code::flat_program;
-pub use generating::{Generated, generate, items};
+pub use generating::{Generated, Listed, generate, generate_listed, items};
 pub use homes::{FunctionHomes, ObjectHome};
 pub use laws::{
     code_fits, file_simulates_program, flat_simulates_program, flat_simulates_tac,

@@ -1,8 +1,9 @@
-//! `build`: an executable file, and the rule of a Makefile.
+//! `build`: an executable file, its listing, and the rule of a Makefile.
 
+use crate::listed_building::build_listed;
 use cc::{Cmd, StackSize, perform};
 use cli_args::{Program, Role, Rule};
-use cli_io::{Line, OutFile, TAKEN, put_file, say, say_memory, say_unwritten, say_usage, tell};
+use cli_io::{Line, OutFile, TAKEN, is_same, put_file, say, say_memory, say_unwritten, say_usage, tell};
 use cli_sources::{Sources, is_taken, read_sources, rule_path, rule_text, stack_size};
 use io_ports::IoPort;
 use std::alloc::Global;
@@ -12,9 +13,15 @@ use std::io::{BufReader, BufWriter};
 /// Below the greatest size up to which glibc's `malloc` learns to keep freed blocks (32 MiB, mallopt(3), M_MMAP_THRESHOLD).
 const KEPT_BYTES: usize = 33_488_896;
 
-/// Compiles a program, and writes the executable file at a path, and its rule where there is one; returns the exit status.
-pub fn build(rt: &HostRuntime, program: &Program<'_>, out: &str, rule: Option<Rule<'_>>) -> u8 {
-    if is_taken(rt, program, out) {
+/// Compiles a program, and writes the executable file at a path, with its rule and its listing where they have a path; returns the exit status.
+pub fn build(
+    rt: &HostRuntime,
+    program: &Program<'_>,
+    out: &str,
+    rule: Option<Rule<'_>>,
+    listing: Option<&str>,
+) -> u8 {
+    if is_taken(rt, program, out) || is_listing_taken(rt, program, out, listing) {
         return say_usage(rt, TAKEN);
     }
     keep_large_blocks(rt.alloc());
@@ -22,16 +29,33 @@ pub fn build(rt: &HostRuntime, program: &Program<'_>, out: &str, rule: Option<Ru
         Ok(sources) => sources,
         Err(fault) => return say(rt, &fault),
     };
-    if sources.are_at(rt, out) {
+    if sources.are_at(rt, out) || sources.are_at(rt, listing.unwrap_or(out)) {
         return say_usage(rt, TAKEN);
     }
     if program.has(Role::Folder) {
         say_alone(rt, program, &sources);
     }
-    let status = build_set(rt, &sources, out, stack_size(program));
+    let stack = stack_size(program);
+    let status = match listing {
+        Some(path) => build_listed(rt, &sources, out, path, stack),
+        None => build_set(rt, &sources, out, stack),
+    };
     match rule {
         Some(rule) if status == 0 => write_rule(rt, rule, out, &sources),
         _ => status,
+    }
+}
+
+/// Whether the path of the listing leads to a file of the program or to OUT.
+fn is_listing_taken(
+    rt: &HostRuntime,
+    program: &Program<'_>,
+    out: &str,
+    listing: Option<&str>,
+) -> bool {
+    match listing {
+        Some(path) => is_taken(rt, program, path) || is_same(rt, path, out),
+        None => false,
     }
 }
 
