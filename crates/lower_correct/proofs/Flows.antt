@@ -16,7 +16,7 @@ use Rattle.tac_code.specs.declared.code.Target.TheVariants as target
 use Rattle.tac_code.specs.declared.code.Instruction.TheVariants as instruction
 use Rattle.tac_code.specs.Code.{Program, function_at}
 use Rattle.tac_code.specs.Run.{Values, Call, State, running, word, word_for, forgotten}
-use Rattle.lower_correct.specs.Values.{or_int, Nowhere}
+use Rattle.lower_correct.specs.Values.{Nowhere}
 use Rattle.lower_correct.specs.Code.{One}
 use Rattle.lower_correct.specs.Bodies.{Leaves}
 use Rattle.lower_correct.proofs.Words.{differ}
