@@ -167,7 +167,7 @@ module _ (q : Program) (f : flat_code.Program) (g : IsMadeOf q f) (t : State) (s
       (λ i x ex. ap (slice_get (flat.function_at f n).code) (let sum : 0 + i ≡ i = omega arith in sum) ∙ (ap (λ (h : flat_code.Function). slice_get h.code i) (g.functions n)
       ∙ get_left (moves_from (layout_of callee) 0 0 0 callee.parameters) (map (translated (starts_of q) (layout_of callee)) callee.code) i x ex))
 
-  abbrev begun_state : State
+  abbrev pub begun_state : State
   begun_state = record t {
     call = record { function = n; at = 0; kept = tac.unset; base = length t.store; arrays = references };
     temporaries = tac.unset;

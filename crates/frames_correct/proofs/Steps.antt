@@ -207,43 +207,47 @@ module _ (q : Program) (f : flat_code.Program) (g : IsMadeOf q f) (t : State) (s
   known : (n : ℕ) (h : Function) → slice_get q.functions n ≡ Some h → h ≡ function_at q n
   known n h e = rw e refl
 
-  enters : (n : ℕ) → instruction_at q t ≡ Some (instruction.Call n) → (numbers : List Tree) (references : List Reference) → numbers_in (function_at q n).parameters (function_at q n).objects t.temporaries 0 ≡ Some numbers → arrays_in (function_at q n).parameters t.temporaries 0 ≡ Some references
-      → Follows q f t s (tac_costs.cost q (instruction.Call n)) (begun t n (function_at q n) numbers references)
-  enters n e numbers references en er =
-      let h = arguments_moved q f g t s m n numbers references en er in
-      let size = length (function_at q n).parameters in
-      let next = stands (instruction.Call n) e in
-      let one : flat.step f s ≡ flat.running (moving s n 0 flat.unset) = step_is f s (flat_instructions.Call n) next in
-      let there : flat.run f (suc size) s ≡ flat.running (moving s n (0 + size) h.cells2) = ap (λ r. flat.goes_on r (flat.run f size)) one ∙ h.runs in
-      let last = begun_matched q f g t s m n numbers references en er h in
-      let first : flat_costs.cost_if (flat_costs.next_of f s) ≡ 44 = ap flat_costs.cost_if next in
-      let rest : flat_costs.cost_on (flat.step f s) (flat_costs.spent f size) ≡ 6 * size = ap (λ r. flat_costs.cost_on r (flat_costs.spent f size)) one ∙ h.spends in
-      record {
-        count = suc size;
-        some = omega arith;
-        alike = subst (Alike q f (begun t n (function_at q n) numbers references)) (sym there) last;
-        costs = omega (arith, first, rest);
-        calls = each one h.within h.moves (moving s n (0 + size) h.cells2) there (calls_of q f g (begun_state q f g t s m n numbers references en er) (moving s n (0 + size) h.cells2) last);
-      }
-    where
-      abbrev size : ℕ
-      size = length (function_at q n).parameters
+  module _ (n : ℕ) (numbers : List Tree) (references : List Reference) (en : numbers_in (function_at q n).parameters (function_at q n).objects t.temporaries 0 ≡ Some numbers) (er : arrays_in (function_at q n).parameters t.temporaries 0 ≡ Some references) where
+    abbrev size : ℕ
+    size = length (function_at q n).parameters
 
-      abbrev callee : State
-      callee = begun_state q f g t s m n numbers references en er
+    abbrev callee : State
+    callee = begun_state q f g t s m n numbers references en er
 
-      each : flat.step f s ≡ flat.running (moving s n 0 flat.unset) → ((j : ℕ) (u : flat.State) → j ≤ size → flat.run f j (moving s n 0 flat.unset) ≡ flat.running u → active u ≡ n ∷ active s)
-          → ((j : ℕ) (u : flat.State) → j < size → flat.run f j (moving s n 0 flat.unset) ≡ flat.running u → IsAtMove f u) → (w : flat.State) → flat.run f (suc size) s ≡ flat.running w → HasCallsOf q f callee w
-          → (j : ℕ) (v : flat.State) → j ≤ suc size → flat.run f j s ≡ flat.running v → HasCallsOf q f t v ⊎ HasCallsOf q f callee v
-      each one within moves w there last zero v le ev = inl (calls_now v ev)
-      each one within moves w there last (suc j) v le ev =
-          let later = sym (ap (λ r. flat.goes_on r (flat.run f j)) one) ∙ ev in
-          inr (⊎_elim
-          (λ lt. (within j v (omega (arith, le)) later ∙ ap (λ fs. n ∷ fs) (calls_of q f g t s m).0, at_move q f callee v (moves j v lt later)))
-          (λ ge.
-          let end : suc j ≡ suc size = omega (arith, ge, le) in
-          subst (HasCallsOf q f callee) (same_running w v (sym there ∙ (ap (λ k. flat.run f k s) (sym end) ∙ ev))) last)
-          (cases_lt j size))
+    abbrev first : flat.State
+    first = moving s n 0 flat.unset
+
+    -- the call, its moves, and the state after these
+    on_the_way : flat.step f s ≡ flat.running first → ((j : ℕ) (u : flat.State) → j ≤ size → flat.run f j first ≡ flat.running u → active u ≡ n ∷ active s) → ((j : ℕ) (u : flat.State) → j < size → flat.run f j first ≡ flat.running u → IsAtMove f u)
+        → (w : flat.State) → flat.run f (suc size) s ≡ flat.running w → HasCallsOf q f callee w
+        → (j : ℕ) (v : flat.State) → j ≤ suc size → flat.run f j s ≡ flat.running v → HasCallsOf q f t v ⊎ HasCallsOf q f callee v
+    on_the_way one within moves w there last zero v le ev = inl (calls_now v ev)
+    on_the_way one within moves w there last (suc j) v le ev =
+        let later : flat.run f j first ≡ flat.running v = sym (ap (λ r. flat.goes_on r (flat.run f j)) one) ∙ ev in
+        inr (⊎_elim
+        (λ lt. (within j v (omega (arith, le)) later ∙ ap (λ fs. n ∷ fs) (calls_of q f g t s m).0, at_move q f callee v (moves j v lt later)))
+        (λ ge.
+        let end : suc j ≡ suc size = omega (arith, ge, le) in
+        subst (HasCallsOf q f callee) (same_running w v (sym there ∙ (ap (λ k. flat.run f k s) (sym end) ∙ ev))) last)
+        (cases_lt j size))
+
+    enters : instruction_at q t ≡ Some (instruction.Call n) → Follows q f t s (tac_costs.cost q (instruction.Call n)) (begun t n (function_at q n) numbers references)
+    enters e =
+        let h = arguments_moved q f g t s m n numbers references en er in
+        let next = stands (instruction.Call n) e in
+        let one : flat.step f s ≡ flat.running first = step_is f s (flat_instructions.Call n) next in
+        let w = moving s n (0 + size) h.cells2 in
+        let there : flat.run f (suc size) s ≡ flat.running w = ap (λ r. flat.goes_on r (flat.run f size)) one ∙ h.runs in
+        let last : Matched q f callee w = begun_matched q f g t s m n numbers references en er h in
+        let cost : flat_costs.cost_if (flat_costs.next_of f s) ≡ 44 = ap flat_costs.cost_if next in
+        let rest : flat_costs.cost_on (flat.step f s) (flat_costs.spent f size) ≡ 6 * size = ap (λ r. flat_costs.cost_on r (flat_costs.spent f size)) one ∙ h.spends in
+        record {
+          count = suc size;
+          some = omega arith;
+          alike = subst (Alike q f (begun t n (function_at q n) numbers references)) (sym there) last;
+          costs = omega (arith, cost, rest);
+          calls = on_the_way one h.within h.moves w there (calls_of q f g callee w last);
+        }
 
   calls_follow : (n : ℕ) → instruction_at q t ≡ Some (instruction.Call n) → Follows q f t s (tac_costs.cost q (instruction.Call n)) (entered q t n)
   calls_follow n e =
@@ -254,7 +258,7 @@ module _ (q : Program) (f : flat_code.Program) (g : IsMadeOf q f) (t : State) (s
       subst (λ k. Follows q f t s cost (more k)) (sym (known n h eh))
       (follows_bound q f t s cost (numbers_in (function_at q n).parameters (function_at q n).objects t.temporaries 0) (last (function_at q n)) (λ numbers en.
       follows_bound q f t s cost (arrays_in (function_at q n).parameters t.temporaries 0) (λ references. begun t n (function_at q n) numbers references) (λ references er.
-      enters n e numbers references en er))))
+      enters n numbers references en er e))))
 
   -- ---- any instruction
 
