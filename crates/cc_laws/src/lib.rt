@@ -6,6 +6,7 @@ ghost use Rattle.cc_laws.specs.Overflow.{FilesGoUpToOverflow};
 ghost use Rattle.cc_laws.specs.Frames.{FilesRunWithinFrames};
 ghost use Rattle.cc_laws.specs.Inputs.{DoesAllSoFar, ReadsAsItGoes};
 ghost use Rattle.cc_laws.specs.Reserved.{FilesLeaveReserved};
+ghost use Rattle.cc_laws.specs.Words.{FilesPassWords};
 
 /// What the abstract machine has done within any number of ticks, the file has done after some number of instructions.
 pub fn does_all()
@@ -102,4 +103,10 @@ pub fn reads_as_it_goes()
 /// A file made of a program never writes gp and tp (RISC-V ELF psABI, "Integer Register Convention"): they stay 0, whatever the program does.
 pub fn files_leave_reserved()
     ensures { FilesLeaveReserved }
+{}
+
+/// In a file made of a program each call passes C's own arguments: each number, converted to the type of its parameter and extended to a word, is in a0 to a7
+/// or on the stack, as the psABI has it; and what the function returns, converted to the type of its result and extended to a word, is in a0 where it returns.
+pub fn files_pass_words()
+    ensures { FilesPassWords }
 {}
