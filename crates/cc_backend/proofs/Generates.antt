@@ -179,6 +179,7 @@ module _ (p : typed.Program) (f : flat.Program) (ready : IsReady p) (made : IsFl
   abbrev pub is_file : (stack : ℕ) (parts : Parts) (file frames : List ℕ) → parts.stack ≡ stack → IsImageOf f parts → IsFewest (program_items f) text_start parts.text → length parts.text ≤ longest (program_items f)
       → frames ≡ map frame_bytes f.functions → file ≡ file_of parts → IsFileOf stack p file frames
   is_file stack parts file frames at image fewest short sizes written = record {
+    well_typed = ready.checked.well_typed;
     code = f;
     code_is = made;
     frames_are = sizes;

@@ -11,6 +11,7 @@ use Rattle.tree.specs.Tree.{ExternalTree}
 use Rattle.tree.specs.Counts.{unit_nodes}
 use Rattle.tree.specs.Limits.{program_node_limit}
 use Rattle.typing_spec.specs.Program.{Function, Program}
+use Rattle.typing_spec.specs.WellTyped.{is_typed}
 use Rattle.typing_spec.specs.Verdict.{fine}
 use Rattle.typing_spec.specs.Units.{unit_typed}
 use Rattle.tac_code.specs.Code as tac
@@ -75,6 +76,7 @@ FunctionsFit p code long =
 -- branches, has its frames, and has a stack of `stack` bytes; so all that is known of such an image is known of the file. Its data are 16 bytes, string
 -- literals and statics.
 pub record IsFileOf (stack : ℕ) (p : Program) (file frames : List ℕ) : Type 0 where
+  pub well_typed : is_typed p ≡ true
   pub code : flat.Program
   pub code_is : IsFlatCodeOf p code
   pub frames_are : frames ≡ map frame_bytes code.functions
