@@ -3,7 +3,9 @@
 use crate::listed_building::build_listed;
 use cc::{Cmd, StackSize, perform};
 use cli_args::{Program, Role, Rule};
-use cli_io::{Line, OutFile, TAKEN, is_same, put_file, say, say_memory, say_unwritten, say_usage, tell};
+use cli_io::{
+    Line, OutFile, TAKEN, is_same, put_file, say, say_memory, say_unwritten, say_usage, tell,
+};
 use cli_sources::{Sources, is_taken, read_sources, rule_path, rule_text, stack_size};
 use io_ports::IoPort;
 use std::alloc::Global;

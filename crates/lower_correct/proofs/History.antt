@@ -119,8 +119,7 @@ passes p q typed_well code t u g f e at =
     let numbers = bound (numbers_in h.parameters h.objects m 0) _ u callee.goes in
     let arrays = bound (arrays_in h.parameters m 0) _ u numbers.goes in
     let given : numbers_in (map kind_of ps) f.objects m 0 ≡ Some numbers.item =
-    ap (λ l. numbers_in (map kind_of ps) l m 0) (sym is.objects) ∙ (ap (λ l. numbers_in l h.objects m 0) (sym is.parameters) ∙ numbers.there) in
-    (
+    ap (λ l. numbers_in (map kind_of ps) l m 0) (sym is.objects) ∙ (ap (λ l. numbers_in l h.objects m 0) (sym is.parameters) ∙ numbers.there) in (
       words_in (map kind_of ps) m 0,
       begun_history t u g h numbers.item arrays.item ps is.parameters arrays.goes,
       are_passed ps f.objects m 0 numbers.item (first_parameters p g f typed_well at) given,
