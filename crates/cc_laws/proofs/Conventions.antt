@@ -29,7 +29,7 @@ fit_more few many f (flat.running s) le h = omega (arith, le, h)
 fit_more few many f (flat.ended status left trace) le h = tt
 fit_more few many f flat.stuck le h = tt
 
-called : (p : flat_code.Program) (s : flat.State) (f : ℕ) → next_of p s ≡ Some (instruction.Call f) → flat.step p s ≡ flat.running (flat.entered s f)
+pub called : (p : flat_code.Program) (s : flat.State) (f : ℕ) → next_of p s ≡ Some (instruction.Call f) → flat.step p s ≡ flat.running (flat.entered s f)
 called p s f e = step_is p s ∙ ap (λ o. o >>= flat.act p s) e
 
 -- if all frames of the run of flat code fit the stack, each call and main keep the convention

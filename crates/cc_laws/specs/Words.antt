@@ -53,9 +53,13 @@ pub record PassesWords {stack : ℕ} {p : Program} {file frames : List ℕ} (mad
   pub returns : (m : ℕ) (t : flat.State) → IsInCallee made.code (flat.entered s f) m t → next_of made.code t ≡ Some instruction.Return
       → (j : ℕ) × (w : World) × (run_of image input (k + j) ≡ Running w) × (w.machine.pc ≡ register v.machine 1) × HasResult p input g (flat.active t) w
 
--- this holds of each call that the run of a file's flat code reaches, on every input on which the program stays defined
+-- each call that the run of a file's flat code reaches
+abbrev pub CallsPassWords : {stack : ℕ} {file frames : List ℕ} (p : Program) → IsFileOf stack p file frames → Image → (input : List ℕ) → Type 0
+CallsPassWords p made image input =
+    (n f : ℕ) (s : flat.State) (g : Function) → ComesToCall made.code input n f s → slice_get p.functions f ≡ Some g → PassesWords made image input f g s
+
+-- this holds of each file made of a program, on every input on which the program stays defined
 abbrev pub FilesPassWords : Type 0
 FilesPassWords =
     (stack : ℕ) (p : Program) (file frames : List ℕ) (made : IsFileOf stack p file frames)
-    → HasImage file (λ image. (input : List ℕ) → IsInput input → StaysDefined stack p input
-    → (n f : ℕ) (s : flat.State) (g : Function) → ComesToCall made.code input n f s → slice_get p.functions f ≡ Some g → PassesWords made image input f g s)
+    → HasImage file (λ image. (input : List ℕ) → IsInput input → StaysDefined stack p input → CallsPassWords p made image input)
