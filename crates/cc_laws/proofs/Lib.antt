@@ -10,6 +10,7 @@ pub mod Conventions
 pub mod Loosening
 pub mod Touching
 pub mod Calls
+pub mod Words
 pub mod Following
 pub mod Faults
 pub mod Refused

@@ -1,6 +1,6 @@
 -- What is promised of a built file, in terms of its observable behaviour: its input and output, whether it traps, with which status it ends
 -- (ISO/IEC 9899:2011 5.1.2.3p6).
-use Rattle.std.specs.Prelude.{◌≡◌, ◌≤◌, ◌<◌, ℕ, ◌+◌, ◌-◌, ◌*◌, ◌%◌, ◌^◌, ◌||◌, nat_le, if◌then◌else◌, List, ◌++◌, length, reverse, true, Option, Some, Ok}
+use Rattle.std.specs.Prelude.{◌≡◌, ◌≤◌, ◌<◌, ℕ, ◌+◌, ◌-◌, ◌*◌, ◌%◌, ◌^◌, ◌||◌, nat_le, if◌then◌else◌, List, ◌∷◌, ◌++◌, length, reverse, slice_get, true, Option, Some, Ok}
 use Rattle.srcset.specs.declared.refusal.Pos.{Pos}
 use Rattle.tree.specs.Tree.{ExternalTree}
 use Rattle.rv32.specs.declared.instr.Instr.{Instr}
@@ -17,6 +17,9 @@ use Rattle.loader.specs.File.{Image, file_image}
 use Rattle.memory_map.specs.MemoryMap.{text_start, data_start, stack_end}
 use Rattle.elf_out.specs.Layout.{Parts}
 use Rattle.elf_out.specs.Program.{is_within, is_text, is_data, is_stack}
+use Rattle.frames_code.specs.declared.code.Instruction.TheVariants as instruction
+use Rattle.frames_code.specs.Code as flat_code
+use Rattle.frames_code.specs.Costs.{next_of}
 use Rattle.frames_code.specs.Run as flat
 use Rattle.select_correct.specs.Runs.{StandsWith, slack}
 use Rattle.select_correct.specs.Convention.{KeepsConvention, ComesToCall, behind_call}
@@ -27,7 +30,7 @@ use Rattle.typing_spec.specs.Program.{Program}
 use Rattle.typing_spec.specs.Verdict.{fine}
 use Rattle.typing_spec.specs.Units.{unit_typed}
 use Rattle.csem.specs.Machine.{Ending, Ended, Undefined, TicksUsed}
-use Rattle.csem.specs.History.{Entry, active}
+use Rattle.csem.specs.History.{Entry, Entered, Left, active}
 use Rattle.csem.specs.Laws.{Grows}
 use Rattle.csem.specs.Meaning.{cstep, answer, last_of}
 use Rattle.cc_backend.specs.Runs.{RunsAs, IsInput}
@@ -229,6 +232,31 @@ FilesCallAsMeant =
     (stack : ℕ) (p : Program) (file frames : List ℕ) (made : IsFileOf stack p file frames) (input : List ℕ) → IsInput input → StaysDefined stack p input
     → (k : ℕ) (s : flat.State) → flat.run made.code k (flat.start made.code input) ≡ flat.running s
     → (n : ℕ) × (history : List Entry) × HasComeTo p input n history × (flat.active s ≡ active history)
+
+-- ---- which words its calls pass and return
+
+-- each argument that is a number is in the temporary of its number
+abbrev pub ArePassed : List (Option ℕ) → flat.State → Type 0
+ArePassed arguments s = (k w : ℕ) → slice_get arguments k ≡ Some (Some w) → s.temporaries k ≡ Some (flat.word w)
+
+-- a result is in temporary 0
+abbrev pub IsReturned : Option ℕ → flat.State → Type 0
+IsReturned result s = (w : ℕ) → result ≡ Some w → s.temporaries 0 ≡ Some (flat.word w)
+
+-- Where the flat code is about to call a function, the abstract machine calls it at such a moment, where the same calls are active, and its arguments are passed;
+-- and where the flat code is about to return, that machine ends its innermost call, and the result is returned.
+abbrev pub PassesWords : (p : Program) (code : flat_code.Program) (input : List ℕ) → flat.State → Type 0
+PassesWords p code input s =
+    ((g : ℕ) → next_of code s ≡ Some (instruction.Call g)
+    → (n : ℕ) × (history : List Entry) × (arguments : List (Option ℕ)) × HasComeTo p input n (Entered g arguments ∷ history) × (flat.active s ≡ active history) × ArePassed arguments s)
+    × (next_of code s ≡ Some instruction.Return
+    → (n : ℕ) × (history : List Entry) × (result : Option ℕ) × HasComeTo p input n (Left result ∷ history) × (flat.active s ≡ active history) × IsReturned result s)
+
+-- this holds at each step of the flat code
+abbrev pub FilesPassWords : Type 0
+FilesPassWords =
+    (stack : ℕ) (p : Program) (file frames : List ℕ) (made : IsFileOf stack p file frames) (input : List ℕ) → IsInput input → StaysDefined stack p input
+    → (k : ℕ) (s : flat.State) → flat.run made.code k (flat.start made.code input) ≡ flat.running s → PassesWords p made.code input s
 
 -- ---- how it ends
 

@@ -1,7 +1,7 @@
 //! What is promised of a built file, in terms of its observable behaviour. There is nothing to run: each law is the contract of a function without code.
 #![tactic(auto)]
 
-ghost use Rattle.cc_laws.specs.Laws.{DoesAll, DoesNoMore, NeverTraps, StaysInside, FilesAreLaidOut, FilesKeepConvention, FilesTouchTheirFrames, FilesStayAbove, FilesTouchNothingBelow, FilesCallAsMeant, EndsOnlySo, UnitsHaveMain, EndsInTime};
+ghost use Rattle.cc_laws.specs.Laws.{DoesAll, DoesNoMore, NeverTraps, StaysInside, FilesAreLaidOut, FilesKeepConvention, FilesTouchTheirFrames, FilesStayAbove, FilesTouchNothingBelow, FilesCallAsMeant, FilesPassWords, EndsOnlySo, UnitsHaveMain, EndsInTime};
 ghost use Rattle.cc_laws.specs.Overflow.{FilesGoUpToOverflow};
 ghost use Rattle.cc_laws.specs.Frames.{FilesRunWithinFrames};
 ghost use Rattle.cc_laws.specs.Inputs.{DoesAllSoFar, ReadsAsItGoes};
@@ -59,6 +59,11 @@ pub fn files_touch_nothing_below()
 /// In a file made of a program the calls active at a step of its flat code are those active at some moment of the abstract machine's run.
 pub fn files_call_as_meant()
     ensures { FilesCallAsMeant }
+{}
+
+/// In a file made of a program the flat code passes to each function that it calls the words that the abstract machine passes, and returns the word that it returns.
+pub fn files_pass_words()
+    ensures { FilesPassWords }
 {}
 
 /// If the file has ended with a status, the abstract machine ends with this status, having done the same: the file never ends in another way.
