@@ -116,7 +116,7 @@ functions_same : (from : ℕ → ℕ → ℕ) (ws : List flat_run.Frame) → map
 functions_same from [] = refl
 functions_same from (w ∷ ws) = ap (λ (ns : List ℕ). w.function ∷ ns) (functions_same from ws)
 
-calls_same : (from : ℕ → ℕ → ℕ) (s : flat_run.State) → flat_run.active (moved from s) ≡ flat_run.active s
+pub calls_same : (from : ℕ → ℕ → ℕ) (s : flat_run.State) → flat_run.active (moved from s) ≡ flat_run.active s
 calls_same from s = functions_same from (s.frame ∷ s.waiting)
 
 module _ (f g : flat.Program) (same : IsRenumbered f g) (input : List ℕ) where

@@ -52,7 +52,7 @@ module _ (f g : flat.Program) (simple : IsSimplified f g) (input : List ℕ) whe
   ends_too m status left trace e = subst (λ x. DoesTheSame x (behind g input m)) e (simple.runs m input)
 
   -- defined after m steps, so after fewer too
-  defined_before : (j m : ℕ) → j ≤ m → IsDefined (behind f input m) → IsDefined (behind f input j)
+  pub defined_before : (j m : ℕ) → j ≤ m → IsDefined (behind f input m) → IsDefined (behind f input j)
   defined_before j m le defined = on (behind f input j) refl
     where
       sum : m ≡ j + (m - j)
