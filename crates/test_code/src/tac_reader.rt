@@ -50,7 +50,7 @@ fn take_line(alloc: Global, program: &mut TacProgram, words: &mut Words<'_>) -> 
     }
 }
 
-/// `f TEMPORARIES KEPT PARAMETERS`, a letter for each parameter. The type of its result is not given, since no code depends on it.
+/// `f TEMPORARIES KEPT PARAMETERS`, a letter for each parameter. Its result is an `int`, of which every word is a value.
 fn next_function(alloc: Global, words: &mut Words<'_>) -> Function {
     Function {
         code: Vec::new(alloc),
