@@ -30,6 +30,8 @@ use Rattle.frames_correct.proofs.Runs.{run_both}
 use Rattle.select_correct.specs.Convention.{passed, AtEntry, AtReturn, KeepsConvention, IsInCallee, ComesToCall}
 use Rattle.cc_backend.specs.Runs.{IsInput}
 use Rattle.cc_backend.specs.Made.{IsFileOf}
+use Rattle.cc_backend.specs.Words.{IsAsMeant}
+use Rattle.cc_backend.proofs.Words.{steps_are_as_meant}
 use Rattle.cc_laws.specs.Laws.{IsDefined, HasImage, HasComeTo, CallsAreKept}
 use Rattle.cc_laws.specs.Frames.{StaysWithinFrames}
 use Rattle.cc_laws.specs.Words.{argument_word, CallsPassWords, FilesPassWords}
@@ -143,8 +145,18 @@ module _ (stack : ℕ) (p : Program) (file frames : List ℕ) (made : IsFileOf s
   abbrev Point : flat.State → Type 0
   Point s = (i : ℕ) × (t : tac.State) × (before q input i ≡ tac.running t) × (flat.active s ≡ tac.open_calls t) × IsAtCall q made.code t s
 
+  point_in : (history : List Entry) (s : flat.State) → IsAsMeant q made.code input history s → Point s
+  point_in history s m = (m.step, m.state, m.is, m.calls, m.at_call)
+
+  point_at : (k : ℕ) (s : flat.State) → behind made.code input k ≡ flat.running s → (e : Ending) → IsDefined e → cstep k p input ≡ Stops e (last_of (cstep k p input)) → Point s
+  point_at k s e (Ended status) ok stops =
+      point_in (last_of (cstep k p input)).history s ((steps_are_as_meant p made.code input made.code_is bytes).1 k status (last_of (cstep k p input)) stops k s e)
+  point_at k s e (Undefined act at) ok stops = absurd ok
+  point_at k s e TicksUsed ok stops =
+      point_in (last_of (cstep k p input)).history s ((steps_are_as_meant p made.code input made.code_is bytes).0 k (last_of (cstep k p input)) stops k s (omega arith) e)
+
   point : (k : ℕ) (s : flat.State) → behind made.code input k ≡ flat.running s → Point s
-  point k s e = hole
+  point k s e = point_at k s e (ending_of (cstep k p input)) (defined k) (run_stops k p input)
 
   -- of a call: what the history has, and what the flat code's temporaries have
   pub record CallsWith (f : ℕ) (g : Function) (s : flat.State) : Type 0 where
