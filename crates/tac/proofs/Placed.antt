@@ -1,5 +1,5 @@
 -- Parts of a switch.
-use Rattle.std.proofs.Common.{◌≡◌, ℕ, ◌<◌, ℤ, false, List, [], ◌++◌, map, length, Option, Some, None, refl, ap, sym, subst, arith}
+use Rattle.std.proofs.Common.{◌≡◌, ℕ, ◌<◌, ℤ, List, [], ◌++◌, map, length, Option, Some, None, refl, ap, sym, subst, arith}
 use Rattle.ctypes.specs.declared.types.IntType.{IntType}
 use Rattle.typing_spec.specs.Program as typed
 use Rattle.typing_spec.specs.Program.{Value, Statement, Statements}

@@ -1,4 +1,4 @@
-use Rattle.std.proofs.Common.{◌≡◌, false, ap, map, length, ◌∙◌}
+use Rattle.std.proofs.Common.{◌≡◌, ap, map, length, ◌∙◌}
 use Rattle.typed_ast.specs.View.{value_of, option_value, statement_of, statements_of}
 use Rattle.lower_ops.specs.declared.modes.Shape.TheVariants as shape
 use Rattle.csem.specs.Statements.{labels_of}
