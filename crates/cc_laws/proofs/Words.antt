@@ -1,8 +1,9 @@
 -- The words that a file's calls pass and return.
-use Rattle.std.proofs.Common.{◌≡◌, ⊎_elim, ℕ, zero, suc, ◌+◌, ◌%◌, ◌^◌, ◌≤◌, List, [], ◌∷◌, Option, Some, None, refl, sym, ap, ◌∙◌, subst, arith}
-use Rattle.std.specs.Prelude.{slice_get}
+use Rattle.std.proofs.Common.{◌≡◌, ⊎_elim, ℕ, zero, suc, ◌+◌, ◌%◌, ◌^◌, ◌≤◌, List, [], ◌∷◌, Option, Some, None, Bool, true, false, refl, sym, ap, ◌∙◌, subst, arith}
+use Rattle.std.specs.Prelude.{slice_get, if◌then◌else◌}
 use Rattle.std.proofs.lemmas.Bool.{cases_lt}
 use Rattle.typing_spec.specs.Program.{Program}
+use Rattle.ctypes.specs.declared.types.IntType.{IntType}
 use Rattle.csem.specs.History.{Entry, Entered, Left, active}
 use Rattle.csem.specs.Laws.{Grows}
 use Rattle.csem.specs.Machine.{Ending, Ended, Undefined, TicksUsed, Stops}
@@ -14,15 +15,13 @@ use Rattle.tac_code.specs.declared.code.Instruction.{Instruction}
 use Rattle.tac_code.specs.declared.code.Instruction.TheVariants as instruction
 use Rattle.tac_code.specs.Code as tac
 use Rattle.tac_code.specs.Code.{function_at}
-use Rattle.tac_code.specs.Run.{State, Call, Values, Progress, running, ended, stuck, word, word_in, word_at, words_in, numbers_in, arrays_in, result_in, returned, entered, begun, instruction_at, act, step, run, goes_on, start, ◌>>=◌}
+use Rattle.tac_code.specs.Run.{State, Call, Value, Values, Progress, running, ended, stuck, word, reference, word_in, word_at, is_word_of, words_in, numbers_in, arrays_in, result_in, returned, entered, begun, instruction_at, act, step, run, goes_on, start, ◌>>=◌}
 use Rattle.tac_code.specs.Sound.{AreBytes}
 use Rattle.tac_code.specs.Laws.{ComesOf, HasCalls}
 use Rattle.tac_code.proofs.Growing.{calls_are_active}
 use Rattle.frames_code.specs.Code as flat_code
 use Rattle.frames_code.specs.Run as flat
 use Rattle.frames.specs.Flattened.{before, behind}
-use Rattle.frames_correct.proofs.Values.{word_known}
-use Rattle.frames_correct.proofs.Returning.{result_is}
 use Rattle.cc_backend.specs.Made.{IsFlatCodeOf}
 use Rattle.cc_backend.specs.Words.{IsAsMeant}
 use Rattle.cc_laws.specs.Laws.{IsDefined, StaysDefined, HasComeTo, ArePassed, IsReturned, PassesWords, FilesPassWords}
@@ -46,6 +45,21 @@ one_more q zero s = ends_there q (step q s)
 one_more q (suc i) s = after_that q i (step q s) (one_more q i)
 
 -- ---- the words that three-address code passes and returns
+
+-- a value that is a word, and a result that is one
+word_known : (o : Option Value) (w : ℕ) → word_in o ≡ Some w → o ≡ Some (word w)
+word_known None w e = absurd (let z : ⊥ = cc in z)
+word_known (Some (word u)) w e = let same : u ≡ w = cc in ap (λ v. Some (word v)) same
+word_known (Some (reference r)) w e = absurd (let z : ⊥ = cc in z)
+
+if_word : (b : Bool) (u : ℕ) (result : Option ℕ) → (if b then Some (Some u) else None) ≡ Some result → Some u ≡ result
+if_word true u result e = cc
+if_word false u result e = absurd (let z : ⊥ = cc in z)
+
+result_is : (o : Option IntType) (there result : Option ℕ) → result_in o there ≡ Some result → (w : ℕ) → result ≡ Some w → there ≡ Some w
+result_is None there result e w ew = absurd (let z : ⊥ = cc in z)
+result_is (Some t) None result e w ew = absurd (let z : ⊥ = cc in z)
+result_is (Some t) (Some u) result e w ew = if_word (is_word_of t u) u result e ∙ ew
 
 words_are : (ps : List Parameter) (values : Values) (k j w : ℕ) → slice_get (words_in ps values k) j ≡ Some (Some w) → values (k + j) ≡ Some (word w)
 words_are [] values k j w e = absurd (let z : ⊥ = cc in z)
