@@ -27,7 +27,7 @@ use Rattle.frames_correct.proofs.Targets.{bound, found}
 use Rattle.frames_correct.proofs.Ground.{IsMadeOf, name_is}
 
 -- a result that is a word is that of temporary 0
-pub result_is : (o : Option IntType) (here result : Option ℕ) → result_in o here ≡ Some result → (w : ℕ) → result ≡ Some w → here ≡ Some w
+result_is : (o : Option IntType) (here result : Option ℕ) → result_in o here ≡ Some result → (w : ℕ) → result ≡ Some w → here ≡ Some w
 result_is None here result e w ew = let none : None ≡ Some w = same_some None result e ∙ ew in absurd (let z : ⊥ = cc in z)
 result_is (Some t) None result e w ew = let none : None ≡ Some w = same_some None result e ∙ ew in absurd (let z : ⊥ = cc in z)
 result_is (Some t) (Some u) result e w ew =
