@@ -17,6 +17,7 @@ use Rattle.csem.specs.Meaning.{cstep, ending_of, last_of}
 use Rattle.tac_code.specs.Code as tac_code
 use Rattle.tac_code.specs.declared.code.Instruction.TheVariants as tac_instruction
 use Rattle.tac_code.specs.Run as tac
+use Rattle.tac_code.specs.Run.{◌>>=◌}
 use Rattle.tac_code.specs.Laws.{ComesOf, HasCalls}
 use Rattle.tac_code.specs.Lowered.{IsLowered}
 use Rattle.tac_code.proofs.Growing.{run_grows, calls_are_active}
@@ -59,12 +60,12 @@ one_more : (q : tac_code.Program) (i : ℕ) (s t : tac.State) → tac.run q i s 
 one_more q zero s t e = alone q (tac.step q s) ∙ ap (tac.step q) (same_state s t e)
 one_more q (suc i) s t e = step_on q i (tac.step q s) t e (λ u eu. one_more q i u t eu)
 
-step_is : (q : tac_code.Program) (t : tac.State) → tac.step q t ≡ (tac.instruction_at q t tac.>>= tac.act q t)
+step_is : (q : tac_code.Program) (t : tac.State) → tac.step q t ≡ (tac.instruction_at q t >>= tac.act q t)
 unfolding tac.step
 step_is q t = refl
 
 -- a call ends no run
-never_ended : {A : Type 0} (o : Option A) (go : A → tac.Progress) (status : ℕ) (left : List ℕ) (h : List Entry) → ((x : A) → go x ≡ tac.ended status left h → ⊥) → (o tac.>>= go) ≡ tac.ended status left h → ⊥
+never_ended : {A : Type 0} (o : Option A) (go : A → tac.Progress) (status : ℕ) (left : List ℕ) (h : List Entry) → ((x : A) → go x ≡ tac.ended status left h → ⊥) → (o >>= go) ≡ tac.ended status left h → ⊥
 never_ended None go status left h each e = let z : ⊥ = cc in z
 never_ended (Some x) go status left h each e = each x e
 
@@ -73,16 +74,16 @@ no_end q t f status left h call e =
     never_ended (slice_get q.functions f) _ status left h
     (λ g. never_ended (tac.numbers_in g.parameters g.objects t.temporaries 0) _ status left h
     (λ numbers. never_ended (tac.arrays_in g.parameters t.temporaries 0) _ status left h (λ arrays b. let z : ⊥ = cc in z)))
-    (sym (step_is q t ∙ ap (λ o. o tac.>>= tac.act q t) call) ∙ e)
+    (sym (step_is q t ∙ ap (λ o. o >>= tac.act q t) call) ∙ e)
 
-heads : (a b : ℕ) (as bs : List ℕ) → a ∷ as ≡ b ∷ bs → a ≡ b
-heads a b as bs e = cc
+heads : (a b : ℕ) (xs ys : List ℕ) → a ∷ xs ≡ b ∷ ys → a ≡ b
+heads a b xs ys e = cc
 
 -- ---- what three-address code has done, the abstract machine has done
 
 module _ (p : Program) (q : tac_code.Program) (lowered : IsLowered p q) (input : List ℕ) (bytes : IsInput input) (fine : (n : ℕ) → IsDefined (ending_of (cstep n p input))) where
   -- a state, or the end, of three-address code, as far as the abstract machine comes within n ticks
-  HasDone : tac.Progress → Type 0
+  abbrev pub HasDone : tac.Progress → Type 0
   HasDone (tac.running u) = (n : ℕ) × HasComeTo p input n u.history
   HasDone (tac.ended status left history) = (n : ℕ) × HasComeTo p input n history
   HasDone tac.stuck = ⊥
@@ -182,7 +183,7 @@ module _ (stack : ℕ) (p : Program) (file frames : List ℕ) (made : IsFileOf s
         passed = w.2;
         given = λ k x ex. its k x (w.3 k x ex);
       }
-  call_goes f g s i t at same call its known (tac.ended status left history) e done = absurd (no_end q t f call status left history e)
+  call_goes f g s i t at same call its known (tac.ended status left history) e done = absurd (no_end q t f status left history call e)
   call_goes f g s i t at same call its known tac.stuck e done = absurd done
 
   calls_with : (n f : ℕ) (g : Function) (s : flat.State) → ComesToCall made.code input n f s → slice_get p.functions f ≡ Some g → CallsWith f g s
@@ -230,8 +231,8 @@ module _ (stack : ℕ) (p : Program) (file frames : List ℕ) (made : IsFileOf s
 
   -- ---- on the machine
 
-  lies : (data entry back : ℕ) (s : flat.State) (f : ℕ) (v : World) → AtEntry data entry back (flat.entered s f) v → (k x : ℕ) → s.temporaries k ≡ Some (flat.word x) → argument_word v k ≡ x
-  lies data entry back s f v at k x e =
+  lies : (data_at entry back : ℕ) (s : flat.State) (f : ℕ) (v : World) → AtEntry data_at entry back (flat.entered s f) v → (k x : ℕ) → s.temporaries k ≡ Some (flat.word x) → argument_word v k ≡ x
+  lies data_at entry back s f v at k x e =
       ⊎_elim
       (λ lt.
       let low : nat_lt k 8 ≡ true = grind (arith, nat_tests) in

@@ -12,6 +12,9 @@ use std::alloc::Global;
 use std::io;
 use std::io::{BufReader, BufWriter};
 
+/// Why a listing is not written.
+const LISTING_TAKEN: &str = "the listing is OUT or one of the files that are read";
+
 /// Below the greatest size up to which glibc's `malloc` learns to keep freed blocks (32 MiB, mallopt(3), M_MMAP_THRESHOLD).
 const KEPT_BYTES: usize = 33_488_896;
 
@@ -23,16 +26,22 @@ pub fn build(
     rule: Option<Rule<'_>>,
     listing: Option<&str>,
 ) -> u8 {
-    if is_taken(rt, program, out) || is_listing_taken(rt, program, out, listing) {
+    if is_taken(rt, program, out) {
         return say_usage(rt, TAKEN);
+    }
+    if is_listing_taken(rt, program, out, listing) {
+        return say_usage(rt, LISTING_TAKEN);
     }
     keep_large_blocks(rt.alloc());
     let sources = match read_sources(rt, program) {
         Ok(sources) => sources,
         Err(fault) => return say(rt, &fault),
     };
-    if sources.are_at(rt, out) || sources.are_at(rt, listing.unwrap_or(out)) {
+    if sources.are_at(rt, out) {
         return say_usage(rt, TAKEN);
+    }
+    if is_source(rt, &sources, listing) {
+        return say_usage(rt, LISTING_TAKEN);
     }
     if program.has(Role::Folder) {
         say_alone(rt, program, &sources);
@@ -45,6 +54,14 @@ pub fn build(
     match rule {
         Some(rule) if status == 0 => write_rule(rt, rule, out, &sources),
         _ => status,
+    }
+}
+
+/// Whether a file that was read lies at the path of the listing.
+fn is_source(rt: &HostRuntime, sources: &Sources<'_>, listing: Option<&str>) -> bool {
+    match listing {
+        Some(path) => sources.are_at(rt, path),
+        None => false,
     }
 }
 
