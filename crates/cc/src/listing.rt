@@ -1,6 +1,6 @@
 //! An executable file together with the listing of its code.
 
-ghost use Rattle.std.specs.Prelude.{MatchResult, OnOk, IfOk, IfErr};
+ghost use Rattle.std.specs.Prelude.{OnOk, IfOk, IfErr};
 ghost use Rattle.typed_ast.specs.View.{program_of};
 ghost use Rattle.memory_map.specs.MemoryMap.{text_start};
 ghost use Rattle.asm.specs.Layout.{IsLow};
