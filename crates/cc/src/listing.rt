@@ -4,7 +4,8 @@ ghost use Rattle.std.specs.Prelude.{OnOk, IfOk, IfErr};
 ghost use Rattle.typed_ast.specs.View.{program_of};
 ghost use Rattle.memory_map.specs.MemoryMap.{text_start};
 ghost use Rattle.asm.specs.Layout.{IsLow};
-ghost use Rattle.asm.specs.Listing.{Lists, IsListRefused};
+ghost use Rattle.asm.specs.Listing.{Lists};
+ghost use Rattle.asm.specs.Refusals.{IsListRefused};
 ghost use Rattle.cc_backend.specs.Made.{IsReady};
 ghost use Rattle.cc.specs.Made.{IsListed, ListsProgram};
 ghost use Rattle.cc.specs.Refused.{IsRefused};
@@ -78,20 +79,22 @@ fn list_checked(
         Ok(made) => made,
         Err(_) => return Err(AllocError),
     };
+    let generated = made.generated;
+    let items = made.items;
     let mut frames = Vec::new(alloc);
     match put_entries(
         alloc,
         &mut frames,
         names,
         &program.functions,
-        made.generated.frames.as_slice(),
+        generated.frames.as_slice(),
     ) {
         Ok(()) => Ok(Listed {
             built: Built {
-                elf: made.generated.elf,
+                elf: generated.elf,
                 frames,
             },
-            items: made.items,
+            items,
         }),
         Err(_) => Err(AllocError),
     }
