@@ -295,7 +295,7 @@ files_pass_words stack p file frames made =
       image,
       subst (λ f. file_image f ≡ Ok image) (sym made.file_is) (written_image made.parts made.image_is.size made.image_is.stack.2),
       λ input bytes fine.
-      passes stack p file frames made input bytes (λ n. (fine n).0) (convention stack p file frames made input bytes (fits stack p file frames made input bytes fine)).0,
+          passes stack p file frames made input bytes (λ n. (fine n).0) (convention stack p file frames made input bytes (fits stack p file frames made input bytes fine)).0,
     )
 
 -- if the frames of the active calls are within the stack
@@ -306,5 +306,5 @@ files_pass_words_within_frames stack p file frames made =
       image,
       subst (λ f. file_image f ≡ Ok image) (sym made.file_is) (written_image made.parts made.image_is.size made.image_is.stack.2),
       λ input bytes fine.
-      passes stack p file frames made input bytes (λ n. (fine n).0) (convention stack p file frames made input bytes (fits_within stack p file frames made input bytes fine)).0,
+          passes stack p file frames made input bytes (λ n. (fine n).0) (convention stack p file frames made input bytes (fits_within stack p file frames made input bytes fine)).0,
     )
