@@ -12,7 +12,6 @@ import os
 import shutil
 import subprocess
 import sys
-import tempfile
 
 KIT = os.path.dirname(os.path.dirname(os.path.realpath(shutil.which('rt') or '/opt/rattle/bin/rt')))
 KEPT = os.path.join(os.path.dirname(KIT), 'rattle-kept')
@@ -67,7 +66,7 @@ def main(crate, flags):
     if libraries is None:
         print(f'no crate {crate} in crates.txt', file=sys.stderr)
         return 2
-    room = f'{tempfile.gettempdir()}/zikorape-kept-{os.getuid()}'
+    room = os.path.join(os.environ.get('XDG_CACHE_HOME') or os.path.expanduser('~/.cache'), 'zikorape-kept')
     collected(room)
     words = [f'{KIT}/bin/rattle', 'check', '--crate-name', crate, f'src/{"main" if os.path.exists(f"crates/{crate}/src/main.rt") else "lib"}.rt']
     for name in [*libraries, 'std']:

@@ -1,6 +1,6 @@
 #!/usr/bin/env python3
 """rt_ci.py [--proofs] [--keep GB] [CRATE..]: runs `rt ci` of the kit, of all crates or of these and those below them, where two of its questions
-about a crate are answered once in each call. --proofs leaves the must-fail edits out; --keep says how much rt keeps on this machine of what it
+about a crate are answered once in each call. --proofs, with names alone, leaves the must-fail edits out; --keep says how much rt keeps on this machine of what it
 proved (the kit keeps 10 GB, which is less than all crates take).
 
 What a crate stands on (`below`), and the sum of all that it is made from (`stamp`), the kit's rt asks of each library of the crate, of
@@ -54,18 +54,16 @@ def lanes():
     return max(1, min(len(os.sched_getaffinity(0)), free // 4_500_000))
 
 
-def proofs_alone(in_lanes):
-    """The kit's function that runs tasks side by side, for those that are no must-fail edits."""
-    return lambda tasks: in_lanes({key: task for key, task in tasks.items() if key[1] in ('proof', 'tests')})
-
-
 def wanted_of(words):
     """Whether the edits are left out, how many bytes are kept if that is said, and the names of crates."""
-    flags = argparse.ArgumentParser(add_help=False)
+    flags = argparse.ArgumentParser(prog='rt_ci.py', add_help=False)
     flags.add_argument('--proofs', action='store_true')
     flags.add_argument('--keep', type=int)
     flags.add_argument('names', nargs='*')
-    return flags.parse_args(words)
+    wanted = flags.parse_args(words)
+    if wanted.proofs and not wanted.names:
+        flags.error('--proofs wants names of crates: a run of all of them is the gate, with their edits')
+    return wanted
 
 
 def main(words):
@@ -81,7 +79,7 @@ def main(words):
             if inspect.isfunction(vars(kind)[name]):
                 setattr(kind, name, asked_once(vars(kind)[name]))
         if wanted.proofs:
-            kit.in_lanes = proofs_alone(kit.in_lanes)
+            kit.edits_of = lambda crate: ([], [])
         if wanted.keep:
             kit.STORE_MOST = wanted.keep * 1_000_000_000
     except (ImportError, AttributeError, StopIteration, SyntaxError):
