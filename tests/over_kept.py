@@ -30,17 +30,36 @@ def uses():
 
 
 def collected(to):
-    """Links each library that is kept into a folder; of two of one name the one that was kept last."""
-    for place in sorted(glob.glob(f'{KEPT}/proof-*/made.json'), key=os.path.getmtime):
-        with open(place, encoding='utf-8') as file:
-            made = json.load(file)['files']
-        for number, (path, _) in enumerate(made):
-            if path.startswith('rlib/'):
-                name = f'{to}/{path[5:]}'
-                os.makedirs(os.path.dirname(name), exist_ok=True)
-                if os.path.lexists(name):
-                    os.remove(name)
-                os.symlink(f'{os.path.dirname(place)}/{number}', name)
+    """Links each library that is kept into a folder; of two of one name the one that was kept last. What an earlier call has linked stays,
+    unless some of it is gone: then all is linked anew."""
+    seen = f'{to}/seen.json'
+    known = []
+    if os.path.exists(seen):
+        with open(seen, encoding='utf-8') as file:
+            known = json.load(file)
+    if not all(os.path.exists(place) for place in known):
+        shutil.rmtree(to)
+        known = []
+    os.makedirs(to, exist_ok=True)
+    places = sorted(glob.glob(f'{KEPT}/proof-*/made.json'), key=os.path.getmtime)
+    for place in places:
+        if place not in known:
+            linked(place, to)
+    with open(seen, 'w', encoding='utf-8') as file:
+        json.dump(places, file)
+
+
+def linked(place, to):
+    """Links the library of one proof."""
+    with open(place, encoding='utf-8') as file:
+        made = json.load(file)['files']
+    for name in {path.split('/')[1] for path, _ in made if path.startswith('rlib/')}:
+        shutil.rmtree(f'{to}/{name}', ignore_errors=True)
+    for number, (path, _) in enumerate(made):
+        if path.startswith('rlib/'):
+            name = f'{to}/{path[5:]}'
+            os.makedirs(os.path.dirname(name), exist_ok=True)
+            os.symlink(f'{os.path.dirname(place)}/{number}', name)
 
 
 def main(crate, flags):
@@ -48,20 +67,20 @@ def main(crate, flags):
     if libraries is None:
         print(f'no crate {crate} in crates.txt', file=sys.stderr)
         return 2
-    with tempfile.TemporaryDirectory() as room:
-        collected(room)
-        words = [f'{KIT}/bin/rattle', 'check', '--crate-name', crate, f'src/{"main" if os.path.exists(f"crates/{crate}/src/main.rt") else "lib"}.rt']
-        for name in [*libraries, 'std']:
-            place = next((it for it in (f'{room}/{name}.rlib', f'{KIT}/rlibs/{name}.rlib') if os.path.isdir(it)), None)
-            if place is None:
-                print(f'{name} is not kept yet', file=sys.stderr)
-                return 2
-            words += ['--extern', f'{name}={place}']
-        kept = f'crates/{crate}/out/over_kept'
-        os.makedirs(kept, exist_ok=True)
-        words += ['-L', f'dependency={room}', '-L', f'dependency={KIT}/rlibs', '--antt-project', f'{KIT}/rattle/logic/antt-project.json',
-                  '--logic-built', f'{KIT}/logic_built', '--jobs', '1', '--incremental', os.path.abspath(kept), *flags]
-        return subprocess.run(words, cwd=f'crates/{crate}', check=False).returncode
+    room = f'{tempfile.gettempdir()}/zikorape-kept-{os.getuid()}'
+    collected(room)
+    words = [f'{KIT}/bin/rattle', 'check', '--crate-name', crate, f'src/{"main" if os.path.exists(f"crates/{crate}/src/main.rt") else "lib"}.rt']
+    for name in [*libraries, 'std']:
+        place = next((it for it in (f'{room}/{name}.rlib', f'{KIT}/rlibs/{name}.rlib') if os.path.isdir(it)), None)
+        if place is None:
+            print(f'{name} is not kept yet', file=sys.stderr)
+            return 2
+        words += ['--extern', f'{name}={place}']
+    kept = f'crates/{crate}/out/over_kept'
+    os.makedirs(kept, exist_ok=True)
+    words += ['-L', f'dependency={room}', '-L', f'dependency={KIT}/rlibs', '--antt-project', f'{KIT}/rattle/logic/antt-project.json',
+              '--logic-built', f'{KIT}/logic_built', '--jobs', '1', '--incremental', os.path.abspath(kept), *flags]
+    return subprocess.run(words, cwd=f'crates/{crate}', check=False).returncode
 
 
 if __name__ == '__main__':

@@ -1,5 +1,7 @@
 #!/usr/bin/env python3
-"""rt_ci.py: runs `rt ci` of the kit, where two of its questions about a crate are answered once in each call.
+"""rt_ci.py [--proofs] [--keep GB] [CRATE..]: runs `rt ci` of the kit, of all crates or of these and those below them, where two of its questions
+about a crate are answered once in each call. --proofs leaves the must-fail edits out; --keep says how much rt keeps on this machine of what it
+proved (the kit keeps 10 GB, which is less than all crates take).
 
 What a crate stands on (`below`), and the sum of all that it is made from (`stamp`), the kit's rt asks of each library of the crate, of
 each library of these, and so on: as often as there are ways down. With the crates of this repository these are 3.3 million, by
@@ -8,6 +10,7 @@ functions it is run as it is.
 
 It also says how many checks go side by side (RT_JOBS, where that is not set): one a processor, as far as memory holds 4.5 GB for each. By
 the kit's own estimate of memory, two of the upper crates fill 23 GB, and none has been seen to take 5."""
+import argparse
 import importlib.machinery
 import importlib.util
 import inspect
@@ -51,7 +54,22 @@ def lanes():
     return max(1, min(len(os.sched_getaffinity(0)), free // 4_500_000))
 
 
-def main():
+def proofs_alone(in_lanes):
+    """The kit's function that runs tasks side by side, for those that are no must-fail edits."""
+    return lambda tasks: in_lanes({key: task for key, task in tasks.items() if key[1] in ('proof', 'tests')})
+
+
+def wanted_of(words):
+    """Whether the edits are left out, how many bytes are kept if that is said, and the names of crates."""
+    flags = argparse.ArgumentParser(add_help=False)
+    flags.add_argument('--proofs', action='store_true')
+    flags.add_argument('--keep', type=int)
+    flags.add_argument('names', nargs='*')
+    return flags.parse_args(words)
+
+
+def main(words):
+    wanted = wanted_of(words)
     os.environ.setdefault('RT_JOBS', str(lanes()))
     rt = os.path.realpath(shutil.which('rt') or 'rt')
     loader = importlib.machinery.SourceFileLoader('rt', rt)
@@ -62,11 +80,15 @@ def main():
             kind = owner(kit.Crate, name)
             if inspect.isfunction(vars(kind)[name]):
                 setattr(kind, name, asked_once(vars(kind)[name]))
+        if wanted.proofs:
+            kit.in_lanes = proofs_alone(kit.in_lanes)
+        if wanted.keep:
+            kit.STORE_MOST = wanted.keep * 1_000_000_000
     except (ImportError, AttributeError, StopIteration, SyntaxError):
-        os.execvp('rt', ['rt', 'ci'])
-    sys.argv = [rt, 'ci']
-    return kit.main(['ci'])
+        os.execvp('rt', ['rt', 'ci', *wanted.names])
+    sys.argv = [rt, 'ci', *wanted.names]
+    return kit.main(['ci', *wanted.names])
 
 
 if __name__ == '__main__':
-    sys.exit(main())
+    sys.exit(main(sys.argv[1:]))
