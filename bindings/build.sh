@@ -2,7 +2,8 @@
 # sh bindings/build.sh [--prove] OUT: leaves in OUT libzikorape.a, with the heap that it calls, and libzikorape.so. They are of
 # release/, where that was built from this tree.
 # --prove: proves the crate zikorape over the libraries that the gate proved, and builds the archive; its module for LLVM, zikorape.bc, is
-# left in OUT too. That needs the kit, and takes two to three minutes.
+# left in OUT too. That needs the kit, and takes one to three minutes.
+#   JOBS   how many proofs go side by side: by default one a processor
 #   KIT    the kit's folder: by default where `rt` lies
 #   RLIBS  a folder with the library of each crate, CRATE.rlib: by default what `rt ci` left in crates/*/out/rlib
 set -eu
@@ -72,7 +73,7 @@ for crate in $externs; do
 done
 cd "$root/crates/zikorape"
 "$KIT/bin/rattle" build --crate-name zikorape src/lib.rt "$@" -L "dependency=$work/libs" -L "dependency=$KIT/rlibs" \
-    --antt-project "$KIT/rattle/logic/antt-project.json" --logic-built "$KIT/logic_built" --jobs "${JOBS:-1}" --links zikorape= \
+    --antt-project "$KIT/rattle/logic/antt-project.json" --logic-built "$KIT/logic_built" --jobs "${JOBS:-$(getconf _NPROCESSORS_ONLN 2>/dev/null || echo 1)}" --links zikorape= \
     --crate-type staticlib --backend llvm --toolchain "$work/tools" -o "$work/libzikorape.a"
 
 # The heap of the kit goes into the same archive.

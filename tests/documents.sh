@@ -74,6 +74,7 @@ script python3 tests/recipes.py --check
 script python3 tests/decisions.py
 script python3 tests/doc_comments.py
 script python3 tests/laws.py
+script python3 tests/memory_arms.py
 
 # documents tell what is, not what was or will be; README may say what is there at its date
 set -- bench/README.md crates/*/README.md

@@ -84,6 +84,29 @@ class Build(Commands):
         else:
             self.skip(1, 'there is no /dev/full')
 
+    def test_the_listing_of_the_very_file(self):
+        self.ends(('build', 'main.c', '-o', 'program', '--listing', 'program.lst'), 0)
+        alone = self.program.run('list', 'main.c')
+        self.expect('the listing', (0, self.program.read('program.lst'), b''), alone)
+        listed = self.program.read('program')
+        self.builds('main.c')
+        self.expect('the file with a listing', listed, self.program.read('program'))
+        self.ends(('build', 'main.c', '-o', 'program', '--listing', '-'), 0, alone[1])
+
+    def test_a_listing_that_is_not_written(self):
+        taken = 'cc: the listing is OUT or one of the files that are read'
+        for path in ('program', './program', 'main.c', 'rest.c'):
+            self.builds('main.c')
+            self.ends(('build', 'main.c', 'rest.c', '-o', 'program', '--listing', path), 2, line=taken)
+        self.program.remove('program')
+        self.ends(('build', 'rest.c', '-o', 'program', '--listing', 'program.lst'), 1, line=f'rest.c:1: {NONE}')
+        self.holds('a listing was written', not os.path.lexists(self.program.at('program.lst')))
+        self.ends(('build', 'main.c', '-o', 'program', '--listing', 'none/listing'), 1, line='none/listing:0: 803 cannot write')
+        if os.path.exists('/dev/full'):
+            self.ends(('build', 'main.c', '-o', 'program', '--listing', '/dev/full'), 1, line='/dev/full:0: 803 cannot write')
+        else:
+            self.skip(1, 'there is no /dev/full')
+
 
 class Preprocess(Commands):
     def test_pp_prints_tokens(self):

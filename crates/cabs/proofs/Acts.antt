@@ -28,7 +28,7 @@ use Rattle.interp_transitions.specs.Calls.{IsInside, CallActs}
 use Rattle.interp_transitions.specs.declared.calling.Called.{Called}
 use Rattle.io_ports.specs.Port.{PortView, Gets}
 use Rattle.cabs.specs.declared.state.Interpreter.{Interpreter}
-use Rattle.cabs.specs.inside.Standing.{Outset, Whole, GivenUp, left_of, history_left, history_called, waiting, Stands, Stopping, StoppingBy, Stopped, Rests, is_flow, is_return, left_where, entered_where, bytes_of}
+use Rattle.cabs.specs.inside.Standing.{Outset, Whole, GivenUp, left_of, history_left, history_called, waiting, Stands, Stopping, StoppingBy, Stopped, Rests, is_flow, is_return, result_left, left_where, entered_where, bytes_of}
 use Rattle.cabs.proofs.Begun.{done_kept, done_as, done_got, done_end, done_put, given_up_here, given_up_stopping, given_up_kept}
 use Rattle.cabs.proofs.Growing.{trace_left, trace_called}
 use Rattle.cabs.proofs.Following.{left_at, called_at, frame_follows, frame_stops, call_follows, call_stops, rests}
@@ -39,25 +39,25 @@ called_as old new at callee used passed x y e h = let P : Called → Type 0 = λ
 
 -- ---- calls write no byte
 
-bytes_left : (flow ends : Bool) (h : List Entry) → bytes_of (left_where flow ends h) ≡ bytes_of h
-bytes_left false ends h = refl
-bytes_left true false h = refl
-bytes_left true true h = refl
+bytes_left : (flow ends : Bool) (result : Option ℕ) (h : List Entry) → bytes_of (left_where flow ends result h) ≡ bytes_of h
+bytes_left false ends result h = refl
+bytes_left true false result h = refl
+bytes_left true true result h = refl
 
-bytes_entered : (g : Option typed.Function) (f : ℕ) (h : List Entry) → bytes_of (entered_where g f h) ≡ bytes_of h
-bytes_entered None f h = refl
-bytes_entered (Some g) f h = refl
+bytes_entered : (g : Option typed.Function) (f : ℕ) (passed : List Passed) (h : List Entry) → bytes_of (entered_where g f passed h) ≡ bytes_of h
+bytes_entered None f passed h = refl
+bytes_entered (Some g) f passed h = refl
 
-bytes_called : (p : typed.Program) (callee : typed.Callee) (h : List Entry) → bytes_of (history_called p callee h) ≡ bytes_of h
-bytes_called p (typed.function f) h = bytes_entered (slice_get p.functions f) f h
-bytes_called p typed.get_byte h = refl
-bytes_called p typed.put_byte h = refl
-bytes_called p typed.exit h = refl
-bytes_called p (typed.missing name) h = refl
+bytes_called : (p : typed.Program) (callee : typed.Callee) (passed : List Passed) (h : List Entry) → bytes_of (history_called p callee passed h) ≡ bytes_of h
+bytes_called p (typed.function f) passed h = bytes_entered (slice_get p.functions f) f passed h
+bytes_called p typed.get_byte passed h = refl
+bytes_called p typed.put_byte passed h = refl
+bytes_called p typed.exit passed h = refl
+bytes_called p (typed.missing name) passed h = refl
 
 -- the history of a call, by the program at hand
-pub told_at : (p q : typed.Program) (callee : typed.Callee) (T U : List Entry → Type 0) → q ≡ p → ((h : List Entry) → T h → U (history_called q callee h)) → (h : List Entry) → T h → U (history_called p callee h)
-told_at p q callee T U e t = let P : typed.Program → Type 0 = λ p. (h : List Entry) → T h → U (history_called p callee h) in subst P e t
+pub told_at : (p q : typed.Program) (callee : typed.Callee) (passed : List Passed) (T U : List Entry → Type 0) → q ≡ p → ((h : List Entry) → T h → U (history_called q callee passed h)) → (h : List Entry) → T h → U (history_called p callee passed h)
+told_at p q callee passed T U e t = let P : typed.Program → Type 0 = λ p. (h : List Entry) → T h → U (history_called p callee passed h) in subst P e t
 
 module _ (T U : List Entry → Type 0) (p : typed.Program) (whole : Whole) (o : Outset) (sent : List ℕ) where
   -- ---- the pending byte is written
@@ -103,8 +103,8 @@ module _ (T U : List Entry → Type 0) (p : typed.Program) (whole : Whole) (o : 
           follows = frame_follows p (frames_of mid) (frames_of new.machine) f x mid.scene new.machine.scene s.input s.history (history_left f x s.history) whole refl follows_mid (step_of y) (subst P program_now acts);
           input_is = s.input_is;
           output_is = s.output_is;
-          bytes_are = bytes_left (is_flow x) (is_return f) s.history ∙ s.bytes_are ∙ ap (λ k. sent ++ waiting k) (sym kept);
-          done = done_as o.input s.history s.input sent _ new.kept (trace_left (is_flow x) (is_return f) s.history) (done_kept o.input s.history s.input sent old.kept new.kept kept s.done);
+          bytes_are = bytes_left (is_flow x) (is_return f) (result_left f x) s.history ∙ s.bytes_are ∙ ap (λ k. sent ++ waiting k) (sym kept);
+          done = done_as o.input s.history s.input sent _ new.kept (trace_left (is_flow x) (is_return f) (result_left f x) s.history) (done_kept o.input s.history s.input sent old.kept new.kept kept s.done);
           tells = tells s.history s.tells;
           told = told s.history s.told;
         }
@@ -119,8 +119,8 @@ module _ (T U : List Entry → Type 0) (p : typed.Program) (whole : Whole) (o : 
           stops = frame_stops p (frames_of mid) (frames_of new.machine) f x mid.scene new.machine.scene s.input s.history (history_left f x s.history) whole refl follows_mid e (subst P program_now acts);
           input_is = s.input_is;
           output_is = s.output_is;
-          bytes_are = bytes_left (is_flow x) (is_return f) s.history ∙ s.bytes_are ∙ ap (λ k. sent ++ waiting k) (sym kept);
-          done = done_as o.input s.history s.input sent _ new.kept (trace_left (is_flow x) (is_return f) s.history) (done_kept o.input s.history s.input sent old.kept new.kept kept s.done);
+          bytes_are = bytes_left (is_flow x) (is_return f) (result_left f x) s.history ∙ s.bytes_are ∙ ap (λ k. sent ++ waiting k) (sym kept);
+          done = done_as o.input s.history s.input sent _ new.kept (trace_left (is_flow x) (is_return f) (result_left f x) s.history) (done_kept o.input s.history s.input sent old.kept new.kept kept s.done);
           tells = tells s.history s.tells;
           told = told s.history s.told;
         }
@@ -136,7 +136,7 @@ module _ (T U : List Entry → Type 0) (p : typed.Program) (whole : Whole) (o : 
   -- ---- a call
 
   module _ (old new : Interpreter) (mid : Machine) (at : Pos) (callee : typed.Callee) (used : Bool) (passed : List Passed) (port : PortView) (same : mid ≡ old.machine)
-      (tells : (h : List Entry) → Tells p h old.tally → Tells p (history_called p callee h) new.tally) (told : (h : List Entry) → T h → U (history_called p callee h)) (kept : new.kept ≡ old.kept)
+      (tells : (h : List Entry) → Tells p h old.tally → Tells p (history_called p callee passed h) new.tally) (told : (h : List Entry) → T h → U (history_called p callee passed h)) (kept : new.kept ≡ old.kept)
       (s : Stands T p whole o sent old (calls at callee used passed) port) where
     program_called : program_of mid.program.now ≡ p
     program_called = ap (λ (m : Machine). program_of m.program.now) same ∙ s.program_is
@@ -150,13 +150,13 @@ module _ (T U : List Entry → Type 0) (p : typed.Program) (whole : Whole) (o : 
         let P : typed.Program → Type 0 = λ p. (o : Outside) → onto (frames_of mid) (called_at p at callee used passed mid.scene o) ≡ moves (frames_of new.machine) (step_of y) (state_in new.machine.scene (outside_behind (called_at p at callee used passed mid.scene o))) in
         record {
           input = s.input;
-          history = history_called p callee s.history;
+          history = history_called p callee passed s.history;
           program_is = ap (λ (b : Bor unit.Program). program_of b.now) program ∙ program_called;
-          follows = call_follows p (frames_of mid) (frames_of new.machine) at callee used passed mid.scene new.machine.scene s.input s.history (history_called p callee s.history) whole inside refl follows_called (step_of y) (subst P program_called acts);
+          follows = call_follows p (frames_of mid) (frames_of new.machine) at callee used passed mid.scene new.machine.scene s.input s.history (history_called p callee passed s.history) whole inside refl follows_called (step_of y) (subst P program_called acts);
           input_is = s.input_is;
           output_is = s.output_is;
-          bytes_are = bytes_called p callee s.history ∙ s.bytes_are ∙ ap (λ k. sent ++ waiting k) (sym kept);
-          done = done_as o.input s.history s.input sent _ new.kept (trace_called p callee s.history) (done_kept o.input s.history s.input sent old.kept new.kept kept s.done);
+          bytes_are = bytes_called p callee passed s.history ∙ s.bytes_are ∙ ap (λ k. sent ++ waiting k) (sym kept);
+          done = done_as o.input s.history s.input sent _ new.kept (trace_called p callee passed s.history) (done_kept o.input s.history s.input sent old.kept new.kept kept s.done);
           tells = tells s.history s.tells;
           told = told s.history s.told;
         }
@@ -167,12 +167,12 @@ module _ (T U : List Entry → Type 0) (p : typed.Program) (whole : Whole) (o : 
         let P : typed.Program → Type 0 = λ p. (o : Outside) → onto (frames_of mid) (called_at p at callee used passed mid.scene o) ≡ halts e (state_in new.machine.scene (outside_behind (called_at p at callee used passed mid.scene o))) in
         record {
           input = s.input;
-          history = history_called p callee s.history;
-          stops = call_stops p (frames_of mid) (frames_of new.machine) at callee used passed mid.scene new.machine.scene s.input s.history (history_called p callee s.history) whole inside refl follows_called e (subst P program_called acts);
+          history = history_called p callee passed s.history;
+          stops = call_stops p (frames_of mid) (frames_of new.machine) at callee used passed mid.scene new.machine.scene s.input s.history (history_called p callee passed s.history) whole inside refl follows_called e (subst P program_called acts);
           input_is = s.input_is;
           output_is = s.output_is;
-          bytes_are = bytes_called p callee s.history ∙ s.bytes_are ∙ ap (λ k. sent ++ waiting k) (sym kept);
-          done = done_as o.input s.history s.input sent _ new.kept (trace_called p callee s.history) (done_kept o.input s.history s.input sent old.kept new.kept kept s.done);
+          bytes_are = bytes_called p callee passed s.history ∙ s.bytes_are ∙ ap (λ k. sent ++ waiting k) (sym kept);
+          done = done_as o.input s.history s.input sent _ new.kept (trace_called p callee passed s.history) (done_kept o.input s.history s.input sent old.kept new.kept kept s.done);
           tells = tells s.history s.tells;
           told = told s.history s.told;
         }
@@ -184,12 +184,12 @@ module _ (T U : List Entry → Type 0) (p : typed.Program) (whole : Whole) (o : 
 
   -- a call that does nothing yet
   pub still_stands : (old new : Interpreter) (at : Pos) (callee byte : typed.Callee) (used : Bool) (passed : List Passed) (port : PortView) → callee ≡ byte → new.machine ≡ old.machine →
-      ((h : List Entry) → Tells p h old.tally → Tells p (history_called p callee h) new.tally) → ((h : List Entry) → T h → U (history_called p callee h)) → ((h : List Entry) → history_called p byte h ≡ h) → new.kept ≡ old.kept →
+      ((h : List Entry) → Tells p h old.tally → Tells p (history_called p callee passed h) new.tally) → ((h : List Entry) → T h → U (history_called p callee passed h)) → ((h : List Entry) → history_called p byte passed h ≡ h) → new.kept ≡ old.kept →
       Stands T p whole o sent old (calls at callee used passed) port → Stands U p whole o sent new (calls at byte used passed) port
   still_stands old new at callee byte used passed port e m tells told same kept s =
-      let P : typed.Callee → Type 0 = λ c. Tells p (history_called p c s.history) new.tally in
+      let P : typed.Callee → Type 0 = λ c. Tells p (history_called p c passed s.history) new.tally in
       let Q : List Entry → Type 0 = λ h. Tells p h new.tally in
-      let R : typed.Callee → Type 0 = λ c. U (history_called p c s.history) in
+      let R : typed.Callee → Type 0 = λ c. U (history_called p c passed s.history) in
       record {
         input = s.input;
         history = s.history;
@@ -204,9 +204,9 @@ module _ (T U : List Entry → Type 0) (p : typed.Program) (whole : Whole) (o : 
         told = subst U (same s.history) (subst R e (told s.history s.told));
       }
 
-  pub tells_at : (q : typed.Program) (callee : typed.Callee) (a b : Tally) → q ≡ p → ((h : List Entry) → Tells q h a → Tells q (history_called q callee h) b) →
-      (h : List Entry) → Tells p h a → Tells p (history_called p callee h) b
-  tells_at q callee a b e t = let P : typed.Program → Type 0 = λ p. (h : List Entry) → Tells p h a → Tells p (history_called p callee h) b in subst P e t
+  pub tells_at : (q : typed.Program) (callee : typed.Callee) (passed : List Passed) (a b : Tally) → q ≡ p → ((h : List Entry) → Tells q h a → Tells q (history_called q callee passed h) b) →
+      (h : List Entry) → Tells p h a → Tells p (history_called p callee passed h) b
+  tells_at q callee passed a b e t = let P : typed.Program → Type 0 = λ p. (h : List Entry) → Tells p h a → Tells p (history_called p callee passed h) b in subst P e t
 
   -- ---- a byte
 

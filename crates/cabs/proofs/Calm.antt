@@ -224,7 +224,7 @@ calm_back may p (to_caller at used) v s = calm_once may a_value (call_value used
 calm_back may p to_end v s = refl
 
 calm_by_flow : (p : Program) (f : Frame) (flow : Flow) (s : State) → Calm true (record (outside_of s) { history = history_left f (a_flow flow) s.history }) (left_by_flow p f flow s)
-calm_by_flow p (on.returns back is_main count base arrays) flow s = calm_back true p back (value_left is_main flow) (back_at count base arrays s)
+calm_by_flow p (on.returns back is_main count base arrays) flow s = calm_back true p back (value_left is_main flow) (back_at count base arrays (value_left is_main flow) s)
 calm_by_flow p (on.rest objects more) flow s = calm_after objects more flow s
 calm_by_flow p on.in_switch flow s = calm_once true a_flow (after_switch flow s) (outside_of s) (same_switch flow s)
 calm_by_flow p (on.turn objects test a step) flow s = calm_turned_on objects test a step flow s
@@ -245,12 +245,12 @@ left_calm p f initialised s = calm_initialised p f s
 -- ---- calls
 
 pub entered_calm : (p : Program) (back : Back) (g : Option typed.Function) (f : ℕ) (passed : List Passed) (s : State) →
-    Calm false (record (outside_of s) { history = entered_where g f s.history }) (entered_call p back g f passed s)
+    Calm false (record (outside_of s) { history = entered_where g f passed s.history }) (entered_call p back g f passed s)
 entered_calm p back None f passed s = calm_back false p back None s
 entered_calm p back (Some g) f passed s = refl
 
 pub called_calm : (p : Program) (at : Pos) (callee : Callee) (used : Bool) (passed : List Passed) (s : State) → IsInside callee →
-    Calm false (record (outside_of s) { history = history_called p callee s.history }) (called p at callee used passed s)
+    Calm false (record (outside_of s) { history = history_called p callee passed s.history }) (called p at callee used passed s)
 called_calm p at (typed.function f) used passed s h = entered_calm p (to_caller at used) (slice_get p.functions f) f passed s
 called_calm p at typed.get_byte used passed s h = absurd h
 called_calm p at typed.put_byte used passed s h = absurd h

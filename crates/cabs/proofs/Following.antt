@@ -89,7 +89,7 @@ abbrev pub called_at : Program → Pos → Callee → Bool → List Passed → S
 called_at p at callee used passed scene o = called p at callee used passed (state_in scene o)
 
 module _ (p : Program) (fs gs : List Frame) (at : Pos) (callee : Callee) (used : Bool) (passed : List Passed) (old new : Scene) (input : List ℕ) (h h2 : List Entry) (whole : Whole)
-    (inside : IsInside callee) (behind : h2 ≡ history_called p callee h)
+    (inside : IsInside callee) (behind : h2 ≡ history_called p callee passed h)
     (follows : (n : ℕ) → left_of p fs old (calls at callee used passed) input h n ≡ whole n) where
   call_out : (n : ℕ) → outside_behind (called_at p at callee used passed old (outside n input h)) ≡ outside n input h2
   call_out n = calm_outside false _ _ (called_calm p at callee used passed (state_in old (outside n input h)) inside) ∙ ap (outside n input) (sym behind)

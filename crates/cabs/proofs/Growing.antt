@@ -19,27 +19,27 @@ use Rattle.interp_store.proofs.Resumes.{node_enters, frame_leaves, call_acts, re
 use Rattle.interp_store.proofs.Adequate.{real}
 use Rattle.interp_transitions.specs.Acts.{outside_of, outside_behind}
 use Rattle.interp_transitions.specs.Calls.{IsInside}
-use Rattle.cabs.specs.inside.Standing.{left_of, left_where, entered_where, history_left, history_called, is_flow, is_return, distance, Adds}
+use Rattle.cabs.specs.inside.Standing.{left_of, left_where, entered_where, history_left, history_called, is_flow, is_return, result_left, distance, Adds}
 use Rattle.cabs.proofs.Calm.{Calm, calm_outside, calm_near, steady_near, left_calm, called_calm}
 use Rattle.cabs.proofs.Following.{resume_stops, outside}
 
 -- ---- calls read and write nothing
 
-pub trace_left : (flow ends : Bool) (h : List Entry) → trace_of (left_where flow ends h) ≡ trace_of h
-trace_left false ends h = refl
-trace_left true false h = refl
-trace_left true true h = refl
+pub trace_left : (flow ends : Bool) (result : Option ℕ) (h : List Entry) → trace_of (left_where flow ends result h) ≡ trace_of h
+trace_left false ends result h = refl
+trace_left true false result h = refl
+trace_left true true result h = refl
 
-trace_entered : (g : Option typed.Function) (f : ℕ) (h : List Entry) → trace_of (entered_where g f h) ≡ trace_of h
-trace_entered None f h = refl
-trace_entered (Some g) f h = refl
+trace_entered : (g : Option typed.Function) (f : ℕ) (passed : List Passed) (h : List Entry) → trace_of (entered_where g f passed h) ≡ trace_of h
+trace_entered None f passed h = refl
+trace_entered (Some g) f passed h = refl
 
-pub trace_called : (p : Program) (callee : Callee) (h : List Entry) → trace_of (history_called p callee h) ≡ trace_of h
-trace_called p (typed.function f) h = trace_entered (slice_get p.functions f) f h
-trace_called p typed.get_byte h = refl
-trace_called p typed.put_byte h = refl
-trace_called p typed.exit h = refl
-trace_called p (typed.missing name) h = refl
+pub trace_called : (p : Program) (callee : Callee) (passed : List Passed) (h : List Entry) → trace_of (history_called p callee passed h) ≡ trace_of h
+trace_called p (typed.function f) passed h = trace_entered (slice_get p.functions f) f passed h
+trace_called p typed.get_byte passed h = refl
+trace_called p typed.put_byte passed h = refl
+trace_called p typed.exit passed h = refl
+trace_called p (typed.missing name) passed h = refl
 
 -- ---- the innermost frame
 
@@ -97,7 +97,7 @@ module _ (p : Program) (far : ℕ) (rec : Grown p far) where
       let longer : length fs ≡ length gs + 1 = ap length l.1.1 ∙ length-append gs (f ∷ []) in
       let is : resume p (call_in p) fs (Goes x s) ≡ resume p (call_in p) gs (resumed p (call_in p) m) =
       ap (λ fs. resume p (call_in p) fs (Goes x s)) l.1.1 ∙ resume_more p (call_in p) gs (f ∷ []) (Goes x s) ∙ ap (resume p (call_in p) gs) (frame_leaves p (call_in p) (real p) f x s) in
-      adds_as s.history _ _ is (step_grows p gs s.history [] far rec m (ap (λ (o : Outside). o.clock) out ∙ none) (ap (λ (o : Outside). trace_of o.history) out ∙ trace_left (is_flow x) (is_return f) s.history)
+      adds_as s.history _ _ is (step_grows p gs s.history [] far rec m (ap (λ (o : Outside). o.clock) out ∙ none) (ap (λ (o : Outside). trace_of o.history) out ∙ trace_left (is_flow x) (is_return f) (result_left f x) s.history)
       (λ hs y t eq. let near : distance hs y ≤ 2 * length gs + 2 = calm_near _ m gs hs y t calm eq in omega (arith, near, longer, le)))
 
   inside_grows : (fs : List Frame) (at : Pos) (callee : Callee) (used : Bool) (passed : List Passed) (s : State) → IsInside callee → s.clock ≡ 0 → 2 * length fs + 2 ≤ far + 1 →
@@ -107,7 +107,7 @@ module _ (p : Program) (far : ℕ) (rec : Grown p far) where
       let calm = called_calm p at callee used passed s inside in
       let out = calm_outside false _ m calm in
       adds_as s.history _ _ (ap (resume p (call_in p) fs) (call_acts p (call_in p) (real p) at callee used passed s))
-      (step_grows p fs s.history [] far rec m (ap (λ (o : Outside). o.clock) out ∙ none) (ap (λ (o : Outside). trace_of o.history) out ∙ trace_called p callee s.history)
+      (step_grows p fs s.history [] far rec m (ap (λ (o : Outside). o.clock) out ∙ none) (ap (λ (o : Outside). trace_of o.history) out ∙ trace_called p callee passed s.history)
       (λ hs y t eq. let near : distance hs y ≤ 2 * length fs + 1 = steady_near _ m fs hs y t calm eq in omega (arith, near, le)))
 
   -- a byte is read or written

@@ -303,8 +303,8 @@ bytes_are_output p input n = ap (λ (s : State). bytes_of s.history) (given_last
 trace_more : (newer h : List Entry) → trace_of (newer ++ h) ≡ trace_of newer ++ trace_of h
 trace_more [] h = refl
 trace_more (Did e ∷ newer) h = ap (λ l. e ∷ l) (trace_more newer h)
-trace_more (Entered f ∷ newer) h = trace_more newer h
-trace_more (Left ∷ newer) h = trace_more newer h
+trace_more (Entered f arguments ∷ newer) h = trace_more newer h
+trace_more (Left result ∷ newer) h = trace_more newer h
 
 one_more : (k : ℕ) → suc k ≡ 1 + k
 one_more k = omega arith
@@ -390,7 +390,7 @@ main_at p scene o = called_main p p.main scene o
 module _ (p : typed.Program) (input : List ℕ) (gs : List on.Frame) (old new : Scene)
     (fresh : (n : ℕ) → state_in old (outside n input []) ≡ start n p input) where
   abbrev pub first_history : List Entry
-  first_history = entered_where (slice_get p.functions p.main) p.main []
+  first_history = entered_where (slice_get p.functions p.main) p.main [] []
 
   main_out : (n : ℕ) → outside_behind (main_at p old (outside n input [])) ≡ outside n input first_history
   main_out n = calm_outside false _ _ (entered_calm p to_end (slice_get p.functions p.main) p.main [] (state_in old (outside n input [])))
@@ -409,11 +409,11 @@ module _ (p : typed.Program) (input : List ℕ) (gs : List on.Frame) (old new : 
   main_stops : (e : Ending) → ((o : Outside) → onto [] (main_at p old o) ≡ halts e (state_in new (outside_behind (main_at p old o)))) → (n : ℕ) → StopsAs (run_of p input (n + 0)) e input first_history
   main_stops e step n = stops_so p [] gs new (main_at p old (outside n input [])) e (run_of p input (n + 0)) n input first_history (step (outside n input [])) (main_out n) (main_is n)
 
-trace_begun : (g : Option typed.Function) (f : ℕ) → trace_of (entered_where g f []) ≡ []
+trace_begun : (g : Option typed.Function) (f : ℕ) → trace_of (entered_where g f [] []) ≡ []
 trace_begun None f = refl
 trace_begun (Some g) f = refl
 
-bytes_entered : (g : Option typed.Function) (f : ℕ) → bytes_of (entered_where g f []) ≡ []
+bytes_entered : (g : Option typed.Function) (f : ℕ) → bytes_of (entered_where g f [] []) ≡ []
 bytes_entered None f = refl
 bytes_entered (Some g) f = refl
 
@@ -433,7 +433,7 @@ given_up_first p input ticks port known = (
 )
 
 module _ (T : List Entry → Type 0) (p : typed.Program) (input : List ℕ) (old new : Interpreter) (mid : Machine) (f : ℕ) (port : PortView) (fresh : Fresh old) (same : mid ≡ old.machine)
-    (prog : program_of mid.program.now ≡ p) (is_main : f ≡ p.main) (given : port.input ≡ Some input) (tells : (h : List Entry) → Tells p h old.tally → Tells p (history_called p (typed.function p.main) h) new.tally) (told : T (history_called p (typed.function p.main) [])) (kept : new.kept ≡ old.kept) where
+    (prog : program_of mid.program.now ≡ p) (is_main : f ≡ p.main) (given : port.input ≡ Some input) (tells : (h : List Entry) → Tells p h old.tally → Tells p (history_called p (typed.function p.main) [] h) new.tally) (told : T (history_called p (typed.function p.main) [] [])) (kept : new.kept ≡ old.kept) where
   none : frames_of mid ≡ []
   none = ap frames_of same ∙ fresh.frames_are
 

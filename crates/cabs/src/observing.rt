@@ -1,6 +1,6 @@
 //! The observer of a run.
 
-ghost use Rattle.std.specs.Prelude.{◌≡◌, ◌∷◌, List, true};
+ghost use Rattle.std.specs.Prelude.{◌≡◌, ◌∷◌, List, Option, ℕ, true};
 ghost use Rattle.csem.specs.History.{Did, Entered, Entry, Left};
 ghost use Rattle.csem.specs.Store.{Store};
 ghost use Rattle.csem_events.specs.Events.{Put};
@@ -71,13 +71,13 @@ pub trait Observer {
 
     /// A call of the function of this number begins.
     fn calls(&mut self, function: usize)
-        ensures told { (h : List Entry) → told self.old h → told self.new (Entered function ∷ h) }
+        ensures told { (arguments : List (Option ℕ)) (h : List Entry) → told self.old h → told self.new (Entered function arguments ∷ h) }
         ensures shown { (l : List Store) → shown self.old l → shown self.new l }
         ensures always { always self.old → always self.new };
 
     /// The innermost call ends.
     fn ends(&mut self)
-        ensures told { (h : List Entry) → told self.old h → told self.new (Left ∷ h) }
+        ensures told { (value : Option ℕ) (h : List Entry) → told self.old h → told self.new (Left value ∷ h) }
         ensures shown { (l : List Store) → shown self.old l → shown self.new l }
         ensures always { always self.old → always self.new };
 

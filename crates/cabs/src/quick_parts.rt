@@ -59,7 +59,7 @@ pub fn at_once<'p>(
     let program = interpreter.machine.program;
     let mut clock = Clock {
         spent: *spent,
-        why: Why::Memory,
+        why: Why::Ticks,
     };
     let found = done(
         alloc,

@@ -1,11 +1,12 @@
 //! The interpreter's state, with what it has reported so far.
 
-ghost use Rattle.std.specs.Prelude.{◌≡◌, ◌∷◌, [], Some, None, Ok, List, ℕ, IfErr, IfOk, MatchResult, OnOk};
+ghost use Rattle.std.specs.Prelude.{◌≡◌, ◌∷◌, [], Some, None, Ok, List, Option, ℕ, IfErr, IfOk, MatchResult, OnOk};
 ghost use Rattle.std.specs.Io.KnownBytes.{Appends, Keeps};
 ghost use Rattle.typing_spec.specs.Program as typed;
 ghost use Rattle.typed_ast.specs.View.{callee_of, program_of};
 ghost use Rattle.csem.specs.History.{Entered, Entry, weight_in};
 ghost use Rattle.csem.specs.Store.{Store, first_store};
+ghost use Rattle.csem.specs.Expressions.{Passed};
 ghost use Rattle.interp_store.specs.declared.stop.Stop.TheVariants.{Memory};
 ghost use Rattle.interp_store.specs.layer.Agrees.{Outside, frames_of, state_in};
 ghost use Rattle.interp_store.specs.layer.Views.{flow_frame, found_of, frame_of};
@@ -111,14 +112,15 @@ impl<'p> Interpreter<'p> {
     ///
     /// Errors: memory ran out.
     pub fn count_call<O: Observer>(&mut self, observer: &mut O, callee: Callee) -> Result<(), Stop>
-        ensures tells { (h : List Entry) → let p = program_of self.old.machine.program.now in
-            Tells p h self.old.tally → OnOk result (Tells p (history_called p (callee_of callee) h) self.new.tally) }
-        ensures told { (h : List Entry) → let p = program_of self.old.machine.program.now in
-            O.told observer.old h → OnOk result (O.told observer.new (history_called p (callee_of callee) h)) }
+        ensures tells { (passed : List Passed) (h : List Entry) → let p = program_of self.old.machine.program.now in
+            Tells p h self.old.tally → OnOk result (Tells p (history_called p (callee_of callee) passed h) self.new.tally) }
+        ensures told { (passed : List Passed) (h : List Entry) → let p = program_of self.old.machine.program.now in
+            O.told observer.old h → OnOk result (O.told observer.new (history_called p (callee_of callee) passed h)) }
         ensures shown { (l : List Store) → O.shown observer.old l → O.shown observer.new l }
         ensures always { O.always observer.old → O.always observer.new }
         ensures machine { self.new.machine ≡ self.old.machine }
         ensures kept { self.new.kept ≡ self.old.kept }
+        ensures err { IfErr result (λ e. e ≡ Memory) }
     {
         match callee {
             Callee::Function(f) => self.count_function(observer, f),
@@ -133,14 +135,15 @@ impl<'p> Interpreter<'p> {
     ///
     /// Errors: memory ran out.
     fn count_function<O: Observer>(&mut self, observer: &mut O, f: usize) -> Result<(), Stop>
-        ensures tells { (h : List Entry) → let p = program_of self.old.machine.program.now in
-            Tells p h self.old.tally → OnOk result (Tells p (history_called p (typed.function f) h) self.new.tally) }
-        ensures told { (h : List Entry) → let p = program_of self.old.machine.program.now in
-            O.told observer.old h → OnOk result (O.told observer.new (history_called p (typed.function f) h)) }
+        ensures tells { (passed : List Passed) (h : List Entry) → let p = program_of self.old.machine.program.now in
+            Tells p h self.old.tally → OnOk result (Tells p (history_called p (typed.function f) passed h) self.new.tally) }
+        ensures told { (passed : List Passed) (h : List Entry) → let p = program_of self.old.machine.program.now in
+            O.told observer.old h → OnOk result (O.told observer.new (history_called p (typed.function f) passed h)) }
         ensures shown { (l : List Store) → O.shown observer.old l → O.shown observer.new l }
         ensures always { O.always observer.old → O.always observer.new }
         ensures machine { self.new.machine ≡ self.old.machine }
         ensures kept { self.new.kept ≡ self.old.kept }
+        ensures err { IfErr result (λ e. e ≡ Memory) }
     {
         let program = self.machine.program;
         match program.functions.get(f) {
@@ -158,12 +161,14 @@ impl<'p> Interpreter<'p> {
         f: usize,
         weight: u64,
     ) -> Result<(), Stop>
-        ensures tells { (p : typed.Program) (h : List Entry) → weight_in p f ≡ weight → Tells p h self.old.tally → OnOk result (Tells p (Entered f ∷ h) self.new.tally) }
-        ensures told { (h : List Entry) → O.told observer.old h → OnOk result (O.told observer.new (Entered f ∷ h)) }
+        ensures tells { (p : typed.Program) (h : List Entry) (arguments : List (Option ℕ)) → weight_in p f ≡ weight → Tells p h self.old.tally →
+            OnOk result (Tells p (Entered f arguments ∷ h) self.new.tally) }
+        ensures told { (arguments : List (Option ℕ)) (h : List Entry) → O.told observer.old h → OnOk result (O.told observer.new (Entered f arguments ∷ h)) }
         ensures shown { (l : List Store) → O.shown observer.old l → O.shown observer.new l }
         ensures always { O.always observer.old → O.always observer.new }
         ensures machine { self.new.machine ≡ self.old.machine }
         ensures kept { self.new.kept ≡ self.old.kept }
+        ensures err { IfErr result (λ e. e ≡ Memory) }
     {
         match self.tally.begin(weight) {
             Ok(()) => {

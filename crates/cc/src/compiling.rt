@@ -114,7 +114,7 @@ pub fn compile_checked(
 }
 
 /// An entry for each function that has a frame.
-fn put_entries(
+pub fn put_entries(
     alloc: Global,
     list: &mut Vec<(String, u32, u32)>,
     names: &Names,

@@ -3,6 +3,7 @@
 
 mod compiling;
 mod front;
+mod listing;
 mod mapping;
 mod performing;
 mod reading;
@@ -18,6 +19,7 @@ pub use cc_backend::{
 };
 pub use compiling::{Built, compile, compile_checked, compile_with};
 pub use elf_out::StackSize;
+pub use listing::{Listed, compile_listed, write_listing};
 pub use mapping::{Mapped, checked_program, map_of};
 pub use performing::{Cmd, interpret_observed, perform};
 pub use reading::read_source;

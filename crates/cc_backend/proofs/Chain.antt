@@ -8,11 +8,13 @@ use Rattle.memory_map.specs.MemoryMap.{stack_end}
 use Rattle.sim.specs.Runs.{World}
 use Rattle.typing_spec.specs.Program as typed
 use Rattle.csem.specs.History.{Entry, weight_in, sum_of, greatest_sum, trace_of, active}
+use Rattle.csem.specs.Machine as machine
 use Rattle.csem.specs.Meaning.{cstep, last_of}
 use Rattle.tac_code.specs.Code as tac
 use Rattle.tac_code.specs.Run as tac_run
 use Rattle.csem.specs.Laws.{Grows}
 use Rattle.tac_code.specs.Laws.{ComesOf, HasCalls}
+use Rattle.tac_code.specs.Lowered.{GoesOn}
 use Rattle.tac_code.proofs.Growing.{run_grows, calls_are_active}
 use Rattle.frames_code.specs.Code as flat
 use Rattle.frames_code.specs.Run as flat_run
@@ -20,9 +22,13 @@ use Rattle.frames_code.specs.Sound.{IsSoundProgram}
 use Rattle.frames.specs.Flattened.{HasItsCalls, before, behind}
 use Rattle.select_correct.specs.Runs.{StandsWith, slack}
 use Rattle.select_correct.proofs.Table.{spent_is_more}
+use Rattle.elf_out.specs.Layout.{Parts}
+use Rattle.elf_out.specs.Program.{program_image}
+use Rattle.tac_code.specs.Sound.{AreBytes}
+use Rattle.cc_backend.specs.FlatImages.{IsImageOf}
 use Rattle.cc_backend.specs.Runs.{bytes_or_none}
-use Rattle.cc_backend.specs.Simulation.{AreWithin, both, step_for_step}
-use Rattle.cc_backend.specs.Chain.{StandsBelow, of_program, of_tac, of_flat, into_file, TacSimulatesProgram, FlatSimulatesTac, ImageSimulatesFlat, FlatSimulatesProgram, FileSimulatesProgram}
+use Rattle.cc_backend.specs.Simulation.{Doing, System, AreWithin, both, step_for_step}
+use Rattle.cc_backend.specs.Chain.{StandsBelow, of_program, of_tac, of_flat, of_image, into_file, TacSimulatesProgram, FlatSimulatesTac, ImageSimulatesFlat, FlatSimulatesProgram, FileSimulatesProgram}
 use Rattle.cc_backend.proofs.Simulation.{compose}
 use Rattle.cc_backend.proofs.FlatImages.{image_goes_on, image_ends}
 use Rattle.cc_backend.proofs.Known.{AreKnown, Known, run_known}
@@ -61,18 +67,28 @@ module _ (p : typed.Program) (q : tac.Program) (input : List ℕ) where
       → (calls : List ℕ) → (of_tac q input).Calls m calls → (of_program p input).Calls n calls
   its_calls n m grows calls c = (c.1.history, grows c.1 (leads c.0 m c.1 c.2 c.3), sym (calls_of q input c.0 c.1 c.3) ∙ c.4)
 
+  -- the code goes on after m steps, with the history, the input and the calls of the abstract machine after n ticks
+  comes_to : (n m : ℕ) (s : machine.State) (x : Doing) → GoesOn q input m s → s.history ≡ (last_of (cstep n p input)).history
+      → trace_of s.history ≡ x.trace → s.input ≡ x.input → active s.history ≡ x.calls
+      → (of_tac q input).Goes m x × ((calls : List ℕ) → (of_tac q input).Calls m calls → (of_program p input).Calls n calls)
+  comes_to n m s x b last trace left active_calls =
+      let t = b.0 in
+      let calls : tac_run.open_calls t ≡ x.calls = calls_of q input m t b.1 ∙ (ap active b.2 ∙ active_calls) in
+      let done : t.history ≡ (last_of (cstep n p input)).history = b.2 ∙ last in
+      let grows : (u : tac_run.State) → ComesOf (tac_run.running u) (before q input m) → Grows u.history (last_of (cstep n p input)).history = λ u h.
+      subst (Grows u.history) done (subst (ComesOf (tac_run.running u)) b.1 h) in
+      ((t, b.1, ap trace_of b.2 ∙ trace, b.3 ∙ left, calls), its_calls n m grows)
+
 pub tac_simulates_program : TacSimulatesProgram
 tac_simulates_program weight limit p q input lowered bytes = record {
   goes_on = λ n x goes fit.
-      let s = goes.0 in
-      let b = (lowered.behaves input bytes).goes_on n s goes.1 in
-      let m = b.0 in
-      let t = b.2.0 in
-      let calls : tac_run.open_calls t ≡ x.calls = calls_of q input m t b.2.1 ∙ (ap active b.2.2 ∙ goes.4) in
-      let done : t.history ≡ (last_of (cstep n p input)).history = b.2.2 ∙ sym (ap (λ r. (last_of r).history) goes.1) in
-      let grows : (u : tac_run.State) → ComesOf (tac_run.running u) (before q input m) → Grows u.history (last_of (cstep n p input)).history = λ u h.
-      subst (Grows u.history) done (subst (ComesOf (tac_run.running u)) b.2.1 h) in
-      (m, omega (arith, b.1), omega arith, omega (arith, b.3), (t, b.2.1, ap trace_of b.2.2 ∙ goes.2, b.2.3 ∙ goes.3, calls), its_calls p q input n m grows);
+      let b = (lowered.behaves input bytes).goes_on n goes.0 goes.1 in
+      let c = comes_to p q input n b.0 goes.0 x b.2 (sym (ap (λ r. (last_of r).history) goes.1)) goes.2 goes.3 goes.4 in
+      (b.0, omega (arith, b.1), omega arith, omega (arith, b.3), c.0, c.1);
+  halts = λ n x halts fit.
+      let b = (lowered.behaves input bytes).stops n halts.0 halts.1 halts.2 halts.3 in
+      let c = comes_to p q input n b.0 halts.2 x b.1 (sym (ap (λ r. (last_of r).history) halts.3)) halts.4 halts.5 halts.6 in
+      (b.0, omega (arith, b.2), c.0, c.1);
   ends = λ n x ends fit.
       let s = ends.0 in
       let b = (lowered.behaves input bytes).ends n x.status s ends.1 in
@@ -97,6 +113,10 @@ flat_simulates_tac weight limit q f input flattened bytes = record {
       let c = (flattened.in_step input bytes).goes_on n goes.0 goes.1 in
       let at = c.2.2 in
       (c.0, omega (arith, c.1), omega arith, omega (arith, c.3), (c.2.0, c.2.1, at.0 ∙ goes.2, at.1 ∙ goes.3, at.2 ∙ goes.4), same_calls q f input n c.0 c.4);
+  halts = λ n x goes fit.
+      let c = (flattened.in_step input bytes).goes_on n goes.0 goes.1 in
+      let at = c.2.2 in
+      (c.0, omega (arith, c.3), (c.2.0, c.2.1, at.0 ∙ goes.2, at.1 ∙ goes.3, at.2 ∙ goes.4), same_calls q f input n c.0 c.4);
   ends = λ n x ends fit.
       let c = (flattened.in_step input bytes).ends n x.status x.input ends.0 ends.1 in
       (c.0, omega (arith, c.2), c.1 ∙ ap (flat_run.ended x.status x.input) ends.2, same_calls q f input n c.0 c.3);
@@ -136,15 +156,29 @@ some_steps : (n a k : ℕ) → n < a * k → 1 ≤ k
 some_steps n a zero lt = omega (arith, lt)
 some_steps n a (suc k) lt = omega arith
 
-pub image_simulates_flat : ImageSimulatesFlat
-image_simulates_flat weight f parts input image bytes each = record {
-  goes_on = λ n x goes fit.
+module _ (weight : ℕ → ℕ) (f : flat.Program) (parts : Parts) (input : List ℕ) (image : IsImageOf f parts) (bytes : AreBytes input)
+    (each : (g : ℕ) → g < length f.functions → flat.frame_bytes (flat_run.function_at f g) ≤ weight g) where
+  abbrev system : System
+  system = of_image (frames f) (program_image parts) input
+
+  goes_from : (n : ℕ) (x : Doing) → (of_flat f input).Goes n x → AreWithin weight parts.stack (of_flat f input) n
+      → (k : ℕ) × (n < slack f * k) × (k ≤ (of_flat f input).cost n + 4) × system.Goes k x
+  goes_from n x goes fit =
       let s = goes.0 in
       let w = image_goes_on f parts input image bytes n s goes.1
       (λ j le. frames_fit weight f image.sound each parts.stack input j (behind f input j) refl (λ u e. fit (flat_run.active u) (j, u, le, e, refl))) in
       let table = spent_is_more f image.sound in
       let below = stands_below f image.assembled.env s w.1 x.calls (known_at f image.sound input n s goes.1) w.5 goes.4 in
-      (w.0, omega (arith, w.2), some_steps n (slack f) w.0 w.2, omega (arith, w.3, table.0, table.1 n (flat_run.start f input)), (w.1, w.4, w.5.trace ∙ goes.2, w.5.input ∙ goes.3, below), λ calls none. absurd none);
+      (w.0, w.2, omega (arith, w.3, table.0, table.1 n (flat_run.start f input)), (w.1, w.4, w.5.trace ∙ goes.2, w.5.input ∙ goes.3, below))
+
+pub image_simulates_flat : ImageSimulatesFlat
+image_simulates_flat weight f parts input image bytes each = record {
+  goes_on = λ n x goes fit.
+      let w = goes_from weight f parts input image bytes each n x goes fit in
+      (w.0, omega (arith, w.1), some_steps n (slack f) w.0 w.1, w.2, w.3, λ calls none. absurd none);
+  halts = λ n x goes fit.
+      let w = goes_from weight f parts input image bytes each n x goes fit in
+      (w.0, w.2, w.3, λ calls none. absurd none);
   ends = λ n x ends fit.
       let w = image_ends f parts input image bytes n x.status x.input x.trace ends
       (λ j le. frames_fit weight f image.sound each parts.stack input j (behind f input j) refl (λ u e. fit (flat_run.active u) (j, u, le, e, refl))) in

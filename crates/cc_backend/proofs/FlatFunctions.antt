@@ -31,7 +31,7 @@ use Rattle.cc_backend.proofs.Generates.{code_of}
 -- ---- one function: each function that it may name is there, though no other has its code yet
 
 abbrev unwritten : typed.Function → tac.Function
-unwritten f = record { code = []; parameters = map kind_of f.type.parameters; objects = []; temporaries = 0; kept = 0 }
+unwritten f = record { code = []; parameters = map kind_of f.type.parameters; objects = []; result = f.type.result; temporaries = 0; kept = 0 }
 
 abbrev unwritten_program : typed.Program → tac.Program
 unwritten_program p = record { functions = map unwritten p.functions; literals = p.literals; statics = p.statics; main = p.main }

@@ -169,11 +169,17 @@ module _ (p : typed.Program) (f : flat.Program) (ready : IsReady p) (made : IsFl
         let x : Doing = record { trace = trace_of s.history; input = s.input; calls = active s.history } in
         let w = (file_simulates_program p f parts input (way_of p f made) image bytes).goes_on n x (s, over, refl, refl, refl) fit in
         (w.0, w.4.0, omega (arith, w.3), (past n (both into_flat (into_file f)).slack w.0 w.1 w.2, (w.4.1, (w.4.2, w.4.3), w.4.4)));
+    stops = λ input bytes n act at s over small.
+        let fit = calls_are_within p input parts.stack n (subst (λ r. greatest_sum (weight_in p) (last_of r).history ≤ parts.stack) (sym over) small) in
+        let x : Doing = record { trace = trace_of s.history; input = s.input; calls = active s.history } in
+        let w = (file_simulates_program p f parts input (way_of p f made) image bytes).halts n x (act, at, s, over, refl, refl, refl) fit in
+        (w.0, w.2.0, omega (arith, w.1), (w.2.1, (w.2.2, w.2.3), w.2.4));
   }
 
   abbrev pub is_file : (stack : ℕ) (parts : Parts) (file frames : List ℕ) → parts.stack ≡ stack → IsImageOf f parts → IsFewest (program_items f) text_start parts.text → length parts.text ≤ longest (program_items f)
       → frames ≡ map frame_bytes f.functions → file ≡ file_of parts → IsFileOf stack p file frames
   is_file stack parts file frames at image fewest short sizes written = record {
+    well_typed = ready.checked.well_typed;
     code = f;
     code_is = made;
     frames_are = sizes;

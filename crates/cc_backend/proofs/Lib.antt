@@ -14,4 +14,5 @@ pub mod Rows
 pub mod ShortPrograms
 pub mod FunctionSizes
 pub mod Conventions
+pub mod Words
 pub mod Bounds

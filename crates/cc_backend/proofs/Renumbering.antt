@@ -116,7 +116,7 @@ functions_same : (from : ℕ → ℕ → ℕ) (ws : List flat_run.Frame) → map
 functions_same from [] = refl
 functions_same from (w ∷ ws) = ap (λ (ns : List ℕ). w.function ∷ ns) (functions_same from ws)
 
-calls_same : (from : ℕ → ℕ → ℕ) (s : flat_run.State) → flat_run.active (moved from s) ≡ flat_run.active s
+pub calls_same : (from : ℕ → ℕ → ℕ) (s : flat_run.State) → flat_run.active (moved from s) ≡ flat_run.active s
 calls_same from s = functions_same from (s.frame ∷ s.waiting)
 
 module _ (f g : flat.Program) (same : IsRenumbered f g) (input : List ℕ) where
@@ -142,6 +142,10 @@ module _ (f g : flat.Program) (same : IsRenumbered f g) (input : List ℕ) where
         let e = costs_alike f g same n input in
         let stands : behind g input n ≡ flat_run.running (moved from goes.0) = run_is n ∙ ap (moved_progress from) goes.1 in
         (n, omega arith, omega arith, omega (arith, e), (moved from goes.0, stands, goes.2, goes.3, calls_same from goes.0 ∙ goes.4), same_calls n);
+    halts = λ n x goes fit.
+        let e = costs_alike f g same n input in
+        let stands : behind g input n ≡ flat_run.running (moved from goes.0) = run_is n ∙ ap (moved_progress from) goes.1 in
+        (n, omega (arith, e), (moved from goes.0, stands, goes.2, goes.3, calls_same from goes.0 ∙ goes.4), same_calls n);
     ends = λ n x ends fit.
         let e = costs_alike f g same n input in
         (n, omega (arith, e), run_is n ∙ ap (moved_progress from) ends, same_calls n);

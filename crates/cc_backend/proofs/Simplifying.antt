@@ -52,7 +52,7 @@ module _ (f g : flat.Program) (simple : IsSimplified f g) (input : List ℕ) whe
   ends_too m status left trace e = subst (λ x. DoesTheSame x (behind g input m)) e (simple.runs m input)
 
   -- defined after m steps, so after fewer too
-  defined_before : (j m : ℕ) → j ≤ m → IsDefined (behind f input m) → IsDefined (behind f input j)
+  pub defined_before : (j m : ℕ) → j ≤ m → IsDefined (behind f input m) → IsDefined (behind f input j)
   defined_before j m le defined = on (behind f input j) refl
     where
       sum : m ≡ j + (m - j)
@@ -84,6 +84,11 @@ module _ (f g : flat.Program) (simple : IsSimplified f g) (input : List ℕ) whe
         let defined : IsDefined (behind f input n) = subst IsDefined (sym at.1) tt in
         let less = simple.costs n input defined in
         (n, omega arith, omega arith, omega (arith, less), (other.t, other.is, other.trace ∙ at.2, other.left ∙ at.3, other.calls ∙ at.4), same_calls n defined);
+    halts = λ n x at fit.
+        let other = goes n at.0 at.1 in
+        let defined : IsDefined (behind f input n) = subst IsDefined (sym at.1) tt in
+        let less = simple.costs n input defined in
+        (n, omega (arith, less), (other.t, other.is, other.trace ∙ at.2, other.left ∙ at.3, other.calls ∙ at.4), same_calls n defined);
     ends = λ n x at fit.
         let defined : IsDefined (behind f input n) = subst IsDefined (sym at) tt in
         let less = simple.costs n input defined in

@@ -15,6 +15,10 @@ compose s t weight limit first second third one two = record {
       let b = one.goes_on n x goes fit in
       let c = two.goes_on b.0 x b.4 (λ calls there. fit calls (b.5 calls there)) in
       (c.0, further n s.slack b.0 t.slack c.0 b.1 c.1, c.2, omega (arith, b.3, c.3), c.4, λ calls there. b.5 calls (c.5 calls there));
+  halts = λ n x stands fit.
+      let b = one.halts n x stands fit in
+      let c = two.halts b.0 x b.2 (λ calls there. fit calls (b.3 calls there)) in
+      (c.0, omega (arith, b.1, c.1), c.2, λ calls there. b.3 calls (c.3 calls there));
   ends = λ n x ends fit.
       let b = one.ends n x ends fit in
       let c = two.ends b.0 x b.2 (λ calls there. fit calls (b.3 calls there)) in

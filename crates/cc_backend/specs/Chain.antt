@@ -1,6 +1,8 @@
 -- The way from a typed program to its file, a simulation for each step: the abstract machine, three-address code, flat code, flat code made simpler, flat
 -- code with its words under other numbers, and the machine of the table from the file's image.
 use Rattle.std.specs.Prelude.{◌≡◌, ◌≤◌, ◌<◌, ℕ, ◌+◌, ◌*◌, ◌%◌, List, map, length, slice_get}
+use Rattle.srcset.specs.declared.refusal.Pos.{Pos}
+use Rattle.ctypes.specs.declared.operators.Undef.{Undef}
 use Rattle.rv32.specs.Step.{register}
 use Rattle.memory_map.specs.MemoryMap.{stack_end}
 use Rattle.loader.specs.File.{Image}
@@ -12,7 +14,7 @@ use Rattle.typing_spec.specs.Program as typed
 use Rattle.csem.specs.History.{Entry, trace_of, active, weight_in, sum_of}
 use Rattle.csem.specs.Laws.{Grows}
 use Rattle.csem.specs.Machine as machine
-use Rattle.csem.specs.Machine.{Stops, Ended, TicksUsed}
+use Rattle.csem.specs.Machine.{Stops, Ended, Undefined, TicksUsed}
 use Rattle.csem.specs.Meaning.{cstep, last_of}
 use Rattle.tac_code.specs.Code as tac
 use Rattle.tac_code.specs.Run as tac_run
@@ -29,46 +31,59 @@ use Rattle.frames_regalloc.specs.Renumbered.{IsRenumbered}
 use Rattle.select_correct.specs.Runs.{slack}
 use Rattle.cc_backend.specs.FlatImages.{IsImageOf}
 use Rattle.cc_backend.specs.Runs.{bytes_or_none}
-use Rattle.cc_backend.specs.Simulation.{System, Terms, Simulates, step_for_step, both}
+use Rattle.cc_backend.specs.Simulation.{Doing, System, Terms, Simulates, step_for_step, both}
 
 -- the stack pointer is a multiple of 16, and lies below the stack's end by just the frames of these calls
 abbrev pub StandsBelow : (frames calls : List ℕ) → World → Type 0
 StandsBelow frames calls w = (register w.machine 2 % 16 ≡ 0) × (register w.machine 2 + sum_of (λ g. bytes_or_none (slice_get frames g)) calls ≡ stack_end)
 
--- ---- the systems
+-- ---- the systems: where the abstract machine meets undefined behaviour, the others have come so far and go on in some way
 
 -- the abstract machine: a step is a tick, which may cost 60 instructions
 abbrev pub of_program : typed.Program → List ℕ → System
 of_program p input = record {
   Goes = λ n x. (s : machine.State) × (cstep n p input ≡ Stops TicksUsed s) × (trace_of s.history ≡ x.trace) × (s.input ≡ x.input) × (active s.history ≡ x.calls);
+  Halts = λ n x. (act : Undef) × (at : Pos) × (s : machine.State) × (cstep n p input ≡ Stops (Undefined act at) s) × (trace_of s.history ≡ x.trace) × (s.input ≡ x.input) × (active s.history ≡ x.calls);
   Ends = λ n x. (s : machine.State) × (cstep n p input ≡ Stops (Ended x.status) s) × (trace_of s.history ≡ x.trace) × (s.input ≡ x.input);
   Calls = λ n calls. (history : List Entry) × Grows history (last_of (cstep n p input)).history × (active history ≡ calls);
   cost = λ n. 60 * n + 60;
 }
 
--- three-address code
+-- three-address code, which goes on so after n steps
+abbrev pub TacGoes : tac.Program → List ℕ → ℕ → Doing → Type 0
+TacGoes q input n x = (t : tac_run.State) × (before q input n ≡ tac_run.running t) × (trace_of t.history ≡ x.trace) × (t.input ≡ x.input) × (tac_run.open_calls t ≡ x.calls)
+
 abbrev pub of_tac : tac.Program → List ℕ → System
 of_tac q input = record {
-  Goes = λ n x. (t : tac_run.State) × (before q input n ≡ tac_run.running t) × (trace_of t.history ≡ x.trace) × (t.input ≡ x.input) × (tac_run.open_calls t ≡ x.calls);
+  Goes = TacGoes q input;
+  Halts = TacGoes q input;
   Ends = λ n x. (history : List Entry) × (before q input n ≡ tac_run.ended x.status x.input history) × (trace_of history ≡ x.trace);
   Calls = λ n calls. (k : ℕ) × (t : tac_run.State) × (k ≤ n) × (before q input k ≡ tac_run.running t) × (tac_run.open_calls t ≡ calls);
   cost = λ n. tac_costs.spent_in_all q n (tac_run.start q input);
 }
 
--- flat code
+-- flat code, which goes on so after n steps
+abbrev pub FlatGoes : flat.Program → List ℕ → ℕ → Doing → Type 0
+FlatGoes f input n x = (s : flat_run.State) × (behind f input n ≡ flat_run.running s) × (s.trace ≡ x.trace) × (s.input ≡ x.input) × (flat_run.active s ≡ x.calls)
+
 abbrev pub of_flat : flat.Program → List ℕ → System
 of_flat f input = record {
-  Goes = λ n x. (s : flat_run.State) × (behind f input n ≡ flat_run.running s) × (s.trace ≡ x.trace) × (s.input ≡ x.input) × (flat_run.active s ≡ x.calls);
+  Goes = FlatGoes f input;
+  Halts = FlatGoes f input;
   Ends = λ n x. behind f input n ≡ flat_run.ended x.status x.input x.trace;
   Calls = λ n calls. (k : ℕ) × (s : flat_run.State) × (k ≤ n) × (behind f input k ≡ flat_run.running s) × (flat_run.active s ≡ calls);
   cost = λ n. flat_costs.spent_in_all f n (flat_run.start f input);
 }
 
--- the machine of the table from an image: a step is an instruction; the stack pointer lies below the stack's end by just the frames of the active calls,
--- of which nothing is said on the way
+-- the machine of the table from an image, which goes on so after k instructions: a step is an instruction; the stack pointer lies below the stack's end by just
+-- the frames of the active calls, of which nothing is said on the way
+abbrev pub ImageGoes : (frames : List ℕ) → Image → List ℕ → ℕ → Doing → Type 0
+ImageGoes frames image input k x = (w : World) × (rvrun k (start_world image input) ≡ sim.Running w) × (w.trace ≡ x.trace) × (w.input ≡ x.input) × StandsBelow frames x.calls w
+
 abbrev pub of_image : (frames : List ℕ) → Image → List ℕ → System
 of_image frames image input = record {
-  Goes = λ k x. (w : World) × (rvrun k (start_world image input) ≡ sim.Running w) × (w.trace ≡ x.trace) × (w.input ≡ x.input) × StandsBelow frames x.calls w;
+  Goes = ImageGoes frames image input;
+  Halts = ImageGoes frames image input;
   Ends = λ k x. (w : World) × (rvrun k (start_world image input) ≡ sim.Ended x.status w) × (w.trace ≡ x.trace) × (w.input ≡ x.input);
   Calls = λ k calls. ⊥;
   cost = λ k. k;

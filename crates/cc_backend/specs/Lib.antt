@@ -14,6 +14,7 @@ pub mod Made
 pub mod Sizes
 pub mod FlatImages
 pub mod Convention
+pub mod Words
 pub mod Forms
 pub mod Simulation
 pub mod Chain

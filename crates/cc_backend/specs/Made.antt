@@ -11,6 +11,7 @@ use Rattle.tree.specs.Tree.{ExternalTree}
 use Rattle.tree.specs.Counts.{unit_nodes}
 use Rattle.tree.specs.Limits.{program_node_limit}
 use Rattle.typing_spec.specs.Program.{Function, Program}
+use Rattle.typing_spec.specs.WellTyped.{is_typed}
 use Rattle.typing_spec.specs.Verdict.{fine}
 use Rattle.typing_spec.specs.Units.{unit_typed}
 use Rattle.tac_code.specs.Code as tac
@@ -75,6 +76,7 @@ FunctionsFit p code long =
 -- branches, has its frames, and has a stack of `stack` bytes; so all that is known of such an image is known of the file. Its data are 16 bytes, string
 -- literals and statics.
 pub record IsFileOf (stack : ℕ) (p : Program) (file frames : List ℕ) : Type 0 where
+  pub well_typed : is_typed p ≡ true
   pub code : flat.Program
   pub code_is : IsFlatCodeOf p code
   pub frames_are : frames ≡ map frame_bytes code.functions
@@ -98,3 +100,10 @@ pub record AreItemsOf (stack : ℕ) (p : Program) (items : List Item) : Type 0 w
   pub items_are : items ≡ program_items is_file.code
   pub low : IsLow text_start items
   pub reach : AllReach text_start items
+
+-- This executable file of the program, with the bytes of each frame, and the items of this very file.
+pub record IsListedFileOf (stack : ℕ) (p : Program) (file frames : List ℕ) (items : List Item) : Type 0 where
+  pub runs : RunsAs stack p frames file
+  pub is_file : IsFileOf stack p file frames
+  pub items_are : items ≡ program_items is_file.code
+  pub low : IsLow text_start items

@@ -1,5 +1,7 @@
 -- How a program's file runs: the headline's own words (ISO/IEC 9899:2011 5.1.2.3), apart from how the file is made.
 use Rattle.std.specs.Prelude.{◌≡◌, ◌≤◌, ◌<◌, ℕ, ◌+◌, ◌*◌, ◌%◌, ◌^◌, List, Option, Some, None, slice_get, Ok}
+use Rattle.srcset.specs.declared.refusal.Pos.{Pos}
+use Rattle.ctypes.specs.declared.operators.Undef.{Undef}
 use Rattle.rv32.specs.Step.{register}
 use Rattle.memory_map.specs.MemoryMap.{stack_end}
 use Rattle.loader.specs.File.{Image, file_image}
@@ -7,7 +9,7 @@ use Rattle.sim.specs.Runs as sim
 use Rattle.sim.specs.Runs.{World, rvrun, start_world}
 use Rattle.typing_spec.specs.Program.{Program}
 use Rattle.csem.specs.History.{Entry, trace_of, active, weight_in, sum_of, greatest_sum}
-use Rattle.csem.specs.Machine.{State, Stops, Ended, TicksUsed}
+use Rattle.csem.specs.Machine.{State, Stops, Ended, Undefined, TicksUsed}
 use Rattle.csem.specs.Meaning.{cstep}
 
 -- an input is a list of bytes
@@ -41,7 +43,8 @@ GoesOnWith image input frames s k w = (rvrun k (start_world image input) ≡ sim
 -- The file has an image. For every input of bytes and every n: where the abstract machine ends within n ticks, and the weights of the calls active at
 -- one time never summed to more than this stack, the machine ends with the same status, having done the same; where n ticks are used, it goes
 -- on, having done the same, its stack pointer below the stack's end by just the frames of the calls that are active. For n ticks it takes at most
--- 60 n + 66 instructions, and at least one for each `slack` ticks, so that an unending run does all that the abstract machine does.
+-- 60 n + 66 instructions, and at least one for each `slack` ticks, so that an unending run does all that the abstract machine does. Where the abstract machine meets
+-- undefined behaviour within n ticks, the machine comes to have done all that was done before, also within the last of these ticks.
 pub record RunsAs (stack : ℕ) (p : Program) (frames file : List ℕ) : Type 0 where
   pub image : Image
   pub loads : file_image file ≡ Ok image
@@ -50,3 +53,5 @@ pub record RunsAs (stack : ℕ) (p : Program) (frames file : List ℕ) : Type 0 
   pub slack : ℕ
   pub goes_on : (input : List ℕ) → IsInput input → (n : ℕ) (s : State) → cstep n p input ≡ Stops TicksUsed s → greatest_sum (weight_in p) s.history ≤ stack
       → Reaches image input (60 * n + 64) (λ k w. (n < slack * k) × GoesOnWith image input frames s k w)
+  pub stops : (input : List ℕ) → IsInput input → (n : ℕ) (act : Undef) (at : Pos) (s : State) → cstep n p input ≡ Stops (Undefined act at) s → greatest_sum (weight_in p) s.history ≤ stack
+      → Reaches image input (60 * n + 64) (GoesOnWith image input frames s)

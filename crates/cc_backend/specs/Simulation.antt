@@ -15,10 +15,11 @@ pub record Done : Type 0 where
   pub trace : List Event
   pub input : List ℕ
 
--- A system on one input: whether it goes on so, or has ended so, after a number of steps; whether these calls were active at a moment on the way there; and the
--- cost of the steps, in instructions of the machine.
+-- A system on one input: whether it goes on so, or has ended so, after a number of steps, or has come so far where it meets undefined behaviour within that number;
+-- whether these calls were active at a moment on the way there; and the cost of the steps, in instructions of the machine.
 pub record System : Type 1 where
   pub Goes : ℕ → Doing → Type 0
+  pub Halts : ℕ → Doing → Type 0
   pub Ends : ℕ → Done → Type 0
   pub Calls : ℕ → List ℕ → Type 0
   pub cost : ℕ → ℕ
@@ -35,11 +36,14 @@ pub record Terms : Type 0 where
   pub slack : ℕ
   pub least : ℕ
 
--- Whatever is seen of the first system, where its calls are within a limit, is seen of the second; and each moment of the second has the calls of a
--- moment of the first.
+-- Whatever is seen of the first system, where its calls are within a limit, is seen of the second, also where the first meets undefined behaviour; and each moment
+-- of the second has the calls of a moment of the first.
 pub record Simulates (terms : Terms) (weight : ℕ → ℕ) (limit : ℕ) (first second : System) : Type 0 where
   pub goes_on : (n : ℕ) (x : Doing) → first.Goes n x → AreWithin weight limit first n
       → (k : ℕ) × (n ≤ terms.slack * k) × (terms.least ≤ k) × (second.cost k ≤ first.cost n + terms.more) × second.Goes k x
+      × ((calls : List ℕ) → second.Calls k calls → first.Calls n calls)
+  pub halts : (n : ℕ) (x : Doing) → first.Halts n x → AreWithin weight limit first n
+      → (k : ℕ) × (second.cost k ≤ first.cost n + terms.more) × second.Halts k x
       × ((calls : List ℕ) → second.Calls k calls → first.Calls n calls)
   pub ends : (n : ℕ) (x : Done) → first.Ends n x → AreWithin weight limit first n
       → (k : ℕ) × (second.cost k ≤ first.cost n + terms.more_at_end) × second.Ends k x

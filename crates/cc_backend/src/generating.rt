@@ -4,7 +4,7 @@ ghost use Rattle.std.specs.Prelude.{IfOk};
 ghost use Rattle.typed_ast.specs.View.{program_of};
 ghost use Rattle.frames_code.specs.Code as flat;
 ghost use Rattle.cc_backend.specs.Runs.{RunsAs};
-ghost use Rattle.cc_backend.specs.Made.{IsReady, IsFileOf, AreItemsOf};
+ghost use Rattle.cc_backend.specs.Made.{IsReady, IsFileOf, AreItemsOf, IsListedFileOf};
 
 use crate::flat_code::{flat_program, want_of_memory};
 use crate::image::code_image;
@@ -35,6 +35,34 @@ pub fn generate(alloc: Global, program: &Program, stack: StackSize) -> Result<Ge
     drop(made.items);
     match write_elf(alloc, &made.image) {
         Ok(elf) => Ok(Generated { elf, frames }),
+        Err(fault) => Err(want_of_memory(fault)),
+    }
+}
+
+/// An executable file, and the items that its text is assembled from.
+#[derive(Drop)]
+pub struct Listed {
+    pub generated: Generated,
+    pub items: Items,
+}
+
+/// The executable file of a program that breaks no constraint, with its items and a stack of this size; an error also where its size exceeds the machine's memory.
+pub fn generate_listed(
+    alloc: Global,
+    program: &Program,
+    stack: StackSize,
+) -> Result<Listed, AllocError>
+    requires ready { IsReady (program_of program.now) }
+    ensures { IfOk result (λ l. IsListedFileOf stack (program_of program.now) l.generated.elf.items l.generated.frames.items l.items) }
+{
+    let code = flat_program(alloc, program)?;
+    let frames = frame_sizes(alloc, &code)?;
+    let made = code_image(alloc, code, stack)?;
+    match write_elf(alloc, &made.image) {
+        Ok(elf) => Ok(Listed {
+            generated: Generated { elf, frames },
+            items: made.items,
+        }),
         Err(fault) => Err(want_of_memory(fault)),
     }
 }

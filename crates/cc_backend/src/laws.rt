@@ -2,6 +2,7 @@
 //! code of a function is as short as the tables of bytes say.
 ghost use Rattle.cc_backend.specs.FlatImages.{ImageGoesOn, ImageEnds, ImageCallsKeep};
 ghost use Rattle.cc_backend.specs.Convention.{ImageCallsKeepConvention, ImageMainKeepsConvention, FramesAreWeighed};
+ghost use Rattle.cc_backend.specs.Words.{StepsAreAsMeant};
 ghost use Rattle.cc_backend.specs.Chain.{TacSimulatesProgram, FlatSimulatesTac, SimplerSimulatesFlat, RenumberedSimulatesFlat, ImageSimulatesFlat, FlatSimulatesProgram, FileSimulatesProgram};
 ghost use Rattle.cc_backend.specs.Sizes.{RowsFit, CodeFits, ProgramIsShort};
 ghost use Rattle.cc_backend.specs.Made.{UnitsAreSmall};
@@ -34,6 +35,12 @@ pub fn image_main_keeps_convention()
 /// The frames of the active calls never sum to more than the weights that the abstract machine reports.
 pub fn frames_are_weighed()
     ensures { FramesAreWeighed }
+{}
+
+/// At each step of a program's flat code its three-address code has the same calls active; and where the one is about to call or to return, the other is
+/// too, with the same words in its temporaries.
+pub fn steps_are_as_meant()
+    ensures { StepsAreAsMeant }
 {}
 
 /// Three-address code simulates the program that it was lowered from.

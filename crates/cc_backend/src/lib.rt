@@ -12,11 +12,11 @@ mod sizes;
 
 pub use describing::{CodeMap, CodeRow, DataObject, FunctionCode, Reference, ScopeCode, code_map};
 pub use flat_code::flat_program;
-pub use generating::{Generated, generate, items};
+pub use generating::{Generated, Listed, generate, generate_listed, items};
 pub use homes::{FunctionHomes, ObjectHome};
 pub use laws::{
     code_fits, file_simulates_program, flat_simulates_program, flat_simulates_tac,
     frames_are_weighed, image_calls_keep, image_calls_keep_convention, image_ends, image_goes_on,
     image_main_keeps_convention, image_simulates_flat, program_is_short, renumbered_simulates_flat,
-    rows_fit, simpler_simulates_flat, tac_simulates_program, units_are_small,
+    rows_fit, simpler_simulates_flat, steps_are_as_meant, tac_simulates_program, units_are_small,
 };

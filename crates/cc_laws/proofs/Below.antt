@@ -59,7 +59,7 @@ use Rattle.cc_laws.proofs.Following.{lower_left, lower_right, lower_both}
 use Rattle.cc_laws.proofs.Stretches.{IsIdle, IsFine, fell_stays}
 use Rattle.cc_laws.proofs.Levels.{IsLevel, GoesAt, level_shortened, level_or_not, level, returns_fine, calls_fine, starts_fine, exits_fine, exits_done}
 
--- ---- what is idle is inside, whatever the stack pointer
+-- ---- what is idle stays inside, for any stack pointer
 
 if_some : (t : Bool) (x : Option Instr) (k : Instr) → (if t then x else None) ≡ Some k → (t ≡ true) × (x ≡ Some k)
 if_some true x k e = (refl, e)
@@ -114,7 +114,7 @@ module _ (p : Program) (parts : Parts) (q : IsImageOf p parts) where
   abbrev space : Space
   space = program_space parts
 
-  -- ---- from a world on, where less of the stack serves
+  -- ---- from a world on, if less of the stack suffices
 
   module _ (low : ℕ) (b : ℕ → ℕ) (hi : stack_start parts.stack ≤ low) (lt : low ≤ stack_end) (text : (a : ℕ) → (program_space parts).can_execute a ≡ true → b a ≡ (program_space parts).byte a) where
     abbrev tight : Permits
@@ -148,7 +148,7 @@ module _ (p : Program) (parts : Parts) (q : IsImageOf p parts) where
       from_allows : Allows from.machine.space space
       from_allows = let al = following.allows p parts q low b hi lt text in record { reads = al.reads; writes = al.writes; executes = al.executes }
 
-      -- the run with the whole stack goes the same way
+      -- the run with the whole stack takes the same steps
       loosely : (k : ℕ) → NotFell (light_at k) → rvrun k (loose_world space from) ≡ loose_progress space (rvrun k from)
       loosely k n = runs_as_loosely space k from from_allows (never tight (light_at k) (rvrun k from) n (follows k))
 
@@ -157,7 +157,7 @@ module _ (p : Program) (parts : Parts) (q : IsImageOf p parts) where
           let sum : k + (j - k) ≡ j = omega (arith, le) in
           not_before F0 (j - k) (light_at k) (subst NotFell (run_plus F0 k (j - k) (Go r at b input trace)) (subst (λ x. NotFell (light_at x)) (sym sum) n))
 
-      -- the instruction at which such a world stands
+      -- the instruction at the pc of such a world
       text_at : (k : ℕ) (list2 : List ℕ) (at2 : ℕ) (b2 : ℕ → ℕ) (i2 : List ℕ) (h2 : List Event) → rvrun k from ≡ Running (world tight list2 at2 b2 i2 h2) → (i : Instr) → F0.text at2 ≡ Some i
           → (instruction_at (world tight list2 at2 b2 i2 h2).machine ≡ Some i) × (all_four space.can_execute at2 ≡ true)
       text_at k list2 at2 b2 i2 h2 e i t =
@@ -195,14 +195,14 @@ module _ (p : Program) (parts : Parts) (q : IsImageOf p parts) where
           let later = earlier (k + 1) j (omega (arith, lk)) n in
           above_at k u (light_at k) (rvrun k from) refl (follows k) now (never tight (light_at (k + 1)) (rvrun (k + 1) from) later (follows (k + 1))) (sym (loosely k now) ∙ e) (fine k lk)
 
-      -- where the light machine is done, the run has ended
+      -- if the light machine is done, the run has ended
       pub is_over : (j status : ℕ) (h : List Event) → light_at j ≡ Done status h → (v : World) × (rvrun j (loose_world space from) ≡ Ended status v)
       is_over j status h e =
           let f = subst (λ m. Follows tight m (rvrun j from)) e (follows j) in
           let n : NotFell (light_at j) = subst NotFell (sym e) tt in
           (loose_world space f.0, loosely j n ∙ ap (loose_progress space) f.1)
 
--- ---- the costs of what is no call
+-- ---- the costs of instructions that are no calls
 
 level_cost : (p : Program) (f : Function) (y : Instruction) → IsLevel y → step_cost p f y ≡ row f y
 level_cost p f instruction.Nothing l = refl
@@ -224,7 +224,7 @@ level_cost p f instruction.Return l = absurd l
 is_call : (x : Instruction) (f : ℕ) → IsLevel x → x ≡ instruction.Call f → ⊥
 is_call x f l e = subst IsLevel e l
 
--- ---- from where the machine stands with flat code to where it does again
+-- ---- from one state of flat code to the next
 
 module _ (p : Program) (parts : Parts) (q : IsImageOf p parts) (input : List ℕ) where
   abbrev begin : World
@@ -239,7 +239,7 @@ module _ (p : Program) (parts : Parts) (q : IsImageOf p parts) (input : List ℕ
   ready0 : Ready G0
   ready0 = is_ready p (whole.F p parts q) q.assembled.env (whole.floor p parts q) (whole.data_at p parts q) text_start (whole.past_text p parts q) (λ k. 0) (program_space parts).byte (whole.laid p parts q)
 
-  -- so it is of each instruction before the k-th
+  -- this holds of each instruction before the k-th
   abbrev Covered : ℕ → Type 0
   Covered k = (i : ℕ) (u : World) → i < k → rvrun i begin ≡ Running u → IsAbove p parts q u
 
@@ -262,7 +262,7 @@ module _ (p : Program) (parts : Parts) (q : IsImageOf p parts) (input : List ℕ
       absurd (let both = sym stays ∙ f in cc))
       (cases_lt i k)
 
-  -- from a world on, at which the run has come after k instructions
+  -- from a world that the run has reached after k instructions
   module _ (k : ℕ) (list : List ℕ) (r : ℕ → ℕ) (at : ℕ) (b : ℕ → ℕ) (i0 : List ℕ) (h0 : List Event) (comes : rvrun k begin ≡ Running (world P list at b i0 h0)) (shows : Registers list r) (small : at < 2 ^ 32) where
     text : (a : ℕ) → (program_space parts).can_execute a ≡ true → b a ≡ (program_space parts).byte a
     text a may =
@@ -333,7 +333,7 @@ module _ (p : Program) (parts : Parts) (q : IsImageOf p parts) (input : List ℕ
       goes_on_so t (Done s h2) z = absurd z
       goes_on_so t (Fell h2) z = absurd z
 
-      -- it stands there with the whole stack, too
+      -- it is there with the whole stack, too
       stands_then : (j : ℕ) (t : State) → AreBytes t.input → (m : Light) → light j ≡ m → Matches G1 (running t) m → StandsAt P G0 t (rvrun (k + j) begin)
       stands_then j t bytes (Go r2 at2 b2 i2 h2) e z =
           let here = address G0 t.frame.function t.frame.at in
@@ -361,7 +361,7 @@ module _ (p : Program) (parts : Parts) (q : IsImageOf p parts) (input : List ℕ
 
   -- ---- one step of flat code
 
-  -- where it goes on
+  -- if it goes on
   record GoesFurther (k : ℕ) (s t : State) : Type 0 where
     pub j : ℕ
     pub some : least_if s.frame.at (next_of p s) ≤ j
@@ -475,7 +475,7 @@ module _ (p : Program) (parts : Parts) (q : IsImageOf p parts) (input : List ℕ
             (λ er. return_fine low hi lt j er le (no_call (λ f ef. let both = sym er ∙ ef in cc)))
             x eo
 
-    -- where it ends: what is behind main's call ends the run
+    -- if it ends: the code after main's call ends the run
     over : (status : ℕ) (left : List ℕ) (trace : List Event) → step p s ≡ ended status left trace → Covered k → (n : ℕ) → Covered n
     over status left trace e c =
         let m = a.matched in
@@ -561,7 +561,7 @@ module _ (p : Program) (parts : Parts) (q : IsImageOf p parts) (input : List ℕ
         covered = covers_light 0 list r text_start b input [] refl shows small low hi lt c.j not_fell fine (λ i u li e. absurd (omega (arith, li)));
       }
 
-  -- ---- so many steps of flat code
+  -- ---- any number of steps of flat code
 
   abbrev After : (k least : ℕ) → Progress → Type 0
   After k least (running t) = (n : ℕ) × (k + least ≤ n) × Covered n

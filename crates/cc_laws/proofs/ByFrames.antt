@@ -1,4 +1,4 @@
--- A file runs as its program does where its frames fit the stack.
+-- A file runs as its program does if its frames fit the stack.
 use Rattle.std.proofs.Common.{◌≡◌, ◌≤◌, ◌<◌, ℕ, suc, ◌+◌, ◌-◌, ◌*◌, List, length, map, Ok, refl, sym, ap, ◌∙◌, subst, ⊎_elim, arith}
 use Rattle.std.specs.Prelude.{slice_get}
 use Rattle.std.proofs.Math.Nat.{suc-mul}
@@ -66,6 +66,10 @@ module _ (stack : ℕ) (p : Program) (file frames : List ℕ) (made : IsFileOf s
         let x : Doing = record { trace = trace_of s.history; input = s.input; calls = active s.history } in
         let w = simulates.goes_on n x (s, over, refl, refl, refl) (fit n s (ap last_of over) small) in
         (w.0, w.4.0, omega (arith, w.3), (past n terms w.0 w.1 w.2, (w.4.1, (w.4.2, w.4.3), w.4.4)));
+    stops = λ n act at s over small.
+        let x : Doing = record { trace = trace_of s.history; input = s.input; calls = active s.history } in
+        let w = simulates.halts n x (act, at, s, over, refl, refl, refl) (fit n s (ap last_of over) small) in
+        (w.0, w.2.0, omega (arith, w.1), (w.2.1, (w.2.2, w.2.3), w.2.4));
   }
 
   pub runs_within : RunsWithinFrames stack p frames (program_image made.parts) input
@@ -95,7 +99,7 @@ module _ (stack : ℕ) (p : Program) (file frames : List ℕ) (made : IsFileOf s
       let taken : greatest_sum (frame_in sizes) (last_of (cstep n p input)).history ≤ stack = subst (λ xs. greatest_sum (frame_in xs) (last_of (cstep n p input)).history ≤ stack) made.frames_are (fine n).1 in
       calls_weigh_within (frame_in sizes) p input made.parts.stack n (subst (λ k. greatest_sum (frame_in sizes) (last_of (cstep n p input)).history ≤ k) (sym made.stack_is) taken)
 
-  -- up to step m, where the calls are those of moments of n ticks
+  -- up to step m, if the calls are those of moments within n ticks
   fit_up_to : (n m : ℕ) → ((calls : List ℕ) → (of_flat flat_code input).Calls m calls → (of_program p input).Calls n calls) → (k : ℕ) → k ≤ m → FitStack made.parts.stack flat_code (behind flat_code input k)
   fit_up_to n m its k le =
       frames_fit (frame_in sizes) flat_code made.code_is.sound (own_frame stack p file frames made input bytes) made.parts.stack input k (behind flat_code input k) refl
@@ -128,7 +132,7 @@ module _ (stack : ℕ) (p : Program) (file frames : List ℕ) (made : IsFileOf s
   pub fits_within : (n : ℕ) → FitStack made.parts.stack flat_code (behind flat_code input n)
   fits_within n = fits_at n (ending_of (cstep n p input)) (fine n).0 (run_stops n p input)
 
--- where the frames of the active calls are within the stack, each call and main keep the convention
+-- if the frames of the active calls are within the stack, each call and main keep the convention
 pub files_keep_convention_within_frames : (stack : ℕ) (p : Program) (file frames : List ℕ) (made : IsFileOf stack p file frames)
     → HasImage file (λ image. (input : List ℕ) → IsInput input → StaysWithinFrames stack frames p input → CallsAreKept made image input × MainIsKept made image input)
 files_keep_convention_within_frames stack p file frames made =

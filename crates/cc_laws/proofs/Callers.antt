@@ -1,4 +1,4 @@
--- In a run of flat code each call that waits stands behind a call instruction, a step adds at most one frame, and what was done stays done.
+-- In a run of flat code each waiting call is after a call instruction, a step adds at most one frame, and what was done stays done.
 use Rattle.std.proofs.Common.{◌≡◌, ℕ, zero, suc, ◌+◌, ◌*◌, ◌%◌, ◌^◌, ◌≤◌, List, [], ◌∷◌, ◌++◌, Option, Some, None, Bool, true, false, refl, sym, ap, ◌∙◌, subst, arith, eqb}
 use Rattle.std.proofs.lemmas.List.{append_assoc}
 use Rattle.csem_events.specs.Events.{Event, Got, GotEnd, Put}
@@ -22,7 +22,7 @@ pub step_is : (p : Program) (s : State) → step p s ≡ (next_of p s >>= act p 
 unfolding step
 step_is p s = refl
 
--- the frame goes on behind a call
+-- the frame continues after a call
 abbrev pub IsBehindCall : Program → Frame → Type 0
 IsBehindCall p w = (k f : ℕ) × (w.at ≡ k + 1) × (slice_get (function_at p w.function).code k ≡ Some (instruction.Call f))
 
@@ -30,12 +30,12 @@ abbrev pub AreBehindCalls : Program → List Frame → Type 0
 AreBehindCalls p [] = Unit {0}
 AreBehindCalls p (w ∷ ws) = IsBehindCall p w × AreBehindCalls p ws
 
--- of all frames: those that wait are behind calls, and all take no more than so many bytes
+-- of all frames: those that wait are after calls, and together they take at most this many bytes
 abbrev Fits : Program → (most : ℕ) → List Frame → Type 0
 Fits p most [] = Unit {0}
 Fits p most (w ∷ ws) = AreBehindCalls p ws × (bytes_of p (w ∷ ws) ≤ most)
 
--- of a state: so it is of its frames, and what was done before is an end of what it has done
+-- of a state: this holds of its frames, and what was done before is a suffix of its trace
 abbrev pub FitsWithin : Program → (most : ℕ) → List Event → State → Type 0
 FitsWithin p most h s = AreBehindCalls p s.waiting × (bytes_of p (s.frame ∷ s.waiting) ≤ most) × IsEndOf h s.trace
 
@@ -58,7 +58,7 @@ module _ (p : Program) (sound : IsSoundProgram p) where
     either true x y q r = q
     either false x y q r = r
 
-  -- a list of frames in which an array has changed
+  -- a list of frames of which one array has changed
   changed_bytes : (ws : List Frame) (l : ℕ) (b : Bytes) → bytes_of p (changed_among p ws l b) ≡ bytes_of p ws
   changed_bytes [] l b = refl
   changed_bytes (w ∷ ws) l b =
@@ -105,7 +105,7 @@ module _ (p : Program) (sound : IsSoundProgram p) where
     sets (target.Temporary k) v s2 r = r
     sets (target.Cell c) v s2 r = r
 
-  -- of a step within a limit, where a call keeps it too
+  -- of a step within a limit, if a call keeps it too
   module _ (s : State) (callers : AreBehindCalls p s.waiting) (limit : ℕ) (least : bytes_of p (s.frame ∷ s.waiting) ≤ limit)
       (calls : (f : ℕ) → next_of p s ≡ Some (instruction.Call f) → bytes_of p ((flat.entered s f).frame ∷ (flat.entered s f).waiting) ≤ limit) where
     abbrev h : List Event
@@ -170,7 +170,7 @@ module _ (p : Program) (sound : IsSoundProgram p) where
     pub step_level : ((f : ℕ) → next_of p s ≡ Some (instruction.Call f) → ⊥) → Within p (bytes_of p (s.frame ∷ s.waiting)) s.trace (step p s)
     step_level never = step_limited s callers (bytes_of p (s.frame ∷ s.waiting)) (omega arith) (λ f e. absurd (never f e))
 
-  -- what comes after h was done: the calls that wait stand behind calls, and h is an end of what was done
+  -- what comes after h was done: the waiting calls are after calls, and h is a suffix of the trace
   abbrev pub Called : List Event → Progress → Type 0
   Called h (running s) = AreBehindCalls p s.waiting × IsEndOf h s.trace
   Called h (ended status input trace) = IsEndOf h trace

@@ -21,7 +21,7 @@ module _ (stack : ℕ) (p : Program) (file frames : List ℕ) (made : IsFileOf s
   abbrev AsMeant : flat.State → Type 0
   AsMeant s = (n : ℕ) × (history : List Entry) × HasComeTo p input n history × (flat.active s ≡ active history)
 
-  -- at a step that is on the way of those that simulate n ticks
+  -- at a step among those that simulate n ticks
   on_the_way : (n m : ℕ) → ((calls : List ℕ) → (of_flat made.code input).Calls m calls → (of_program p input).Calls n calls) → (k : ℕ) (s : flat.State) → k ≤ m → behind made.code input k ≡ flat.running s → AsMeant s
   on_the_way n m its k s le e =
       let c = its (flat.active s) (k, s, le, e, refl) in

@@ -1,4 +1,4 @@
--- What is seen of the abstract machine, from its run.
+-- What is observable of the abstract machine, from its run.
 use Rattle.std.proofs.Common.{◌≡◌, ℕ, suc, List, [], ℤ, Option, Some, refl, ap}
 use Rattle.std.specs.Prelude.{slice_get}
 use Rattle.typing_spec.specs.Program.{Function, Program}

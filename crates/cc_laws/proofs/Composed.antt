@@ -11,6 +11,6 @@ only_running (Running x) = refl
 only_running (Ended s x) = refl
 only_running (Trapped c x) = refl
 
--- one step more
+-- one more step
 pub rvrun_more : (k : ℕ) (w v : World) → rvrun k w ≡ Running v → rvrun (k + 1) w ≡ tick_of v
 rvrun_more k w v h = rvrun_on k 1 (k + 1) w v h refl ∙ only_running (tick_of v)

@@ -1,4 +1,4 @@
--- The calling convention of a file that is made of a program.
+-- The calling convention of a file made of a program.
 use Rattle.std.proofs.Common.{◌≡◌, ◌≤◌, ℕ, suc, ◌+◌, List, Some, Ok, sym, ap, ◌∙◌, subst, arith}
 use Rattle.memory_map.specs.MemoryMap.{text_start}
 use Rattle.loader.specs.File.{file_image}
@@ -29,10 +29,10 @@ fit_more few many f (flat.running s) le h = omega (arith, le, h)
 fit_more few many f (flat.ended status left trace) le h = tt
 fit_more few many f flat.stuck le h = tt
 
-called : (p : flat_code.Program) (s : flat.State) (f : ℕ) → next_of p s ≡ Some (instruction.Call f) → flat.step p s ≡ flat.running (flat.entered s f)
+pub called : (p : flat_code.Program) (s : flat.State) (f : ℕ) → next_of p s ≡ Some (instruction.Call f) → flat.step p s ≡ flat.running (flat.entered s f)
 called p s f e = step_is p s ∙ ap (λ o. o >>= flat.act p s) e
 
--- where all frames of the run of flat code fit the stack, each call and main keep the convention
+-- if all frames of the run of flat code fit the stack, each call and main keep the convention
 module _ (stack : ℕ) (p : Program) (file frames : List ℕ) (made : IsFileOf stack p file frames) (input : List ℕ) (bytes : IsInput input)
     (fits : (k : ℕ) → FitStack made.parts.stack made.code (flat.run made.code k (flat.start made.code input))) where
   abbrev code : flat_code.Program
@@ -41,7 +41,7 @@ module _ (stack : ℕ) (p : Program) (file frames : List ℕ) (made : IsFileOf s
   abbrev at : ℕ → flat.Progress
   at k = flat.run code k (flat.start code input)
 
-  -- what a call comes to is what the run comes to behind it
+  -- the result of a call is the state of the run after it
   inner_fits : (n f : ℕ) (s : flat.State) → ComesToCall code input n f s → (j : ℕ) → FitStack made.parts.stack code (flat.run code j (flat.entered s f))
   inner_fits n f s c j =
       let order : suc n + j ≡ n + suc j = omega arith in
@@ -62,7 +62,7 @@ module _ (stack : ℕ) (p : Program) (file frames : List ℕ) (made : IsFileOf s
   pub convention : CallsAreKept made (program_image made.parts) input × MainIsKept made (program_image made.parts) input
   convention = (calls, main)
 
--- so it is where the weights of the active calls are within the stack
+-- this holds if the weights of the active calls are within the stack
 module _ (stack : ℕ) (p : Program) (file frames : List ℕ) (made : IsFileOf stack p file frames) (input : List ℕ) (bytes : IsInput input) (fine : StaysDefined stack p input) where
   abbrev run_at : ℕ → flat.Progress
   run_at k = flat.run made.code k (flat.start made.code input)

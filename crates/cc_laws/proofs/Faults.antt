@@ -1,4 +1,4 @@
--- Where a step traps, and would not if more might be read and written, it is a load or a store that is refused.
+-- If a step traps, and would not with more readable and writable bytes, it is a load or a store that is refused.
 use Rattle.std.proofs.Common.{◌≡◌, ◌⊎◌, inl, inr, ℕ, ◌+◌, ◌%◌, ◌&&◌, List, [], ◌∷◌, Bool, true, false, Option, Some, None, refl, sym, ap, ◌∙◌, subst}
 use Rattle.std.specs.Prelude.{◌==◌, if◌then◌else◌}
 use Rattle.rv32.specs.declared.instr.Instr.{Instr}
@@ -20,7 +20,7 @@ use Rattle.cc_laws.proofs.Loosening.{loose, loose_world, found_if, NoTrap, Never
 abbrev pub IsFault : Cause → Type 0
 IsFault c = (c ≡ cause.LoadFault) ⊎ (c ≡ cause.StoreFault)
 
--- the first traps and a step with the other result does not only because of such a fault
+-- the first traps, and the step with the other result does not, only because of such a fault
 abbrev Only : Stepped → StepResult → Type 0
 Only s r = (c : Cause) → s.result ≡ Trap c → ((d : Cause) → r ≡ Trap d → ⊥) → IsFault c
 
@@ -104,7 +104,7 @@ module _ (t : Space) (m : Machine) (executes : (a : ℕ) → t.can_execute a ≡
       if_only (m.pc % 4 == 0) _ _ _ _ (fetched_only (word_at m.space.byte m.pc) (all_four m.space.can_execute m.pc) (all_four t.can_execute m.pc) (executes_four m.pc))
       (same_only m there cause.Target)
 
--- ---- a call of the environment
+-- ---- an environment call
 
 abbrev OnlySo : World → Progress → Progress → Type 0
 OnlySo w x y = (c : Cause) (v : World) → x ≡ Trapped c v → NeverTrapped y → IsFault c × (v ≡ w)
@@ -149,7 +149,7 @@ module _ (t : Space) (w : World) (al : Allows w.machine.space t) (executes : (a 
   abbrev wide : Stepped
   wide = step_of (loose t w.machine)
 
-  -- the looser step traps not
+  -- the step with more permissions does not trap
   wide_goes : NeverTrapped (result_of (loose_world t w) wide.machine wide.result) → NoTrap wide
   wide_goes h c e = h c (loose_world t w) (ap (result_of (loose_world t w) wide.machine) e)
 

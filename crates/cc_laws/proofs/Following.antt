@@ -1,4 +1,4 @@
--- A step of flat code touches nothing of the stack below the stack pointer: where less of the stack may be read and written, the machine follows it too.
+-- A step of flat code touches nothing of the stack below the stack pointer: if less of the stack is readable and writable, the machine follows it too.
 use Rattle.std.proofs.Common.{◌≡◌, ℕ, ◌+◌, ◌-◌, ◌%◌, ◌<◌, ◌≤◌, List, [], ◌∷◌, length, true, false, ◌&&◌, Ok, None, refl, sym, ap, ◌∙◌, subst, arith, eqb}
 use Rattle.std.specs.Prelude.{replicate, if◌then◌else◌}
 use Rattle.std.proofs.lemmas.Bool.Decides.{nat_tests}
@@ -173,7 +173,7 @@ module _ (p : Program) (parts : Parts) (q : IsImageOf p parts) where
       from_allows : Allows from.machine.space (program_space parts)
       from_allows = record { reads = allows.reads; writes = allows.writes; executes = allows.executes }
 
-      -- an instruction on the way from there, where the run with less of the stack goes the whole way
+      -- an instruction on the way, if the run with less of the stack goes the whole way
       inside_step : (i j : ℕ) (u w : World) → i < j → rvrun j from ≡ Running w → rvrun i (loose_world (program_space parts) from) ≡ Running u → IsInside inner u.machine
       inside_step i j u w lj e f =
           let here = goes_before i j from w (omega (arith, lj)) e in
@@ -187,7 +187,7 @@ module _ (p : Program) (parts : Parts) (q : IsImageOf p parts) where
           let so : IsInside inner (loose (program_space parts) x.machine) = record { fetches = inside.fetches; loads = inside.loads; stores = inside.stores; gets = inside.gets; puts = inside.puts } in
           subst (λ z. IsInside inner (world_of z).machine) equal so
 
-  -- ---- where the run stands
+  -- ---- the state of the run
 
   pub room_whole : (x : Progress) → FitStack parts.stack p x → HasRoom G0 x
   room_whole (running s) fit = omega (arith, fit, q.stack.2)

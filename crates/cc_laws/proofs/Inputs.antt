@@ -16,7 +16,7 @@ use Rattle.typing_spec.specs.Program.{Program}
 use Rattle.csem.specs.Machine.{Ending, Ended, Undefined, TicksUsed, Stops}
 use Rattle.csem.specs.Meaning.{cstep, answer, ending_of, last_of}
 use Rattle.cc_backend.specs.Runs.{RunsAs, IsInput}
-use Rattle.cc_laws.specs.Laws.{IsDefined, run_of, done_in, IsBeginning}
+use Rattle.cc_laws.specs.Laws.{run_of, done_in, IsBeginning}
 use Rattle.cc_laws.specs.Inputs.{DoesAllSoFar, reads, trace_in, leaving, with_left, ReadsAsItGoes}
 use Rattle.cc_laws.proofs.Clock.{run_stops}
 use Rattle.cc_laws.proofs.Whole.{begins}
@@ -36,23 +36,26 @@ module _ (stack : ℕ) (p : Program) (frames file : List ℕ) (r : RunsAs stack 
         subst (IsBeginning (done_in (run_of r.image input j))) (ap (λ i. done_in (run_of r.image input i)) sum ∙ same) (begins r.image input j (k - j)),
   )
 
-  at_ending : (n : ℕ) (e : Ending) → ending_of (cstep n p input) ≡ e → IsDefined e → (answer n p input).greatest ≤ stack → SoFar n
-  at_ending n (Ended status) e ok small =
+  at_ending : (n : ℕ) (e : Ending) → ending_of (cstep n p input) ≡ e → (answer n p input).greatest ≤ stack → SoFar n
+  at_ending n (Ended status) e small =
       let stops : cstep n p input ≡ Stops (Ended status) (last_of (cstep n p input)) = run_stops n p input ∙ ap (λ x. Stops x (last_of (cstep n p input))) e in
       let found = r.ends input bytes n status (last_of (cstep n p input)) stops small in
       so_far n found.0 (ap done_in found.3.0 ∙ ap reverse found.3.1.0)
-  at_ending n (Undefined act there) e ok small = absurd ok
-  at_ending n TicksUsed e ok small =
+  at_ending n (Undefined act there) e small =
+      let stops : cstep n p input ≡ Stops (Undefined act there) (last_of (cstep n p input)) = run_stops n p input ∙ ap (λ x. Stops x (last_of (cstep n p input))) e in
+      let found = r.stops input bytes n act there (last_of (cstep n p input)) stops small in
+      so_far n found.0 (ap done_in found.3.0 ∙ ap reverse found.3.1.0)
+  at_ending n TicksUsed e small =
       let stops : cstep n p input ≡ Stops TicksUsed (last_of (cstep n p input)) = run_stops n p input ∙ ap (λ x. Stops x (last_of (cstep n p input))) e in
       let found = r.goes_on input bytes n (last_of (cstep n p input)) stops small in
       so_far n found.0 (ap done_in found.3.1.0 ∙ ap reverse found.3.1.1.0)
 
 pub does_all_so_far : DoesAllSoFar
-does_all_so_far stack p frames file r = (r.image, r.loads, λ input bytes n ok small. at_ending stack p frames file r input bytes n (ending_of (cstep n p input)) refl ok small)
+does_all_so_far stack p frames file r = (r.image, r.loads, λ input bytes n small. at_ending stack p frames file r input bytes n (ending_of (cstep n p input)) refl small)
 
--- ---- of the input
+-- ---- the input
 
--- what comes of a world whatever its input: something that reads none of it, or a read
+-- the next step of a world, whatever its input: it reads none of it, or it is a read
 abbrev Quiet : World → (List ℕ → Progress) → Type 0
 Quiet w f = (x : Progress) × ((i : List ℕ) → f i ≡ with_left i x) × (reads (trace_in x) ≡ reads w.trace)
 
@@ -66,7 +69,7 @@ if_form : (t : Bool) (w : World) (f g : List ℕ → Progress) → Form w f → 
 if_form true w f g x y = x
 if_form false w f g x y = y
 
--- with a world that stands for all that differ from it in the input alone
+-- with a world that represents all that differ from it in the input alone
 puts_form : (w : World) (a : ℕ) → Form w (λ i. puts (leaving i w) a)
 puts_form w a = inl (puts w a, λ i. refl, refl)
 
@@ -90,7 +93,7 @@ tick_form : (w : World) → Form w (λ i. tick_of (leaving i w))
 unfolding tick_of
 tick_form w = let s = step_of w.machine in result_form w s.machine s.result
 
--- reads are not undone
+-- reads are not revoked
 reads_more : (x y : List Event) → reads y ≤ reads (x ++ y)
 reads_more [] y = omega arith
 reads_more (Got b ∷ x) y = omega (arith, reads_more x y)

@@ -35,7 +35,7 @@ pub same_at : (image : Image) (p : Program) (input : List ℕ) (n k : ℕ) → S
 same_at image p input n k (inl g) = g.same
 same_at image p input n k (inr e) = e.same
 
--- The file from this image does what the abstract machine does on this input, which meets nothing undefined: the stack serves, by weights or by frames.
+-- The file from this image does what the abstract machine does on this input, which meets no undefined behaviour: the stack suffices, by weights or by frames.
 pub record Serves (p : Program) (image : Image) (input : List ℕ) : Type 0 where
   pub defined : (n : ℕ) → IsDefined (answer n p input).ending
   pub ends : (n status : ℕ) → cstep n p input ≡ Stops (Ended status) (last_of (cstep n p input))
@@ -69,7 +69,7 @@ by_frames stack p frames image input r fine = record {
 }
 
 module _ (p : Program) (image : Image) (input : List ℕ) (m : Serves p image input) where
-  -- n ticks, where k instructions are so many that n < slack * k, or where both have ended
+  -- n ticks such that n < slack * k, or after which both have ended
   abbrev At : ℕ → Type 0
   At n = ((k : ℕ) × (n < m.slack * k) × GoesOn image p input n k) ⊎ ((k : ℕ) × HasEnded image p input n k)
 
@@ -117,7 +117,7 @@ module _ (p : Program) (image : Image) (input : List ℕ) (m : Serves p image in
         same = ap done_in (stays ∙ sym e.runs) ∙ e.same;
       }
 
-  -- so there is one behind any k instructions
+  -- there is such a number after any k instructions
   behind : (k : ℕ) → At (m.slack * k) → (j : ℕ) × Stands image p input (m.slack * k) (k + j)
   behind k (inl g) =
       let past = lt_of_mul-lt-mul_left m.slack {m = k} {n = g.0} g.1 in

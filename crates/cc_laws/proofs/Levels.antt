@@ -1,4 +1,4 @@
--- Of the items of a flat instruction, each instruction loads or stores nothing below the stack pointer's least, or is idle.
+-- Of the items of a flat instruction, each instruction loads or stores nothing below the lowest stack pointer, or is idle.
 use Rattle.std.proofs.Common.{◌≡◌, ◌⊎◌, inl, inr, ⊎_elim, ◌≤◌, ◌<◌, ℕ, zero, suc, ◌+◌, ◌-◌, ◌*◌, ◌/◌, ◌%◌, ◌^◌, List, [], ◌∷◌, ◌++◌, Bool, true, false, Some, refl, sym, ap, ◌∙◌, subst, arith}
 use Rattle.std.specs.Prelude.{if◌then◌else◌, ◌==◌}
 use Rattle.std.proofs.lemmas.Bool.{cases_lt}
@@ -89,7 +89,7 @@ level_or_not R level call return instruction.Return = return
 
 -- ---- their items
 
--- what stands behind the branch that a byte's items end with
+-- the instruction after the branch that a byte's items end with
 abbrev put_last : List Item
 put_last = item.Plain (instr.Branch test.Equal 10 0 16) ∷ add_to 10 0 126 ∷ add_to 17 0 93 ∷ item.Plain instr.Ecall ∷ []
 
@@ -132,7 +132,7 @@ module _ (F : Fixed) (env : ℕ → ℕ) (seg : ℕ) where
         let ws = words IsQuiet F.text env seg xs a parts.0 q parts.1 in
         quiet_fine low ws.count k le ws.each (omega (arith, lk, lj, ws.length_is))
 
-    -- behind the first word of a branch
+    -- after the first word of a branch
     past_branch : (pc sp : ℕ) (t : Test) (l n v : ℕ) (m : Light) → F.text pc ≡ Some (Branch t l n v) → HasPc pc m → HasSp sp m → HasSp sp (light_step F m)
     past_branch pc sp t l n v (Go r2 at b2 i2 h2) e ep es =
         subst (HasSp sp) (sym (at_text F r2 at b2 i2 h2 (Branch t l n v) (ap F.text ep ∙ e)))
@@ -225,7 +225,7 @@ module _ (F : Fixed) (env : ℕ → ℕ) (seg : ℕ) where
     level f first instruction.Exit low j e q le st lj k lk = quiet_form f first instruction.Exit low j e (seventeen, (tt, tt)) refl le st lj k lk
     level f first instruction.Return low j e q le st lj k lk = absurd q
 
-    -- ---- a return: what is loaded is loaded before sp changes
+    -- ---- a return: loads come before sp changes
 
     pub returns_fine : (f : Function) (low j e : ℕ) → r 2 ≤ low → Stands F.text env seg (leave f) a e → j ≤ row f instruction.Return → FineUpTo low j
     returns_fine f low j e le st lj k lk =
@@ -265,7 +265,7 @@ module _ (F : Fixed) (env : ℕ → ℕ) (seg : ℕ) where
         counts : (w x y z row n c : ℕ) → w ≡ 4 * row → w ≡ x + y → y ≡ z + 4 → x ≡ 4 * n → z ≡ 4 * c → row ≡ n + c + 1
         counts w x y z row n c p q s t u = omega arith
 
-    -- ---- an entry: what is stored is stored behind the change of sp
+    -- ---- an entry: stores come after the change of sp
 
     saving_fine : (low pc n x y : ℕ) (m : Light) → HasPc pc m → Words IsQuiet F.text pc n → x ≤ n → y < x → GoesAt low (light_run F x m) → IsFine F low (light_run F y m)
     saving_fine low pc n x y (Go r2 at b2 i2 h2) q ws lx ly g =
@@ -305,7 +305,7 @@ module _ (F : Fixed) (env : ℕ → ℕ) (seg : ℕ) where
         counts : (w x y row c n : ℕ) → w ≡ 4 * row → w ≡ x + y → x ≡ 4 * c → y ≡ 4 * n → row ≡ c + n
         counts w x y row c n p q s t = omega arith
 
-  -- ---- a call, and a program's beginning
+  -- ---- a call, and the beginning of a program
 
   abbrev called : (r : ℕ → ℕ) (a high : ℕ) → ℕ → ℕ
   called r a high = with_reg r 1 (sum32 a high)

@@ -24,3 +24,4 @@ pub mod Stretches
 pub mod Levels
 pub mod Below
 pub mod NothingBelow
+pub mod Words

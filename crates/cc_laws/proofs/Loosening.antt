@@ -1,4 +1,4 @@
--- A run that does not trap goes the same way where more is permitted.
+-- A run that does not trap takes the same steps with more permissions.
 use Rattle.std.proofs.Common.{◌≡◌, ℕ, zero, suc, ◌+◌, ◌%◌, ◌^◌, ◌&&◌, List, [], ◌∷◌, Bool, true, false, Option, Some, None, refl, sym, ap, ◌∙◌}
 use Rattle.std.specs.Prelude.{◌==◌, if◌then◌else◌}
 use Rattle.rv32.specs.declared.instr.Instr.{Instr}
@@ -18,7 +18,7 @@ use Rattle.sim.specs.Runs.{World, Progress, Running, Ended, Trapped, answered, g
 use Rattle.cc_laws.specs.Laws.{MayLoad, MayStore, IsInside}
 use Rattle.cc_laws.proofs.Permissions.{Permits, world_of, tick_permits}
 
--- the same machine, where as much may be done with memory as in another space
+-- the same machine, with at least the permissions of another space
 abbrev pub loose : Space → Machine → Machine
 loose t m = record {
   registers = m.registers;
@@ -35,7 +35,7 @@ pub record Allows (s t : Space) : Type 0 where
   pub writes : (a : ℕ) → s.can_write a ≡ true → t.can_write a ≡ true
   pub executes : (a : ℕ) → s.can_execute a ≡ true → t.can_execute a ≡ true
 
--- ---- what is tested
+-- ---- tests
 
 two : (x y z w : Bool) → (x ≡ true → z ≡ true) → (y ≡ true → w ≡ true) → (x && y) ≡ true → (z && w) ≡ true
 two true true z w p q h = rw (p refl, q refl) refl
@@ -149,7 +149,7 @@ module _ (t : Space) (m : Machine) (al : Allows m.space t) where
   step_loose h = aligned_loose t m cause.Target (m.pc % 4 == 0) _ _
       (fetched_loose (word_at m.space.byte m.pc) (all_four m.space.can_execute m.pc) (all_four t.can_execute m.pc) (four_more m.space.can_execute t.can_execute al.executes m.pc)) h
 
--- ---- a call of the environment
+-- ---- an environment call
 
 abbrev pub loose_progress : Space → Progress → Progress
 loose_progress t (Running w) = Running (loose_world t w)
@@ -224,7 +224,7 @@ runs_loosely t (suc k) w v al e =
     let on = on_tick t k (tick_of w) v further (λ x more f. runs_loosely t k x v more f) e in
     ap (λ p. goes_on p (rvrun k)) (tick_loose t w al on.1) ∙ on.0
 
--- ---- a run that ends, too
+-- ---- a run that ends
 
 after_tick : (t : Space) (k : ℕ) (q : Progress) → Allows (world_of q).machine.space t
     → ((x : World) → Allows x.machine.space t → NeverTrapped (rvrun k x) → rvrun k (loose_world t x) ≡ loose_progress t (rvrun k x))
@@ -240,7 +240,7 @@ runs_as_loosely t (suc k) w al n =
     let on = after_tick t k (tick_of w) further (λ x more m. runs_as_loosely t k x more m) n in
     ap (λ p. goes_on p (rvrun k)) (tick_loose t w al on.1) ∙ on.0
 
--- ---- what a step may do, where more is permitted
+-- ---- what a step may do with more permissions
 
 load_more : (s t : Space) (kind : LoadKind) (a : ℕ) → Allows s t → MayLoad s kind a → MayLoad t kind a
 load_more s t load_kind.Byte a al h = al.reads a h

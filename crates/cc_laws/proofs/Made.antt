@@ -1,4 +1,4 @@
--- What may be done with the memory of a file that is made of a program.
+-- The permissions of the memory of a file made of a program.
 use Rattle.std.proofs.Common.{◌≡◌, Ok, refl, sym, subst}
 use Rattle.loader.specs.File.{file_image}
 use Rattle.elf_out.specs.Layout.{Parts}

@@ -1,4 +1,4 @@
--- In the run of a file nothing below the stack pointer is loaded or stored, where the program stays defined.
+-- In the run of a file nothing below the stack pointer is loaded or stored, if the program stays defined.
 use Rattle.std.proofs.Common.{◌≡◌, ⊎_elim, ℕ, ◌+◌, ◌-◌, ◌≤◌, List, Ok, refl, sym, ap, ◌∙◌, subst, arith}
 use Rattle.std.proofs.lemmas.Bool.{cases_lt}
 use Rattle.loader.specs.File.{file_image}
@@ -18,7 +18,7 @@ use Rattle.cc_laws.proofs.Conventions.{fits}
 use Rattle.cc_laws.proofs.ByFrames.{fits_within}
 use Rattle.cc_laws.proofs.Overflowing.{flat_at}
 
--- where the program meets nothing undefined, flat code is never stuck
+-- if the program meets no undefined behaviour, flat code is never stuck
 module _ (stack : ℕ) (p : Program) (file frames : List ℕ) (made : IsFileOf stack p file frames) (input : List ℕ) (bytes : IsInput input) (fine : IsAlwaysDefined p input) where
   abbrev at : ℕ → flat.Progress
   at n = flat.run made.code n (flat.start made.code input)
@@ -48,7 +48,7 @@ files_touch_nothing_below stack p file frames made =
           all_above made.code made.parts made.image_is input bytes (fits stack p file frames made input bytes fine) (never_stuck stack p file frames made input bytes (λ n. (fine n).0)) k w e,
     )
 
--- or where the frames of the active calls are within the stack
+-- or if the frames of the active calls are within the stack
 pub files_touch_nothing_below_within_frames : (stack : ℕ) (p : Program) (file frames : List ℕ) (made : IsFileOf stack p file frames)
     → HasImage file (λ image. (input : List ℕ) → IsInput input → StaysWithinFrames stack frames p input → TouchesNothingBelow made.parts image input)
 files_touch_nothing_below_within_frames stack p file frames made =

@@ -43,7 +43,7 @@ use Rattle.cc_laws.proofs.Callers.{Called, run_called, step_within, Within}
 use Rattle.cc_laws.proofs.Wide as wide_image
 use Rattle.cc_laws.proofs.Wide.{Bursts, fits_or_bursts, cannot_be_same}
 
--- ---- what was done, from the newest on and from the oldest on
+-- ---- traces, from the newest event and from the oldest
 
 end_further : (a b c : List Event) → IsEndOf a b → IsEndOf b c → IsEndOf a c
 end_further a b c x y = (y.0 ++ x.0, y.1 ∙ (ap (λ z. y.0 ++ z) x.1 ∙ sym (append_assoc y.0 x.0 a)))
@@ -170,7 +170,7 @@ module _ (stack : ℕ) (p : Program) (file frames : List ℕ) (made : IsFileOf s
         }
       ]
 
-  -- what is done at a step of flat code stays done
+  -- the trace at a step of flat code is kept
   ends_later : (m : ℕ) (h : List Event) → ((s : flat.State) → at m ≡ flat.running s → s.trace ≡ h) → ((status : ℕ) (left : List ℕ) (trace : List Event) → at m ≡ flat.ended status left trace → trace ≡ h)
       → (at m ≡ flat.stuck → ⊥) → (s : flat.State) (j : ℕ) → j ≤ m → at j ≡ flat.running s → IsEndOf s.trace h
   ends_later m h on over never s j le e =
@@ -235,7 +235,7 @@ module _ (stack : ℕ) (p : Program) (file frames : List ℕ) (made : IsFileOf s
       let b = end_begins (machine.trace_of (run_of image input k)) whole_trace e in
       (b.0, sym same ∙ (b.1 ∙ ap (λ xs. xs ++ b.0) (sym (done_is (run_of image input k)))))
 
-  -- what the wider run has done at k is what the file has done, or the file was refused and has done a beginning of it
+  -- what the run with more permissions has done at k is what the file has done, or the file was refused and has done a prefix of it
   done_at : (k : ℕ) (whole : List Event) → IsSame wide k begin ⊎ IsRefused wide k begin → IsEndOf (machine.trace_of (widely k)) whole → IsEndOf (machine.trace_of (run_of image input k)) whole
   done_at k whole_trace (inl same) e = subst (λ h. IsEndOf h whole_trace) (ap machine.trace_of same ∙ same_trace wide (run_of image input k)) e
   done_at k whole_trace (inr r) e =
@@ -246,7 +246,7 @@ module _ (stack : ℕ) (p : Program) (file frames : List ℕ) (made : IsFileOf s
   traps_so k never (inl same) c w e = absurd (never c (loose_world wide w) (same ∙ ap (loose_progress wide) e))
   traps_so k never (inr r) c w e = overflow k r c w e
 
-  -- where the file has ended, so has the wider run
+  -- if the file has ended, so has the run with more permissions
   ended_too : (k : ℕ) → IsSame wide k begin ⊎ IsRefused wide k begin → (status : ℕ) (w : World) → run_of image input k ≡ sim.Ended status w → widely k ≡ sim.Ended status (loose_world wide w)
   ended_too k (inl same) status w e = same ∙ ap (loose_progress wide) e
   ended_too k (inr r) status w e = let both = sym r.traps ∙ e in cc

@@ -17,7 +17,7 @@ use Rattle.rv32.specs.Space.{Space, fetch_of, with_bytes, both, all_four, byte_p
 use Rattle.rv32.specs.Step.{Machine, Stepped, register, step_of, execute_of, decoded, fetched, gives, jumps, links, loaded, load_of, stored, store_of}
 use Rattle.sim.specs.Runs.{World, Progress, Running, Ended, Trapped, answered, with_space, gets, puts, call_of, result_of, tick_of, goes_on, rvrun}
 
--- a byte that may not be written is none that was written
+-- a byte that is not writable is not one that was written
 byte_kept : (w : ℕ → Bool) (a k v x : ℕ) → w a ≡ true → w k ≡ false → byte_put a v k x ≡ x
 byte_kept w a k v x p q =
     bool_cases (eqb k a)
@@ -37,7 +37,7 @@ word_kept w a k v x p q =
     let p0 = and_left _ _ r2 in
     byte_kept w a k _ _ p0 q ∙ (byte_kept w (a + 1) k _ _ p1 q ∙ (byte_kept w (a + 2) k _ _ p2 q ∙ byte_kept w (a + 3) k _ _ p3 q))
 
--- t has the permissions of s, and the bytes that may not be written
+-- t has the permissions of s, and the same bytes where they are not writable
 pub record Permits (s t : Space) : Type 0 where
   pub can_read : (a : ℕ) → t.can_read a ≡ s.can_read a
   pub can_write : (a : ℕ) → t.can_write a ≡ s.can_write a
@@ -126,7 +126,7 @@ fetched_kept m (Some word) = decoded_kept m (decode_of word)
 step_kept : (m : Machine) → Kept m (step_of m)
 step_kept m = if_kept m (m.pc % 4 == 0) _ _ (fetched_kept m (fetch_of m.space m.pc)) (same m.space)
 
--- ---- a call of the environment
+-- ---- an environment call
 
 abbrev pub world_of : Progress → World
 world_of (Running w) = w

@@ -1,4 +1,4 @@
--- Items that leave the stack pointer alone, and go on from each word to the next.
+-- Items that do not change the stack pointer, and go on from each word to the next.
 use Rattle.std.proofs.Common.{◌≡◌, ◌<◌, ℕ, zero, suc, ◌+◌, ◌-◌, ◌*◌, ◌%◌, ◌^◌, List, [], ◌∷◌, ◌++◌, Bool, true, false, Option, Some, None, refl, subst, arith}
 use Rattle.std.specs.Prelude.{◌==◌, if◌then◌else◌, nat_lt}
 use Rattle.std.proofs.lemmas.List.Sums.{sum_by-append}
@@ -37,7 +37,7 @@ Word Q T x = (k : Instr) × (T x ≡ Some k) × Q k
 abbrev pub Words : (Instr → Type 0) → (ℕ → Option Instr) → (a n : ℕ) → Type 0
 Words Q T a n = (m : ℕ) → m < n → Word Q T (a + 4 * m)
 
--- of all that an item may stand as; a jump is not spoken of
+-- of each form that an item may take; a jump is not covered
 abbrev pub OfItem : (Instr → Type 0) → Item → Type 0
 OfItem Q (item.Mark l) = Unit {0}
 OfItem Q (item.Plain i) = Q i
@@ -52,7 +52,7 @@ abbrev pub OfAll : (Instr → Type 0) → List Item → Type 0
 OfAll Q [] = Unit {0}
 OfAll Q (x ∷ xs) = OfItem Q x × OfAll Q xs
 
--- items of which this holds are so many words, of which it holds
+-- items with this property are words with this property
 pub record AreWords (Q : Instr → Type 0) (T : ℕ → Option Instr) (xs : List Item) (a e : ℕ) : Type 0 where
   pub count : ℕ
   pub length_is : longest xs ≡ 4 * count
@@ -135,7 +135,7 @@ IsQuiet (Fence rd s v) = Unit {0}
 IsQuiet Ecall = Unit {0}
 IsQuiet Ebreak = Unit {0}
 
--- it goes on to the next word, and only computes: sp too
+-- it goes on to the next word, and only computes, possibly sp
 abbrev pub IsBare : Instr → Type 0
 IsBare (Lui rd v) = Unit {0}
 IsBare (Auipc rd v) = ⊥
@@ -325,7 +325,7 @@ restores_quiet : (f : Function) (k : ℕ) → AreQuiet (restores f k)
 restores_quiet f zero = tt
 restores_quiet f (suc k) = quiet_both (restores f k) _ (restores_quiet f k) (load_word_quiet (kept k) (cell_home f k) (kept_off k))
 
--- behind the change of sp at a function's entry
+-- after the change of sp at a function's entry
 pub saving_quiet : (f : Function) → AreQuiet (keep_return f ++ saves f f.resident)
 saving_quiet f = quiet_both (keep_return f) _ (quiet_either (calls f.code) _ _ (store_word_quiet 1 (return_home f)) tt) (saves_quiet f f.resident)
 

@@ -1,4 +1,4 @@
--- A run beside the run from the same machine where more may be read and written: they do the same until a load or a store is refused.
+-- A run beside the run from the same machine with more permissions: they do the same until a load or a store is refused.
 use Rattle.std.proofs.Common.{◌≡◌, ◌⊎◌, inl, inr, ℕ, zero, suc, ◌+◌, refl, sym, ap, ◌∙◌, subst, arith}
 use Rattle.rv32.specs.declared.state.Cause.{Cause}
 use Rattle.rv32.specs.Space.{Space}
@@ -12,7 +12,7 @@ use Rattle.cc_laws.proofs.Steps.{inside_now}
 use Rattle.cc_laws.proofs.Loosening.{loose_world, loose_progress, NeverTrapped, Allows, tick_loose, permits_further}
 use Rattle.cc_laws.proofs.Faults.{IsFault, tick_only}
 
--- what s permits, t permits, and to execute no more
+-- what s permits, t permits, and the executable bytes are the same
 pub record Widens (s t : Space) : Type 0 where
   pub allows : Allows s t
   pub executes : (a : ℕ) → t.can_execute a ≡ s.can_execute a
@@ -20,7 +20,7 @@ pub record Widens (s t : Space) : Type 0 where
 widens_further : (s u t : Space) → kept.Permits s u → Widens s t → Widens u t
 widens_further s u t k w = record { allows = permits_further s u t k w.allows; executes = λ a. w.executes a ∙ sym (k.can_execute a) }
 
--- the run has trapped where the other went on, having done what that had done so far
+-- the run has trapped when the other went on, having done what that had done so far
 pub record IsRefused (t : Space) (k : ℕ) (w : World) : Type 0 where
   pub reason : Cause
   pub world : World

@@ -331,7 +331,7 @@ module _ (T : ℕ → Option Instr) (env : ℕ → ℕ) (seg : ℕ) where
       let same : i ≡ k = cc in
       subst Frees same f
 
-  -- at the first word, or behind it
+  -- at the first word, or after it
   word : (a x : ℕ) (i k : Instr) → T a ≡ Some i → Frees i → a % 4 ≡ 0 → x % 4 ≡ 0 → a ≤ x → T x ≡ Some k → (a + 4 ≤ x → Frees k) → Frees k
   word a x i k t f al ax le u more =
       ⊎_elim (λ lt. more (omega (arith, lt, al, ax))) (λ ge. one_word a x i k t f (omega (arith, ge, le)) u) (cases_lt a x)
@@ -442,11 +442,11 @@ fetch_either : (m : Machine) (t : Bool) (x : ℕ) → ((i : Instr) → decode_of
 fetch_either m true x f h = decoded_free m (decode_of x) f h
 fetch_either m false x f h = h
 
--- where the instruction at the pc writes neither
+-- if the instruction at the pc writes neither
 step_free : (m : Machine) → ((i : Instr) → instruction_at m ≡ Some i → Frees i) → Reserved m → Reserved (step_of m).machine
 step_free m f h = step_either (m.pc % 4 == 0) _ _ (fetch_either m (all_four m.space.can_execute m.pc) (word_at m.space.byte m.pc) f h) h
 
--- ---- a call of the environment
+-- ---- an environment call
 
 abbrev ReservedIn : Progress → Type 0
 ReservedIn x = Reserved (world_of x).machine
@@ -494,7 +494,7 @@ module _ (p : Program) (parts : Parts) (q : IsImageOf p parts) (input : List ℕ
   abbrev first_bytes : ℕ → ℕ
   first_bytes = (program_space parts).byte
 
-  -- a step that traps not begins at a multiple of 4
+  -- a step that does not trap begins at a multiple of 4
   aligned_if : (m : Machine) (t : Bool) (s : Stepped) → NoTrap (if t then s else trapped m cause.Target) → t ≡ true
   aligned_if m true s h = refl
   aligned_if m false s h = absurd (h cause.Target refl)
@@ -519,7 +519,7 @@ module _ (p : Program) (parts : Parts) (q : IsImageOf p parts) (input : List ℕ
       let r2 = and_left _ _ r in
       within_low text_start (length parts.text) x (and_left _ _ r2)
 
-  -- where the run goes on, the word at the pc is one of the text's
+  -- if the run goes on, the word at the pc is one of the text's
   free_at : (k : ℕ) (v u : World) → rvrun k begin ≡ Running v → tick_of v ≡ Running u → (i : Instr) → instruction_at v.machine ≡ Some i → Frees i
   free_at k v u e t i at =
       let m = v.machine in

@@ -1,4 +1,4 @@
--- What a step may do that is no trap.
+-- What a step may do that does not trap.
 use Rattle.std.proofs.Common.{◌≡◌, ℕ, ◌+◌, ◌%◌, ◌^◌, ◌&&◌, Bool, true, false, Option, Some, None, refl, ap, ◌∙◌, subst}
 use Rattle.std.specs.Prelude.{◌==◌, if◌then◌else◌}
 use Rattle.rv32.specs.declared.instr.Instr.{Instr}
@@ -88,7 +88,7 @@ may_store m store_kind.Byte a v h = stored_well m (m.space.can_write a) (byte_pu
 may_store m store_kind.Half a v h = stored_well m (both m.space.can_write a) (half_put a v) (is_aligned m (a % 2 == 0) (stored m (both m.space.can_write a) (half_put a v)) h)
 may_store m store_kind.Word a v h = stored_well m (all_four m.space.can_write a) (word_put a v) (is_aligned m (a % 4 == 0) (stored m (all_four m.space.can_write a) (word_put a v)) h)
 
--- ---- a call of the environment
+-- ---- an environment call
 
 -- with 63 in a7
 gets_well : (w : World) (n : ℕ) (others may more : Bool) (ends got put : Progress) → n ≡ 63
@@ -124,7 +124,7 @@ call_ticks : (w : World) → step_of w.machine ≡ execute_of w.machine Ecall �
 unfolding tick_of
 call_ticks w e = ap (λ (s : Stepped). result_of w s.machine s.result) e
 
--- ---- all of it
+-- ---- all together
 
 pub inside_now : (w : World) → NeverTrapped (tick_of w) → IsInside w.machine.space w.machine
 inside_now w h =

@@ -16,7 +16,7 @@ use Rattle.select_exec.specs.Light.{Fixed, Light, Go, Done, Fell, reg, with_reg,
 use Rattle.select_exec.proofs.Words.{with_other}
 use Rattle.cc_laws.proofs.Quiet.{Word, Words, IsOff, IsQuiet, IsBare, ten}
 
--- ---- what is said of a light machine: where it goes on, and nothing else
+-- ---- a property of a light machine that goes on, and of no other
 
 abbrev pub At : (pc sp : ℕ) → Light → Type 0
 At pc sp (Go r at b i h) = (at ≡ pc) × (r 2 ≡ sp)
@@ -33,7 +33,7 @@ HasPc pc (Go r at b i h) = at ≡ pc
 HasPc pc (Done s h) = Unit {0}
 HasPc pc (Fell h) = Unit {0}
 
--- it neither loads nor stores; where it is a call of the environment, that ends the run
+-- it neither loads nor stores; if it is an environment call, that ends the run
 abbrev pub IsIdle : (ℕ → ℕ) → Instr → Type 0
 IsIdle r (Lui rd v) = Unit {0}
 IsIdle r (Auipc rd v) = Unit {0}
@@ -70,7 +70,7 @@ fine_low F low sp (Go r at b i h) le q = inl (omega (arith, q, le))
 fine_low F low sp (Done s h) le q = tt
 fine_low F low sp (Fell h) le q = tt
 
--- the word at pc is idle whatever the registers
+-- the word at pc is idle for any registers
 pub fine_idle : (F : Fixed) (low pc : ℕ) (m : Light) → Word (λ k. (r : ℕ → ℕ) → IsIdle r k) F.text pc → HasPc pc m → IsFine F low m
 fine_idle F low pc (Go r at b i h) w q = inr (w.0, ap F.text q ∙ w.1, w.2 r)
 fine_idle F low pc (Done s h) w q = tt
@@ -156,7 +156,7 @@ module _ (F : Fixed) (r : ℕ → ℕ) (pc : ℕ) (b : ℕ → ℕ) (i : List �
   bare_step Ecall f = absurd f
   bare_step Ebreak f = absurd f
 
-  -- a branch leaves sp alone, wherever it leads
+  -- a branch does not change sp, wherever it leads
   pub branch_step : (t : Test) (l k v : ℕ) → HasSp (r 2) (act F (Some (Branch t l k v)) r pc b i h)
   branch_step t l k v = let to = if compare_of t (reg r l) (reg r k) then sum32 pc v else pc + 4 in sp_either (r 2) (to % 4 == 0) (Go r to b i h) (Fell h) refl tt
 
@@ -178,10 +178,10 @@ bare_idle (Fence rd s v) f r = absurd f
 bare_idle Ecall f r = absurd f
 bare_idle Ebreak f r = absurd f
 
--- ---- so many words
+-- ---- several words
 
 module _ (F : Fixed) where
-  -- the first word, and those behind it
+  -- the first word, and those after it
   first : (Q : Instr → Type 0) (a n : ℕ) → Words Q F.text a (suc n) → Word Q F.text a
   first Q a n ws = let here : a + 4 * 0 ≡ a = omega arith in subst (Word Q F.text) here (ws 0 (omega arith))
 
@@ -205,7 +205,7 @@ module _ (F : Fixed) where
   quiet_on k n a sp more le ws (Done status h) q = stays_done (a + 4 * suc k) sp k status h
   quiet_on k n a sp more le ws (Fell h) q = stays_fell (a + 4 * suc k) sp k h
 
-  -- words that are quiet are gone through one by one, and sp stays
+  -- quiet words are executed one by one, and sp stays
   pub quiet_run : (k : ℕ) → QuietRuns k
   quiet_run zero n a r b i h le ws = let here : a ≡ a + 4 * zero = omega arith in (here, refl)
   quiet_run (suc k) zero a r b i h le ws = absurd (omega (arith, le))
@@ -220,7 +220,7 @@ module _ (F : Fixed) where
   still : (pc : ℕ) (m : Light) (e : Light) → m ≡ e → HasPc pc e → HasPc pc m
   still pc m e same q = subst (HasPc pc) (sym same) q
 
-  -- words that are bare are gone through one by one
+  -- bare words are executed one by one
   pub bare_run : (k : ℕ) → BareRuns k
   bare_run zero n a (Go r at b i h) q le ws = let here : at ≡ a + 4 * zero = omega (arith, q) in here
   bare_run zero n a (Done status h) q le ws = tt

@@ -1,4 +1,4 @@
--- A run touches the stack no deeper than the frames of its calls: where less of the stack may be read and written it goes the same way.
+-- A run touches the stack no deeper than the frames of its calls: with less of the stack readable and writable it takes the same steps.
 use Rattle.std.proofs.Common.{◌≡◌, ℕ, ◌+◌, ◌-◌, ◌*◌, ◌<◌, ◌≤◌, List, [], length, Bool, true, false, ◌||◌, Ok, refl, sym, ap, ◌∙◌, subst, arith}
 use Rattle.std.specs.Prelude.{replicate}
 use Rattle.rv32.specs.declared.state.Cause.{Cause}
@@ -34,7 +34,7 @@ pub or_more : (a b c : Bool) → (b ≡ true → c ≡ true) → (a || b) ≡ tr
 or_more true b c h e = refl
 or_more false b c h e = h e
 
--- ---- runs that come to where they go on
+-- ---- runs that reach a state from which they go on
 
 abbrev pub GoesOn : sim.Progress → Type 0
 GoesOn x = (v : World) × (x ≡ Running v)
@@ -53,7 +53,7 @@ goes_before j k w v le e =
     (λ status u f. let both = sym (keep.1 status u f) ∙ later in cc)
     (λ c u f. let both = sym (keep.2 c u f) ∙ later in cc)
 
--- ---- an image of which less of the stack may be used
+-- ---- an image with less of its stack
 
 module _ (p : Program) (parts : Parts) (q : IsImageOf p parts) (most : ℕ) (le : most ≤ parts.stack) where
   abbrev low : ℕ
@@ -97,7 +97,7 @@ module _ (p : Program) (parts : Parts) (q : IsImageOf p parts) (most : ℕ) (le 
   room (ended status input trace) fit = tt
   room stuck fit = tt
 
-  -- in the stack from `low` on one is in the stack
+  -- an address in the stack above `low` is in the stack
   within_stack : (a : ℕ) → is_within low (stack_end - low) a ≡ true → is_stack parts a ≡ true
   within_stack a e =
       let r = within_low low (stack_end - low) a e in

@@ -25,7 +25,7 @@ use Rattle.cc_laws.proofs.Permissions.{Permits, world_of, run_permits}
 use Rattle.cc_laws.proofs.Steps.{inside_now}
 use Rattle.cc_laws.proofs.Instants.{Stands, same_at, Serves, by_weights, at_some, at_later}
 
--- it is enough to say it of the image that the file is known to run from
+-- it suffices to prove it of the image that the file is known to run from
 of_each : (Promise : Program → Image → List ℕ → Type 0) → ((p : Program) (image : Image) (input : List ℕ) → Serves p image input → Promise p image input) → OfEachFile Promise
 of_each Promise holds stack p frames file r = (r.image, r.loads, λ input bytes fine. holds p r.image input (by_weights stack p frames file r input bytes fine))
 
@@ -141,7 +141,7 @@ ends_as_meant p image input m k status w e =
 pub ends_only_so : EndsOnlySo
 ends_only_so = of_each OnlySo ends_as_meant
 
--- ---- how soon
+-- ---- the time
 
 some_at : {A : Type 0} (xs : List A) (k : ℕ) → k < length xs → (x : A) × (slice_get xs k ≡ Some x)
 some_at [] k h = absurd (omega arith)

@@ -1,5 +1,5 @@
--- A file's image where all between the data and the end of the stack may be read and written: flat code of any depth that fits is followed there. The run of the file
--- itself cannot be the same where frames lie far below the stack, since what lies there stays zero, and no call is returned to at address zero.
+-- A file's image with all between the data and the end of the stack readable and writable: flat code of any depth that fits is followed there. The run of the file
+-- itself cannot be the same if frames are far below the stack, since what is there stays zero, and no call returns to address zero.
 use Rattle.std.proofs.Common.{◌≡◌, ◌⊎◌, inl, inr, ℕ, zero, suc, ◌+◌, ◌-◌, ◌^◌, ◌<◌, ◌≤◌, List, [], ◌∷◌, length, true, false, refl, sym, ap, ◌∙◌, subst, arith}
 use Rattle.std.specs.Prelude.{nat_le}
 use Rattle.std.proofs.lemmas.Bool.Decides.{nat_tests}
@@ -109,7 +109,7 @@ module _ (p : Program) (parts : Parts) (q : IsImageOf p parts) where
     executes = λ a. refl;
   }
 
-  -- ---- what lies between the data and the stack is zero, and stays so
+  -- ---- what is between the data and the stack is zero, and stays so
 
   gap_is_zero : (a : ℕ) → low ≤ a → a < stack_start parts.stack → first_bytes a ≡ 0
   unfolding program_space
@@ -130,7 +130,7 @@ module _ (p : Program) (parts : Parts) (q : IsImageOf p parts) where
   word_is_zero b zeros a lo hi =
       rw (zeros a lo (omega (arith, hi)), zeros (a + 1) (omega (arith, lo)) (omega (arith, hi)), zeros (a + 2) (omega (arith, lo)) (omega (arith, hi)), zeros (a + 3) (omega (arith, lo)) (omega (arith, hi))) refl
 
-  -- no call is returned to at zero
+  -- no call returns to address zero
   returns_past_zero : (ws : List Frame) (b s : ℕ → ℕ) (base ra : ℕ) → AreBehindCalls p ws → Waits G ws b s base ra → ra ≡ 0 → ⊥
   returns_past_zero [] b s base ra callers st e = omega (arith, st.3, e)
   returns_past_zero (w ∷ ws) b s base ra callers st e =
@@ -140,7 +140,7 @@ module _ (p : Program) (parts : Parts) (q : IsImageOf p parts) where
       let same : address G w.function w.at ≡ address G w.function (c.0 + 1) = ap (address G w.function) c.2 in
       omega (arith, next, same, st.0.at_is, e)
 
-  -- so no frame of a call that waits lies below the stack whole
+  -- so no frame of a waiting call is below the stack as a whole
   waits_not_below : (ws : List Frame) (b s : ℕ → ℕ) (base ra : ℕ) → IsZeroBelow b → AreBehindCalls p ws → Waits G ws b s base ra → low ≤ base → base + 2 ^ 24 ≤ stack_start parts.stack → ⊥
   waits_not_below [] b s base ra zeros callers st lo hi = omega (arith, st.0, hi, q.stack.1)
   waits_not_below (w ∷ ws) b s base ra zeros callers st lo hi =
@@ -162,12 +162,12 @@ module _ (p : Program) (parts : Parts) (q : IsImageOf p parts) where
       waits_not_below s.waiting at.b (file_below f at.b m.sp (file_of at.r)) (m.sp + frame_bytes f) (return_at f at.b m.sp (at.r 1)) zeros callers m.waits (omega (arith, m.low))
       (omega (arith, at.sum, large, small, q.stack.2))
 
-  -- ---- how far flat code fits there
+  -- ---- the depth of flat code that fits
 
   abbrev pub at_step : List ℕ → ℕ → Progress
   at_step input i = run p i (start p input)
 
-  -- the step behind so many is the first whose frames do not fit
+  -- the next step is the first whose frames do not fit
   pub record Bursts (input : List ℕ) (m : ℕ) : Type 0 where
     pub j : ℕ
     pub before : j < m

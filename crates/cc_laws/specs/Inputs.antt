@@ -1,4 +1,4 @@
--- What a file does before it meets undefined behaviour, and that it depends on no more of its input than it has read.
+-- What a file does before it meets undefined behaviour, and that it depends only on the input that it has read.
 use Rattle.std.specs.Prelude.{◌≡◌, ◌≤◌, ℕ, suc, List, [], ◌∷◌, ◌++◌, length}
 use Rattle.csem_events.specs.Events.{Event, Got, GotEnd, Put}
 use Rattle.loader.specs.File.{Image}
@@ -7,23 +7,23 @@ use Rattle.sim.specs.Runs.{World, Progress, Running, Trapped}
 use Rattle.typing_spec.specs.Program.{Program}
 use Rattle.csem.specs.Meaning.{answer}
 use Rattle.cc_backend.specs.Runs.{RunsAs, IsInput}
-use Rattle.cc_laws.specs.Laws.{IsDefined, HasImage, run_of, done_in, IsBeginning}
+use Rattle.cc_laws.specs.Laws.{HasImage, run_of, done_in, IsBeginning}
 
 -- ---- up to undefined behaviour
 
--- Where the abstract machine has met nothing undefined within n ticks, and its calls were within the stack, whatever comes later: after some k instructions the file
--- has done all that it did, and at each before, a beginning of it.
+-- Whatever the abstract machine does within n ticks, up to undefined behaviour where it meets any, also within the tick in which it meets it, and whatever would come
+-- later: where its calls were within the stack, after some k instructions the file has done all that it did, and at each before, a beginning of it.
 abbrev pub DoesAllSoFar : Type 0
 DoesAllSoFar =
     (stack : ℕ) (p : Program) (frames file : List ℕ) → RunsAs stack p frames file
     → HasImage file (λ image. (input : List ℕ) → IsInput input
-    → (n : ℕ) → IsDefined (answer n p input).ending → (answer n p input).greatest ≤ stack
+    → (n : ℕ) → (answer n p input).greatest ≤ stack
     → (k : ℕ) × (done_in (run_of image input k) ≡ (answer n p input).trace)
     × ((j : ℕ) → j ≤ k → IsBeginning (done_in (run_of image input j)) (answer n p input).trace))
 
--- ---- of its input
+-- ---- the input
 
--- how often the input was read, its end too
+-- how often the input was read, the end included
 abbrev pub reads : List Event → ℕ
 reads [] = 0
 reads (Got b ∷ earlier) = suc (reads earlier)
@@ -44,7 +44,7 @@ with_left input (Running w) = Running (leaving input w)
 with_left input (sim.Ended status w) = sim.Ended status (leaving input w)
 with_left input (Trapped c w) = Trapped c (leaving input w)
 
--- The runs of an image on two inputs that begin with the same bytes a: as long as the first has read no more often than a has bytes, they are the same but for the
+-- The runs of an image on two inputs that begin with the same bytes a: as long as the first has read no more often than a has bytes, they are the same except for the
 -- input that is left.
 abbrev pub ReadsAsItGoes : Type 0
 ReadsAsItGoes =

@@ -1,4 +1,4 @@
--- What is promised of a built file, in the words of what is seen of it: what it does to its outside, whether it traps, with which status it ends
+-- What is promised of a built file, in terms of its observable behaviour: its input and output, whether it traps, with which status it ends
 -- (ISO/IEC 9899:2011 5.1.2.3p6).
 use Rattle.std.specs.Prelude.{◌≡◌, ◌≤◌, ◌<◌, ℕ, ◌+◌, ◌-◌, ◌*◌, ◌%◌, ◌^◌, ◌||◌, nat_le, if◌then◌else◌, List, ◌++◌, length, reverse, true, Option, Some, Ok}
 use Rattle.srcset.specs.declared.refusal.Pos.{Pos}
@@ -34,15 +34,15 @@ use Rattle.cc_backend.specs.Runs.{RunsAs, IsInput}
 use Rattle.cc_backend.specs.FlatImages.{FitStack}
 use Rattle.cc_backend.specs.Made.{IsFileOf}
 
--- ---- of whom it is said
+-- ---- the premises
 
--- the run has ended with a status, or has used its ticks: it has met nothing undefined
+-- the run has ended with a status, or has used its ticks: it has met no undefined behaviour
 abbrev pub IsDefined : Ending → Type 0
 IsDefined (Ended status) = Unit {0}
 IsDefined (Undefined act at) = ⊥
 IsDefined TicksUsed = Unit {0}
 
--- for every number of ticks, the program meets nothing undefined on this input, and the weights of its active calls never sum to more than the stack
+-- for every number of ticks, the program meets no undefined behaviour on this input, and the weights of its active calls never sum to more than the stack
 abbrev pub StaysDefined : (stack : ℕ) → Program → (input : List ℕ) → Type 0
 StaysDefined stack p input = (n : ℕ) → IsDefined (answer n p input).ending × ((answer n p input).greatest ≤ stack)
 
@@ -60,7 +60,7 @@ OfEachFile Promise =
 abbrev pub run_of : Image → (input : List ℕ) → (k : ℕ) → Progress
 run_of image input k = rvrun k (start_world image input)
 
--- what a run did to its outside, in order
+-- the input and output of a run so far, in order
 abbrev pub done_in : Progress → List Event
 done_in (Running w) = reverse w.trace
 done_in (sim.Ended status w) = reverse w.trace
@@ -75,17 +75,17 @@ DoesAll = OfEachFile (λ p image input. (n : ℕ) → (k : ℕ) × (done_in (run
 abbrev pub IsBeginning : (first whole : List Event) → Type 0
 IsBeginning first whole = (more : List Event) × (whole ≡ first ++ more)
 
--- and nothing else: what the file has done after any k instructions is a beginning of what the abstract machine does within some n ticks
+-- and nothing else: what the file has done after any k instructions is a prefix of what the abstract machine does within some n ticks
 abbrev pub DoesNoMore : Type 0
 DoesNoMore = OfEachFile (λ p image input. (k : ℕ) → (n : ℕ) × IsBeginning (done_in (run_of image input k)) (answer n p input).trace)
 
 -- ---- where it stays
 
--- after no k instructions has it trapped
+-- it has not trapped after any number of instructions
 abbrev pub NeverTraps : Type 0
 NeverTraps = OfEachFile (λ p image input. (k : ℕ) (c : Cause) (w : World) → run_of image input k ≡ Trapped c w → ⊥)
 
--- each byte that a load at a gets may be read
+-- each byte that a load at a reads is readable
 abbrev pub MayLoad : Space → LoadKind → (a : ℕ) → Type 0
 MayLoad s load_kind.Byte a = s.can_read a ≡ true
 MayLoad s load_kind.ByteUnsigned a = s.can_read a ≡ true
@@ -93,18 +93,18 @@ MayLoad s load_kind.Half a = both s.can_read a ≡ true
 MayLoad s load_kind.HalfUnsigned a = both s.can_read a ≡ true
 MayLoad s load_kind.Word a = all_four s.can_read a ≡ true
 
--- each byte that a store at a puts may be written
+-- each byte that a store at a writes is writable
 abbrev pub MayStore : Space → StoreKind → (a : ℕ) → Type 0
 MayStore s store_kind.Byte a = s.can_write a ≡ true
 MayStore s store_kind.Half a = both s.can_write a ≡ true
 MayStore s store_kind.Word a = all_four s.can_write a ≡ true
 
--- the instruction at which the machine stands
+-- the instruction at the machine's pc
 abbrev pub instruction_at : Machine → Option Instr
 instruction_at m = decode_of (word_at m.space.byte m.pc)
 
--- The word at the pc may be executed. What it loads may be read, and what it stores may be written; where it is a call of the environment, the byte at
--- a1 that 63 stores may be written, and the one that 64 loads may be read.
+-- The word at the pc is executable. What it loads is readable, and what it stores is writable; if it is an environment call, the byte at
+-- a1 that 63 stores is writable, and the one that 64 loads is readable.
 pub record IsInside (s : Space) (m : Machine) : Type 0 where
   pub fetches : all_four s.can_execute m.pc ≡ true
   pub loads : (kind : LoadKind) (rd base v : ℕ) → instruction_at m ≡ Some (Load kind rd base v) → MayLoad s kind ((register m base + v) % 2 ^ 32)
@@ -116,19 +116,19 @@ pub record IsInside (s : Space) (m : Machine) : Type 0 where
 abbrev pub StaysInside : Type 0
 StaysInside = OfEachFile (λ p image input. (k : ℕ) (w : World) → run_of image input k ≡ Running w → IsInside image.space w.machine)
 
--- the text may be executed, the data and the stack may be read and written, and nothing else
+-- the text is executable, the data and the stack are readable and writable, and nothing else is
 pub record IsLaidOut (parts : Parts) (s : Space) : Type 0 where
   pub executes : (a : ℕ) → s.can_execute a ≡ is_text parts a
   pub reads : (a : ℕ) → s.can_read a ≡ (is_data parts a || is_stack parts a)
   pub writes : (a : ℕ) → s.can_write a ≡ (is_data parts a || is_stack parts a)
 
--- those are the permissions of a file that is made of a program, whose stack has as many bytes as were asked for
+-- those are the permissions of a file made of a program, whose stack has the requested size
 abbrev pub FilesAreLaidOut : Type 0
 FilesAreLaidOut = (stack : ℕ) (p : Program) (file frames : List ℕ) (made : IsFileOf stack p file frames) → HasImage file (λ image. IsLaidOut made.parts image.space × (made.parts.stack ≡ stack))
 
 -- ---- how it calls (RISC-V ELF psABI, "Integer Calling Convention")
 
--- the addresses of the labels of a file that is made: function number f is at label f
+-- the addresses of the labels of the file: function number f is at label f
 abbrev pub labels : {stack : ℕ} {p : Program} {file frames : List ℕ} → IsFileOf stack p file frames → ℕ → ℕ
 labels made = made.image_is.assembled.env
 
@@ -136,11 +136,11 @@ labels made = made.image_is.assembled.env
 abbrev pub data_of : {stack : ℕ} {p : Program} {file frames : List ℕ} → IsFileOf stack p file frames → ℕ
 data_of made = data_start (length made.parts.text)
 
--- whatever the number of steps
+-- for any number of steps
 abbrev pub Always : ℕ → Type 0
 Always m = Unit {0}
 
--- each call that the run of its flat code comes to keeps the calling convention, from one entry on and for any number of steps ..
+-- each call that the run of its flat code reaches keeps the calling convention, with one entry for any number of steps ..
 abbrev pub CallsAreKept : {stack : ℕ} {p : Program} {file frames : List ℕ} → IsFileOf stack p file frames → Image → (input : List ℕ) → Type 0
 CallsAreKept made image input =
     (n f : ℕ) (s : flat.State) → ComesToCall made.code input n f s
@@ -153,16 +153,16 @@ MainIsKept made image input =
     KeepsConvention made.code (labels made) (data_of made) (λ k. run_of image input k)
     (labels made made.code.main) (text_start + 16) (flat.start made.code input) Always
 
--- so it is of each file that is made of a program, on every input on which the program stays defined
+-- this holds of each file made of a program, on every input on which the program stays defined
 abbrev pub FilesKeepConvention : Type 0
 FilesKeepConvention =
     (stack : ℕ) (p : Program) (file frames : List ℕ) (made : IsFileOf stack p file frames)
     → HasImage file (λ image. (input : List ℕ) → IsInput input → StaysDefined stack p input
     → CallsAreKept made image input × MainIsKept made image input)
 
--- ---- how far below the stack's end it goes
+-- ---- how deep it uses the stack
 
--- the data, and the stack from an address on, may be read and written
+-- the data, and the stack from an address up, are readable and writable
 abbrev pub space_from : Parts → (low : ℕ) → Space → Space
 space_from parts low s = record {
   byte = s.byte;
@@ -171,8 +171,8 @@ space_from parts low s = record {
   can_execute = s.can_execute;
 }
 
--- The run of its flat code has come to s in n steps, and on the way the frames of the calls that were active never took more than so many bytes together: the
--- machine stands there, and no instruction before has loaded or stored in the stack below these bytes. So a function whose frame is the lowest so
+-- The run of its flat code has reached s in n steps, and on the way the frames of the active calls never took more than this many bytes together: the
+-- machine is at s, and no earlier instruction has loaded or stored in the stack below these bytes. So a function whose frame is the lowest so
 -- far touches nothing below its stack pointer.
 abbrev pub FramesAreAllItTouches : {stack : ℕ} {p : Program} {file frames : List ℕ} → IsFileOf stack p file frames → Image → (input : List ℕ) → Type 0
 FramesAreAllItTouches made image input =
@@ -181,7 +181,7 @@ FramesAreAllItTouches made image input =
     → (k : ℕ) × (w : World) × (n < slack made.code * k) × (run_of image input k ≡ Running w) × StandsWith made.code (labels made) s w
     × ((j : ℕ) (v : World) → j < k → run_of image input j ≡ Running v → IsInside (space_from made.parts (stack_end - most) image.space) v.machine)
 
--- so it is of each file that is made of a program, on every input of bytes
+-- this holds of each file made of a program, on every input of bytes
 abbrev pub FilesTouchTheirFrames : Type 0
 FilesTouchTheirFrames =
     (stack : ℕ) (p : Program) (file frames : List ℕ) (made : IsFileOf stack p file frames)
@@ -190,8 +190,8 @@ FilesTouchTheirFrames =
 abbrev pub lower : ℕ → ℕ → ℕ
 lower a b = if nat_le a b then a else b
 
--- A step of its flat code, from s to t, where the run has come to s in n steps: the machine stands with s and then with t, and between the two no instruction loads or
--- stores in the stack below the stack pointer, that is, below the lower of the two where the step enters or leaves a function.
+-- A step of its flat code, from s to t, where the run has reached s in n steps: the machine is at s and then at t, and between the two no instruction loads or
+-- stores in the stack below the stack pointer, that is, below the lower of the two if the step enters or leaves a function.
 abbrev pub StepsStayAbove : {stack : ℕ} {p : Program} {file frames : List ℕ} → IsFileOf stack p file frames → Image → (input : List ℕ) → Type 0
 StepsStayAbove made image input =
     (n : ℕ) (s t : flat.State) → flat.run made.code n (flat.start made.code input) ≡ flat.running s → flat.step made.code s ≡ flat.running t
@@ -199,19 +199,19 @@ StepsStayAbove made image input =
     × ((i : ℕ) (u : World) → i < j → run_of image input (k + i) ≡ Running u
     → IsInside (space_from made.parts (lower (register v.machine 2) (register w.machine 2)) image.space) u.machine)
 
--- so it is on every input on which the program stays defined
+-- this holds on every input on which the program stays defined
 abbrev pub FilesStayAbove : Type 0
 FilesStayAbove =
     (stack : ℕ) (p : Program) (file frames : List ℕ) (made : IsFileOf stack p file frames)
     → HasImage file (λ image. (input : List ℕ) → IsInput input → StaysDefined stack p input → StepsStayAbove made image input)
 
--- At each instruction: nothing is loaded or stored in the stack below the stack pointer that the machine has there. So at no instruction is anything of the memory below in use, for example
+-- At each instruction: nothing is loaded or stored in the stack below the stack pointer that the machine has there. So at no instruction is the memory below in use, for example
 -- by a function that is about to take a frame. The stack pointer is 0 until the first two instructions have set it: nothing is below it then.
 abbrev pub TouchesNothingBelow : Parts → Image → (input : List ℕ) → Type 0
 TouchesNothingBelow parts image input =
     (k : ℕ) (w : World) → run_of image input k ≡ Running w → IsInside (space_from parts (register w.machine 2) image.space) w.machine
 
--- so it is on every input on which the program stays defined
+-- this holds on every input on which the program stays defined
 abbrev pub FilesTouchNothingBelow : Type 0
 FilesTouchNothingBelow =
     (stack : ℕ) (p : Program) (file frames : List ℕ) (made : IsFileOf stack p file frames)
@@ -223,7 +223,7 @@ FilesTouchNothingBelow =
 abbrev pub HasComeTo : Program → (input : List ℕ) → (n : ℕ) → List Entry → Type 0
 HasComeTo p input n history = Grows history (last_of (cstep n p input)).history
 
--- The calls that are active at a step of the flat code, the innermost first, are those that are active at such a moment of the abstract machine's run.
+-- The calls active at a step of the flat code, the innermost first, are those active at such a moment of the abstract machine's run.
 abbrev pub FilesCallAsMeant : Type 0
 FilesCallAsMeant =
     (stack : ℕ) (p : Program) (file frames : List ℕ) (made : IsFileOf stack p file frames) (input : List ℕ) → IsInput input → StaysDefined stack p input
@@ -232,7 +232,7 @@ FilesCallAsMeant =
 
 -- ---- how it ends
 
--- as the abstract machine does: where the file has ended with a status, that ends with it within some n ticks, having done the same
+-- as the abstract machine does: if the file has ended with a status, that machine ends with it within some n ticks, having done the same
 abbrev pub EndsOnlySo : Type 0
 EndsOnlySo = OfEachFile (λ p image input. (k status : ℕ) (w : World) → run_of image input k ≡ sim.Ended status w
     → (n : ℕ) × ((answer n p input).ending ≡ Ended status) × ((answer n p input).trace ≡ reverse w.trace))
@@ -241,11 +241,11 @@ EndsOnlySo = OfEachFile (λ p image input. (k status : ℕ) (w : World) → run_
 abbrev pub HasMain : Program → Type 0
 HasMain p = p.main < length p.functions
 
--- so it is in the program of every unit that breaks no constraint (5.1.2.2.1), whatever the stack
+-- this holds in the program of every unit that breaks no constraint (5.1.2.2.1), for every stack size
 abbrev pub UnitsHaveMain : Type 0
 UnitsHaveMain = (stack : ℕ) (texts : List (List ℕ)) (whole : Pos) (unit : List ExternalTree) (p : Program) → unit_typed stack texts whole unit ≡ fine p → HasMain p
 
--- and soon: where the abstract machine ends within n ticks, the file ends with the same status after at most 64 n + 64 instructions, having done the same
+-- and in time: if the abstract machine ends within n ticks, the file ends with the same status after at most 64 n + 64 instructions, having done the same
 abbrev pub EndsInTime : Type 0
 EndsInTime =
     (stack : ℕ) (p : Program) (frames file : List ℕ) → RunsAs stack p frames file → HasMain p

@@ -9,3 +9,4 @@ pub mod Overflow
 pub mod Frames
 pub mod Inputs
 pub mod Reserved
+pub mod Words

@@ -1,4 +1,4 @@
--- What a built file does where its calls need more stack than it has: it does what the program does until an access below the stack traps.
+-- What a built file does if its calls need more stack than it has: it does what the program does until an access below the stack traps.
 use Rattle.std.specs.Prelude.{◌≡◌, ◌⊎◌, ℕ, ◌+◌, List, length, reverse}
 use Rattle.rv32.specs.declared.state.Cause.{Cause}
 use Rattle.rv32.specs.declared.state.Cause.TheVariants.{LoadFault, StoreFault}
@@ -18,11 +18,11 @@ use Rattle.cc_laws.specs.Laws.{IsDefined, HasImage, run_of, done_in, IsBeginning
 abbrev pub IsAlwaysDefined : Program → (input : List ℕ) → Type 0
 IsAlwaysDefined p input = (n : ℕ) → IsDefined (answer n p input).ending
 
--- the address behind the data
+-- the address after the data
 abbrev pub data_end : Parts → ℕ
 data_end parts = data_start (length parts.text) + length parts.statics
 
--- A load or a store that is refused, though it would not be if all between the data and the end of the stack might be read and written: so it is of a byte
+-- A load or a store that is refused, though it would not be if all between the data and the end of the stack were readable and writable: it accesses a byte
 -- below the stack and above the data.
 pub record IsOverflow (parts : Parts) (image : Image) (c : Cause) (w : World) : Type 0 where
   pub refused : (c ≡ LoadFault) ⊎ (c ≡ StoreFault)
@@ -31,8 +31,8 @@ pub record IsOverflow (parts : Parts) (image : Image) (c : Cause) (w : World) : 
 abbrev pub HasTrapped : Progress → Type 0
 HasTrapped x = (c : Cause) × (w : World) × (x ≡ Trapped c w)
 
--- What the file has done after any k instructions is a beginning of what the abstract machine does. Where it has ended, that ends so. It traps only at an overflow
--- of the stack, and where it never traps it does all that the abstract machine does.
+-- What the file has done after any k instructions is a prefix of what the abstract machine does. If it has ended, the abstract machine ends in the same way. It traps only at an
+-- overflow of the stack, and if it never traps it does all that the abstract machine does.
 pub record GoesUpToOverflow (parts : Parts) (p : Program) (image : Image) (input : List ℕ) : Type 0 where
   pub does_no_more : (k : ℕ) → (n : ℕ) × IsBeginning (done_in (run_of image input k)) (answer n p input).trace
   pub ends_only_so : (k status : ℕ) (w : World) → run_of image input k ≡ sim.Ended status w
@@ -40,7 +40,7 @@ pub record GoesUpToOverflow (parts : Parts) (p : Program) (image : Image) (input
   pub traps_only_so : (k : ℕ) (c : Cause) (w : World) → run_of image input k ≡ Trapped c w → IsOverflow parts image c w
   pub does_all : (n : ℕ) → (k : ℕ) × ((done_in (run_of image input k) ≡ (answer n p input).trace) ⊎ HasTrapped (run_of image input k))
 
--- so it is of each file that is made of a program, however small its stack
+-- this holds of each file made of a program, however small its stack
 abbrev pub FilesGoUpToOverflow : Type 0
 FilesGoUpToOverflow =
     (stack : ℕ) (p : Program) (file frames : List ℕ) (made : IsFileOf stack p file frames)

@@ -1,4 +1,4 @@
-//! What is promised of a built file, in the words of what is seen of it. There is nothing to run: each law is the contract of a function without code.
+//! What is promised of a built file, in terms of its observable behaviour. There is nothing to run: each law is the contract of a function without code.
 #![tactic(auto)]
 
 ghost use Rattle.cc_laws.specs.Laws.{DoesAll, DoesNoMore, NeverTraps, StaysInside, FilesAreLaidOut, FilesKeepConvention, FilesTouchTheirFrames, FilesStayAbove, FilesTouchNothingBelow, FilesCallAsMeant, EndsOnlySo, UnitsHaveMain, EndsInTime};
@@ -6,62 +6,63 @@ ghost use Rattle.cc_laws.specs.Overflow.{FilesGoUpToOverflow};
 ghost use Rattle.cc_laws.specs.Frames.{FilesRunWithinFrames};
 ghost use Rattle.cc_laws.specs.Inputs.{DoesAllSoFar, ReadsAsItGoes};
 ghost use Rattle.cc_laws.specs.Reserved.{FilesLeaveReserved};
+ghost use Rattle.cc_laws.specs.Words.{FilesPassWords};
 
 /// What the abstract machine has done within any number of ticks, the file has done after some number of instructions.
 pub fn does_all()
     ensures { DoesAll }
 {}
 
-/// What the file has done after any number of instructions is a beginning of what the abstract machine does.
+/// What the file has done after any number of instructions is a prefix of what the abstract machine does.
 pub fn does_no_more()
     ensures { DoesNoMore }
 {}
 
-/// The file never traps. So it never fetches outside its text and never stores outside its data and its stack: by the table of instructions a fetch
-/// of a word that may not be executed is a trap, and a store to a byte that may not be written is one, and by the headers of a built file the text
-/// alone may be executed, the data and the stack alone may be written.
+/// The file never traps. So it never fetches outside its text and never stores outside its data and its stack: by the table of instructions, a fetch
+/// of a word that is not executable and a store to a byte that is not writable are traps, and by the program headers of a built file only the text
+/// is executable, and only the data and the stack are writable.
 pub fn never_traps()
     ensures { NeverTraps }
 {}
 
-/// At each instruction the word at the pc may be executed, and each byte that a store or a read of input puts may be written, by the permissions with
+/// At each instruction the word at the pc is executable, and each byte that a store or a read of input writes is writable, by the permissions with
 /// which the file was loaded, which no instruction changes.
 pub fn stays_inside()
     ensures { StaysInside }
 {}
 
-/// Of a file that is made of a program the text alone may be executed, and the data and the stack alone may be read and written.
+/// In a file made of a program only the text is executable, and only the data and the stack are readable and writable.
 pub fn files_are_laid_out()
     ensures { FilesAreLaidOut }
 {}
 
-/// In a file that is made of a program each call, and main, keeps the calling convention: on the entry of the function the arguments stand as they are passed, while it
-/// runs its frame is below, and where it has returned the stack pointer and s0 to s11 are as they were, and the result is in a0.
+/// In a file made of a program each call, and main, keeps the calling convention: on entry the arguments are where they are passed; while the function
+/// runs its frame is below; and after its return the stack pointer and s0 to s11 are as they were, and the result is in a0.
 pub fn files_keep_convention()
     ensures { FilesKeepConvention }
 {}
 
-/// In a file that is made of a program no instruction loads or stores in the stack below the lowest frame that its calls have had so far.
+/// In a file made of a program no instruction loads or stores in the stack below the lowest frame that its calls have had so far.
 pub fn files_touch_their_frames()
     ensures { FilesTouchTheirFrames }
 {}
 
-/// In a file that is made of a program no instruction within a step of its flat code loads or stores in the stack below the stack pointer.
+/// In a file made of a program no instruction within a step of its flat code loads or stores in the stack below the stack pointer.
 pub fn files_stay_above()
     ensures { FilesStayAbove }
 {}
 
-/// In a file that is made of a program no instruction loads or stores in the stack below the stack pointer that the machine has at this instruction.
+/// In a file made of a program no instruction loads or stores in the stack below the stack pointer that the machine has at this instruction.
 pub fn files_touch_nothing_below()
     ensures { FilesTouchNothingBelow }
 {}
 
-/// In a file that is made of a program the calls that are active at a step of its flat code are those that are active at a moment of the abstract machine's run.
+/// In a file made of a program the calls active at a step of its flat code are those active at some moment of the abstract machine's run.
 pub fn files_call_as_meant()
     ensures { FilesCallAsMeant }
 {}
 
-/// Where the file has ended with a status, the abstract machine ends with this status, having done the same: the file ends nowhere else.
+/// If the file has ended with a status, the abstract machine ends with this status, having done the same: the file never ends in another way.
 pub fn ends_only_so()
     ensures { EndsOnlySo }
 {}
@@ -71,35 +72,41 @@ pub fn units_have_main()
     ensures { UnitsHaveMain }
 {}
 
-/// Where the abstract machine ends within n ticks, the file ends with the same status after at most 64 n + 64 instructions, having done the same.
+/// If the abstract machine ends within n ticks, the file ends with the same status after at most 64 n + 64 instructions, having done the same.
 pub fn ends_in_time()
     ensures { EndsInTime }
 {}
 
-/// A file that is made of a program, on each input on which the program meets no undefined behaviour, however much stack its calls want: it does what the abstract
-/// machine does, and ends where that ends, until a load or a store below the stack traps. Nothing else is ever stored to: the data lie apart from the stack, and what is between
-/// them is no memory.
+/// A file made of a program, on each input on which the program meets no undefined behaviour, however much stack its calls need: it does what the abstract
+/// machine does, and ends if that ends, until a load or a store below the stack traps. Nothing else is ever stored to: the data are apart from the stack, and between
+/// them there is no memory.
 pub fn files_go_up_to_overflow()
     ensures { FilesGoUpToOverflow }
 {}
 
-/// The same as the headline, with the stack that the file's frames take in place of weights: where the frames of the calls that are active at one time never take
+/// The same as the headline, with the file's frames in place of weights: if the frames of the calls active at one time never take
 /// more than the stack together, the file does what the abstract machine does.
 pub fn files_run_within_frames()
     ensures { FilesRunWithinFrames }
 {}
 
-/// What the abstract machine does before it meets undefined behaviour, the file does too, up to the last tick before; and until then nothing else.
+/// All that the abstract machine does before it meets undefined behaviour, the file does too, also within the same tick; and until then nothing else.
 pub fn does_all_so_far()
     ensures { DoesAllSoFar }
 {}
 
-/// What an image's run has done depends on the bytes alone that it has read so far: so what is said of each finite input is said of a terminal.
+/// What an image's run has done depends only on the bytes that it has read so far: so what holds of each finite input holds of a terminal.
 pub fn reads_as_it_goes()
     ensures { ReadsAsItGoes }
 {}
 
-/// A file that is made of a program never writes gp and tp (RISC-V ELF psABI, "Integer Register Convention"): they stay 0, whatever the program does.
+/// A file made of a program never writes gp and tp (RISC-V ELF psABI, "Integer Register Convention"): they stay 0, whatever the program does.
 pub fn files_leave_reserved()
     ensures { FilesLeaveReserved }
+{}
+
+/// In a file made of a program each call passes C's own arguments: each number, converted to the type of its parameter and extended to a word, is in a0 to a7
+/// or on the stack, as the psABI has it; and what the function returns, converted to the type of its result and extended to a word, is in a0 where it returns.
+pub fn files_pass_words()
+    ensures { FilesPassWords }
 {}

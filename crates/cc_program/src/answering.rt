@@ -19,9 +19,10 @@ pub fn answer(rt: &HostRuntime, request: &Request<'_>) -> u8 {
         Command::Build {
             out,
             rule,
+            listing,
             is_plain,
         } => {
-            let status = build(rt, program, out, rule);
+            let status = build(rt, program, out, rule, listing);
             if status == 1 && !is_plain {
                 show_line(rt, program);
             }

@@ -14,6 +14,8 @@ use Rattle.cc_laws.proofs.Whole as whole
 use Rattle.cc_laws.proofs.Mains.{units_have_main}
 use Rattle.cc_laws.proofs.Made.{files_are_laid_out}
 use Rattle.cc_laws.proofs.Conventions.{files_keep_convention}
+use Rattle.cc_laws.specs.Words.{CallsPassWords}
+use Rattle.cc_laws.proofs.Words.{files_pass_words, files_pass_words_within_frames}
 use Rattle.cc_laws.proofs.Overflowing.{files_go_up_to_overflow}
 use Rattle.cc_laws.proofs.ByFrames.{files_run_within_frames, files_keep_convention_within_frames}
 use Rattle.cc_laws.proofs.Inputs.{does_all_so_far}
@@ -33,8 +35,8 @@ unfolding typed_at
 main_at stack texts file unit p e = units_have_main stack texts (record { file = file; line = 1 }) unit p e
 
 same : (stack : ℕ) (p : Program) (file frames : List ℕ) (made : IsFileOf stack p file frames) (image : Image) (input : List ℕ) → Serves p image input
-    → CallsAreKept made image input × MainIsKept made image input → TouchesNothingBelow made.parts image input → DoesTheSame made image input
-same stack p file frames made image input m convention below = record {
+    → CallsAreKept made image input × MainIsKept made image input → CallsPassWords p made image input → TouchesNothingBelow made.parts image input → DoesTheSame made image input
+same stack p file frames made image input m convention words below = record {
   does_all = whole.all_done p image input m;
   does_no_more = whole.no_more_done p image input m;
   ends_only_so = whole.ends_as_meant p image input m;
@@ -42,6 +44,7 @@ same stack p file frames made image input m convention below = record {
   stays_inside = whole.always_inside p image input m;
   calls_are_kept = convention.0;
   main_is_kept = convention.1;
+  calls_pass_words = words;
   touches_nothing_below = below;
 }
 
@@ -68,10 +71,12 @@ theorem stack set name built made =
         λ input bytes. record {
           within_stack = λ fine.
               same stack p file frames made.file image input (of_one file _ (serves stack p frames file runs) image loads input bytes fine) (of_one file _ (files_keep_convention stack p file frames made.file) image loads input bytes fine)
+              (of_one file _ (files_pass_words stack p file frames made.file) image loads input bytes fine)
               (of_one file _ (files_touch_nothing_below stack p file frames made.file) image loads input bytes fine);
           within_frames = λ fine.
               same stack p file frames made.file image input (by_frames stack p frames image input (of_one file _ (files_run_within_frames stack p file frames made.file) image loads input bytes) fine)
               (of_one file _ (files_keep_convention_within_frames stack p file frames made.file) image loads input bytes fine)
+              (of_one file _ (files_pass_words_within_frames stack p file frames made.file) image loads input bytes fine)
               (of_one file _ (files_touch_nothing_below_within_frames stack p file frames made.file) image loads input bytes fine);
           beyond_stack = λ fine. of_one file _ (files_go_up_to_overflow stack p file frames made.file) image loads input bytes fine;
           by_frames = of_one file _ (files_run_within_frames stack p file frames made.file) image loads input bytes;

@@ -193,6 +193,7 @@ fn build<'a>(inner: &ArgMatches<'a>) -> Result<Command<'a>, &'static str> {
         Some(out) => Ok(Command::Build {
             out,
             rule: rule(inner),
+            listing: inner.get_str("listing"),
             is_plain: inner.get_flag("plain"),
         }),
         None => Err(NO_OUT),

@@ -115,10 +115,11 @@ pub struct Rule<'a> {
 /// The command of the words, with the options that belong to it alone.
 #[derive(Clone, Copy)]
 pub enum Command<'a> {
-    /// Compile to the file at a path, and write the rule. On a terminal the source line of a fault is shown, if that is not to be `is_plain`.
+    /// Compile to the file at a path, and write the rule and the listing of this file. On a terminal the source line of a fault is shown, if that is not to be `is_plain`.
     Build {
         out: &'a str,
         rule: Option<Rule<'a>>,
+        listing: Option<&'a str>,
         is_plain: bool,
     },
     /// Print the names of the set's files with their paths.

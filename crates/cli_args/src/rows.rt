@@ -242,6 +242,18 @@ pub const DEPEND_FILE: Row = Row {
     apart: &[],
 };
 
+/// The file of the listing of the code that is built.
+pub const LISTING: Row = Row {
+    id: "listing",
+    short: None,
+    long: Some("listing"),
+    value: Some("FILE"),
+    kind: Kind::Text,
+    default: None,
+    help: "Writes a listing of the code of this very file too",
+    apart: &[],
+};
+
 /// The target of the rule.
 pub const DEPEND_TARGET: Row = Row {
     id: "depend-target",

@@ -25,6 +25,11 @@ impl Line {
         })
     }
 
+    /// Puts bytes after those that are there.
+    pub fn put(&mut self, bytes: &[u8]) -> Result<(), AllocError> {
+        self.bytes.extend_from_slice(bytes)
+    }
+
     /// Whether nothing was printed.
     pub fn is_empty(&self) -> bool {
         self.bytes.is_empty()

@@ -4,7 +4,7 @@ use crate::line::Line;
 use crate::out_file::OutFile;
 use io_ports::PortFault;
 use srcset::{Code, Fault, write_text};
-use std::alloc::Global;
+use std::alloc::{AllocError, Global};
 use std::io;
 use std::io::{BufWriter, ErrorKind, Write};
 
@@ -34,26 +34,24 @@ pub fn say_port(rt: &HostRuntime, fault: PortFault) -> u8 {
 
 /// Prints a fault in one line; returns the exit status.
 pub fn say(rt: &HostRuntime, fault: &Fault) -> u8 {
-    let is_said = match fault.to_line(rt.alloc()) {
-        Ok(text) => say_line(rt, text.as_slice()),
-        Err(_) => false,
-    };
-    if !is_said {
-        let _said = eprintln!(rt; "{}", Fault::memory(rt.alloc()));
+    match line_of(rt.alloc(), fault) {
+        Ok(mut line) => {
+            let _said = rt.stderr().write_all(line.printable());
+        }
+        Err(_) => {
+            let _said = eprintln!(rt; "{}", Fault::memory(rt.alloc()));
+        }
     }
     1
 }
 
-/// Prints a line; returns whether there was memory for it.
-fn say_line(rt: &HostRuntime, text: &[u8]) -> bool {
-    let Ok(mut line) = Line::new(rt.alloc()) else {
-        return false;
-    };
-    let is_whole = write_text(&mut line, text) && write_text(&mut line, b"\n".as_slice());
-    if is_whole {
-        let _said = rt.stderr().write_all(line.printable());
-    }
-    is_whole
+/// The line of a fault.
+fn line_of(alloc: Global, fault: &Fault) -> Result<Line, AllocError> {
+    let text = fault.to_line(alloc)?;
+    let mut line = Line::new(alloc)?;
+    line.put(text.as_slice())?;
+    line.put(b"\n".as_slice())?;
+    Ok(line)
 }
 
 /// Writes a text to the file at a path, or to standard output where that is `-`; returns the exit status.

@@ -1,21 +1,36 @@
-//! `build`: an executable file, and the rule of a Makefile.
+//! `build`: an executable file, its listing, and the rule of a Makefile.
 
+use crate::listed_building::build_listed;
 use cc::{Cmd, StackSize, perform};
 use cli_args::{Program, Role, Rule};
-use cli_io::{Line, OutFile, TAKEN, put_file, say, say_memory, say_unwritten, say_usage, tell};
+use cli_io::{
+    Line, OutFile, TAKEN, is_same, put_file, say, say_memory, say_unwritten, say_usage, tell,
+};
 use cli_sources::{Sources, is_taken, read_sources, rule_path, rule_text, stack_size};
 use io_ports::IoPort;
 use std::alloc::Global;
 use std::io;
 use std::io::{BufReader, BufWriter};
 
+/// Why a listing is not written.
+const LISTING_TAKEN: &str = "the listing is OUT or one of the files that are read";
+
 /// Below the greatest size up to which glibc's `malloc` learns to keep freed blocks (32 MiB, mallopt(3), M_MMAP_THRESHOLD).
 const KEPT_BYTES: usize = 33_488_896;
 
-/// Compiles a program, and writes the executable file at a path, and its rule where there is one; returns the exit status.
-pub fn build(rt: &HostRuntime, program: &Program<'_>, out: &str, rule: Option<Rule<'_>>) -> u8 {
+/// Compiles a program, and writes the executable file at a path, with its rule and its listing where they have a path; returns the exit status.
+pub fn build(
+    rt: &HostRuntime,
+    program: &Program<'_>,
+    out: &str,
+    rule: Option<Rule<'_>>,
+    listing: Option<&str>,
+) -> u8 {
     if is_taken(rt, program, out) {
         return say_usage(rt, TAKEN);
+    }
+    if is_listing_taken(rt, program, out, listing) {
+        return say_usage(rt, LISTING_TAKEN);
     }
     keep_large_blocks(rt.alloc());
     let sources = match read_sources(rt, program) {
@@ -25,13 +40,41 @@ pub fn build(rt: &HostRuntime, program: &Program<'_>, out: &str, rule: Option<Ru
     if sources.are_at(rt, out) {
         return say_usage(rt, TAKEN);
     }
+    if is_source(rt, &sources, listing) {
+        return say_usage(rt, LISTING_TAKEN);
+    }
     if program.has(Role::Folder) {
         say_alone(rt, program, &sources);
     }
-    let status = build_set(rt, &sources, out, stack_size(program));
+    let stack = stack_size(program);
+    let status = match listing {
+        Some(path) => build_listed(rt, &sources, out, path, stack),
+        None => build_set(rt, &sources, out, stack),
+    };
     match rule {
         Some(rule) if status == 0 => write_rule(rt, rule, out, &sources),
         _ => status,
+    }
+}
+
+/// Whether a file that was read lies at the path of the listing.
+fn is_source(rt: &HostRuntime, sources: &Sources<'_>, listing: Option<&str>) -> bool {
+    match listing {
+        Some(path) => sources.are_at(rt, path),
+        None => false,
+    }
+}
+
+/// Whether the path of the listing leads to a file of the program or to OUT.
+fn is_listing_taken(
+    rt: &HostRuntime,
+    program: &Program<'_>,
+    out: &str,
+    listing: Option<&str>,
+) -> bool {
+    match listing {
+        Some(path) => is_taken(rt, program, path) || is_same(rt, path, out),
+        None => false,
     }
 }
 

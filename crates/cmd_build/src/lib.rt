@@ -3,6 +3,7 @@
 
 mod building;
 mod lines;
+mod listed_building;
 mod listing_files;
 mod printing;
 mod running;

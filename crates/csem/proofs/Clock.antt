@@ -1,6 +1,6 @@
 -- One more tick: the same run, or more of it.
 use Rattle.std.proofs.Common.{◌≡◌, ℕ, zero, suc, ◌-◌, ◌*◌, List, [], ◌∷◌, ◌++◌, Option, Some, None, Bool, true, false, ℤ, pos, negsuc, refl, sym, ap, ◌∙◌, subst, append_assoc, length}
-use Rattle.std.specs.Prelude.{slice_get, nat_lt, nat_eq, Result, Ok, Err}
+use Rattle.std.specs.Prelude.{option_map, slice_get, nat_lt, nat_eq, Result, Ok, Err}
 use Rattle.srcset.specs.declared.refusal.Pos.{Pos}
 use Rattle.ctypes.specs.declared.types.IntType.{IntType}
 use Rattle.ctypes.specs.declared.operators.Undef.{Undef}
@@ -16,7 +16,7 @@ use Rattle.csem.specs.History.{Entry, Did, Entered, Left}
 use Rattle.csem.specs.Machine.{State, Run, Goes, Stops, Ended, Undefined, TicksUsed, then_do, choose, tick_of, tick, ticks, undefined, computed_at, designated, subscripted, value_or_undefined, read, stored, write}
 use Rattle.csem.specs.Expressions.{Passed, Number, Referred, Calling, call_value, get_byte, put_byte, first_number, call_of, position_of, step_operation, step_value, converted_or_none, find, evaluate, pass, evaluate_or}
 use Rattle.csem.specs.Statements.{zeros, clear, characters, first_length, inner_lengths, text_or_none, initialise, initialise_all, own, renewed, all_renewed, Flow, Normal, Broken, Continued, Returned, next_after, after_body, after_switch, turns, labels_at, labels_of, same_value, label_for, define_object, execute, execute_all, execute_from}
-use Rattle.csem.specs.Meaning.{enter, leave, value_left, body_of, call_defined, calling, start, status_of, end_with, cstep, last_of}
+use Rattle.csem.specs.Meaning.{enter, leave, word_of, words_of, value_left, body_of, call_defined, calling, start, status_of, end_with, cstep, last_of}
 use Rattle.csem.specs.Laws.{Grows}
 
 pub grows_on : (h h2 h3 : List Entry) → Grows h h2 → Grows h2 h3 → Grows h h3
@@ -321,14 +321,14 @@ module _ (p : Program) (c c' : Calling) (ok : SteadyCalls c c') (objects : List 
 
 module _ (p : Program) (c c' : Calling) (ok : SteadyCalls c c') where
   -- the body of a call, and the return from it, from the state that the call makes
-  steady_body : (g : Function) (is_main : Bool) (caller : State) → Steady (λ s. then_do (body_of p c g s) (λ flow s. Goes (value_left is_main flow) (leave caller s))) (λ s. then_do (body_of p c' g s) (λ flow s. Goes (value_left is_main flow) (leave caller s)))
-  steady_body g is_main caller = steady_then (body_of p c g) (body_of p c' g) _ _ (steady_then (ticks (suc (length g.type.parameters))) (ticks (suc (length g.type.parameters))) _ _ (steady_ticks (suc (length g.type.parameters))) (λ u. steady_execute p c c' ok g.objects g.body)) (λ flow. steady_goes (value_left is_main flow) (leave caller) (λ s. (Left ∷ [], refl)) (λ s. refl))
+  steady_body : (g : Function) (is_main : Bool) (caller : State) → Steady (λ s. then_do (body_of p c g s) (λ flow s. Goes (value_left is_main flow) (leave caller (value_left is_main flow) s))) (λ s. then_do (body_of p c' g s) (λ flow s. Goes (value_left is_main flow) (leave caller (value_left is_main flow) s)))
+  steady_body g is_main caller = steady_then (body_of p c g) (body_of p c' g) _ _ (steady_then (ticks (suc (length g.type.parameters))) (ticks (suc (length g.type.parameters))) _ _ (steady_ticks (suc (length g.type.parameters))) (λ u. steady_execute p c c' ok g.objects g.body)) (λ flow. steady_goes (value_left is_main flow) (leave caller (value_left is_main flow)) (λ s. (Left (option_map word_of (value_left is_main flow)) ∷ [], refl)) (λ s. refl))
 
   steady_defined : (o : Option Function) (f : ℕ) (vs : List Passed) → Steady (call_defined p c o f vs) (call_defined p c' o f vs)
   steady_defined None f vs = steady_stay None
   steady_defined (Some g) f vs = record {
-    grows = λ s. grows_on s.history (enter f g vs s).history _ (Entered f ∷ [], refl) ((steady_body g (nat_eq f p.main) s).grows (enter f g vs s));
-    grows' = λ s. grows_on s.history (enter f g vs s).history _ (Entered f ∷ [], refl) ((steady_body g (nat_eq f p.main) s).grows' (enter f g vs s));
+    grows = λ s. grows_on s.history (enter f g vs s).history _ (Entered f (words_of vs) ∷ [], refl) ((steady_body g (nat_eq f p.main) s).grows (enter f g vs s));
+    grows' = λ s. grows_on s.history (enter f g vs s).history _ (Entered f (words_of vs) ∷ [], refl) ((steady_body g (nat_eq f p.main) s).grows' (enter f g vs s));
     longer = λ s. (steady_body g (nat_eq f p.main) s).longer (enter f g vs s);
   }
 

@@ -3,18 +3,19 @@ use Rattle.std.specs.Prelude.{ℕ, ◌+◌, List, [], ◌∷◌, max, Option, So
 use Rattle.csem_events.specs.Events.{Event}
 use Rattle.typing_spec.specs.Program.{Function, Program}
 
--- something done to the outside, or a call of the function with this number began, or the innermost call ended
+-- Something was done to the outside; or a call of the function with this number began, with an argument for each parameter, of a number the word to which its
+-- type extends it, of an array none; or the innermost call ended, and returned the word of a number or nothing.
 pub data Entry : Type 0 where
   Did : (event : Event) → Entry
-  Entered : (f : ℕ) → Entry
-  Left : Entry
+  Entered : (f : ℕ) (arguments : List (Option ℕ)) → Entry
+  Left : (result : Option ℕ) → Entry
 
 -- the input and output events, the newest first
 abbrev pub trace_of : List Entry → List Event
 trace_of [] = []
 trace_of (Did e ∷ earlier) = e ∷ trace_of earlier
-trace_of (Entered f ∷ earlier) = trace_of earlier
-trace_of (Left ∷ earlier) = trace_of earlier
+trace_of (Entered f arguments ∷ earlier) = trace_of earlier
+trace_of (Left result ∷ earlier) = trace_of earlier
 
 -- ---- active calls
 
@@ -26,8 +27,8 @@ without_innermost (f ∷ fs) = fs
 abbrev pub active : List Entry → List ℕ
 active [] = []
 active (Did e ∷ earlier) = active earlier
-active (Entered f ∷ earlier) = f ∷ active earlier
-active (Left ∷ earlier) = without_innermost (active earlier)
+active (Entered f arguments ∷ earlier) = f ∷ active earlier
+active (Left result ∷ earlier) = without_innermost (active earlier)
 
 -- the weight of a function by its number
 abbrev pub weight_or_none : Option Function → ℕ

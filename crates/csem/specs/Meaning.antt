@@ -1,5 +1,5 @@
 -- The behaviour of a program (ISO/IEC 9899:2011 5.1.2.3, 6.5.2.2, 6.9.1), with a clock of n ticks.
-use Rattle.std.specs.Prelude.{ℕ, zero, suc, List, [], ◌∷◌, ◌++◌, map, take, drop, reverse, length, Option, Some, None, Bool, true, false, ℤ, pos, nat_eq, slice_get}
+use Rattle.std.specs.Prelude.{ℕ, zero, suc, List, [], ◌∷◌, ◌++◌, map, take, drop, reverse, length, Option, Some, None, Bool, true, false, ℤ, pos, nat_eq, slice_get, option_map}
 use Rattle.ctypes.specs.Types.{modulo}
 use Rattle.csem_events.specs.Events.{Event, written}
 use Rattle.typing_spec.specs.Types.{ObjectType}
@@ -27,17 +27,31 @@ arrays_of (Referred r ∷ more) = r ∷ arrays_of more
 abbrev pub objects_of : List ObjectType → List Passed → List Tree
 objects_of objects passed = numbers_of passed ++ map indeterminate (drop (length (numbers_of passed)) objects)
 
+-- the word to which a number's type extends it (two's complement, 32 bits)
+abbrev pub word_of : ℤ → ℕ
+word_of v = modulo 32 v
+
+abbrev pub words_of : List Passed → List (Option ℕ)
+words_of [] = []
+words_of (Number v ∷ more) = Some (word_of v) ∷ words_of more
+words_of (Referred r ∷ more) = None ∷ words_of more
+
 abbrev pub enter : ℕ → Function → List Passed → State → State
 enter f g passed s = record s {
   store = s.store ++ objects_of g.objects passed;
   base = length s.store;
   arrays = arrays_of passed;
-  history = Entered f ∷ s.history;
+  history = Entered f (words_of passed) ∷ s.history;
 }
 
 -- with a call its objects end, and the caller goes on with its own (6.2.4p6)
-abbrev pub leave : (caller : State) → State → State
-leave caller s = record s { store = take (length caller.store) s.store; base = caller.base; arrays = caller.arrays; history = Left ∷ s.history }
+abbrev pub leave : (caller : State) → (result : Option ℤ) → State → State
+leave caller result s = record s {
+  store = take (length caller.store) s.store;
+  base = caller.base;
+  arrays = caller.arrays;
+  history = Left (option_map word_of result) ∷ s.history;
+}
 
 -- the end of main's body returns 0, as in a hosted program (5.1.2.2.3p1), that of another function nothing (6.9.1p12)
 abbrev pub value_at_end : (is_main : Bool) → Option ℤ
@@ -57,7 +71,8 @@ body_of p call g s = then_do (ticks (suc (length g.type.parameters)) s) (λ u s.
 abbrev pub call_defined : Program → Calling → Option Function → Calling
 call_defined p call None f passed s = Goes None s
 call_defined p call (Some g) f passed s =
-    then_do (body_of p call g (enter f g passed s)) (λ flow s2. Goes (value_left (nat_eq f p.main) flow) (leave s s2))
+    then_do (body_of p call g (enter f g passed s)) (λ flow s2.
+    Goes (value_left (nat_eq f p.main) flow) (leave s (value_left (nat_eq f p.main) flow) s2))
 
 -- calls at most n deep: each takes a tick, so that as many as the clock has ticks and one are enough
 abbrev pub calling : Program → ℕ → Calling

@@ -1,5 +1,5 @@
 -- Parameters, as far as they are read.
-use Rattle.std.proofs.Common.{◌≡◌, ℕ, ◌+◌, ◌<◌, ◌≤◌, List, [], ◌∷◌, ◌++◌, drop, get_or, length, map, Option, Some, None, refl, sym, ap, ◌∙◌, subst, append_assoc, append-nil}
+use Rattle.std.proofs.Common.{◌≡◌, ℕ, ◌+◌, ◌<◌, ◌≤◌, List, [], ◌∷◌, ◌++◌, drop, get_or, length, map, Option, Some, None, refl, sym, ap, ◌∙◌, subst, append_assoc, append-nil, arith}
 use Rattle.std.proofs.lemmas.List.{drop_all}
 use Rattle.srcset.specs.NameTable.{Texts}
 use Rattle.srcset.specs.declared.refusal.Refusal.{Refusal}
@@ -75,6 +75,11 @@ pub step : (t : Texts) (s0 s next : Scope) (all : List Parameter) (i : ℕ) (p :
 step t s0 s next all i p old new n more o h k inv e f g l =
     sym (ap (λ ps. onto (map parameter_type_of old) (parameters_from n (with_texts t s) ps)) (next_tree all i p h k)
     ∙ step_tree t s next n more (parameter_of p) (map parameter_of (drop (i + 1) all)) o (map parameter_type_of old) (map parameter_type_of new) e f g l) ∙ inv
+
+-- no more references than parameters
+pub few : (n more i : ℕ) (o : ParameterObject) → n ≤ i → more ≡ references_after n o → more ≤ i + 1
+few n more i (a_number u) h e = omega (arith, h, e)
+few n more i (a_reference u) h e = omega (arith, h, e)
 
 pub stops : (t : Texts) (s0 s : Scope) (all : List Parameter) (i : ℕ) (p : Parameter) (old : List (held.ParameterType)) (n : ℕ) (r : Refusal) → i < length all → p ≡ get_or all i p → Left t s0 all old n s (drop i all) →
     Tells r (checked_parameter (with_texts t s) (parameter_of p)) → Tells r (parameters_from 0 (with_texts t s0) (map parameter_of all))

@@ -1,7 +1,7 @@
 //! Lists of parameters, and the types of functions (6.7.6.3).
 #![tactic(auto, using(crate::proofs::Verdicts::told))]
 
-ghost use Rattle.std.specs.Prelude.{◌≡◌, ◌++◌, ◌∷◌, [], List, map, IfErr, IfOk, OnOk};
+ghost use Rattle.std.specs.Prelude.{◌≡◌, ◌<◌, ◌-◌, ◌^◌, ◌++◌, ◌∷◌, [], List, map, IfErr, IfOk, OnOk};
 ghost use Rattle.srcset.specs.NameTable.{Texts};
 ghost use Rattle.tree.specs.Tree.{ParameterTree};
 ghost use Rattle.tree.specs.View.{parameter_of};
@@ -40,6 +40,7 @@ fn enter(
     parameter: &Parameter,
     types: &mut Vec<ParameterType>,
 ) -> Result<(), Refusal>
+    requires { references.old < 2 ^ 64 - 1 }
     ensures ok { OnOk result ((o : typed.ParameterObject) × (checked_parameter (with_texts names.now scope.old) (parameter_of parameter.now) ≡ fine o) × (scope.new ≡ behind_parameter references.old scope.old (parameter_of parameter.now) o) × (references.new ≡ typed.references_after references.old o) × (map parameter_type_of types.new.items ≡ map parameter_type_of types.old.items ++ typed.type_of_parameter o ∷ [])) }
     ensures err { IfErr result (λ r. Tells r (checked_parameter (with_texts names.now scope.old) (parameter_of parameter.now))) }
 {

@@ -1,7 +1,7 @@
 //! Parameters (6.7.6.3).
 #![tactic(auto, using(typing_expressions::proofs::Verdicts::tells_of, crate::proofs::Verdicts::told))]
 
-ghost use Rattle.std.specs.Prelude.{◌≡◌, [], Some, IfErr, IfOk, OnOk};
+ghost use Rattle.std.specs.Prelude.{◌≡◌, ◌<◌, ◌-◌, ◌^◌, [], Some, IfErr, IfOk, OnOk};
 ghost use Rattle.srcset.specs.declared.refusal.Refusal.TheVariants.{Memory};
 ghost use Rattle.tree.specs.View.{parameter_of};
 ghost use Rattle.typed_ast.specs.View.{object_type_of, parameter_type_of};
@@ -227,6 +227,7 @@ pub(crate) fn with_object(
     references: &mut usize,
     object: &ParameterObject,
 ) -> Result<(), Refusal>
+    requires { references.old < 2 ^ 64 - 1 }
     ensures ok { OnOk result (scope.new ≡ typed.with_object scope.old (parameter_object_of object.now)) }
     ensures count { OnOk result (references.new ≡ typed.references_after references.old (parameter_object_of object.now)) }
     ensures err { IfErr result (λ r. r ≡ Memory) }
@@ -236,12 +237,9 @@ pub(crate) fn with_object(
             let object = number_object(alloc, *ty, *constant);
             scope.with_object(object)
         }
-        ParameterObject::Reference(_) => match references.checked_add(1) {
-            Some(count) => {
-                *references = count;
-                Ok(())
-            }
-            None => Err(Refusal::Memory),
-        },
+        ParameterObject::Reference(_) => {
+            *references += 1;
+            Ok(())
+        }
     }
 }

@@ -1,11 +1,12 @@
 -- The values of elements, as far as they are laid out.
-use Rattle.std.proofs.Common.{◌≡◌, ℕ, zero, suc, ◌+◌, ◌-◌, ◌<◌, ◌≤◌, List, [], ◌∷◌, ◌++◌, take, drop, get_or, length, map, Option, Some, None, refl, sym, ap, ◌∙◌, subst, arith, append_assoc, append-nil, length-append, ℤ, pos, Ok, Err, OnOk, inl, inr}
-use Rattle.std.specs.Prelude.{Result, slice_get, ◌^◌}
+use Rattle.std.proofs.Common.{◌≡◌, ℕ, zero, suc, ◌+◌, ◌-◌, ◌<◌, ◌≤◌, List, [], ◌∷◌, ◌++◌, take, drop, get_or, length, map, Option, Some, None, refl, sym, ap, ◌∙◌, subst, arith, append_assoc, append-nil, length-append, ℤ, pos, OnOk, inl, inr}
+use Rattle.std.specs.Prelude.{Result, slice_get, replicate, min, ◌^◌}
 use Rattle.std.proofs.lemmas.List.{drop_all, take_all, length-take-le}
 use Rattle.std.proofs.lemmas.Bool.{cases_lt}
 use Rattle.srcset.specs.declared.refusal.Refusal.{Refusal}
 use Rattle.ctypes.specs.declared.types.IntType.{IntType}
 use Rattle.ctypes.specs.Types.{converted}
+use Rattle.tree.specs.Capped.{capped}
 use Rattle.typed_ast.specs.declared.initialisers.Initialiser as held
 use Rattle.typed_ast.specs.View.{initialiser_of, initialisers_of}
 use Rattle.typing_spec.specs.Types.{elements_in}
@@ -50,16 +51,6 @@ one_character u start now next text i c h g inv e =
 pub no_character : (u : IntType) (start now : List ℤ) (text : List ℕ) (i : ℕ) → length text ≤ i → now ++ characters u (drop i text) ≡ start ++ characters u text → now ≡ start ++ characters u text
 no_character u start now text i h inv = sym (append-nil now) ∙ ap (λ l. now ++ characters u l) (sym (drop_all i text h)) ∙ inv
 
-zeros_less : (n m : ℕ) → n ≡ suc m → zeros n ≡ pos 0 ∷ zeros m
-zeros_less n m e = ap zeros e
-
-pub one_zero : (start now next : List ℤ) (count i : ℕ) → i < count → now ++ zeros (count - i) ≡ start ++ zeros count → next ≡ now ++ pos 0 ∷ [] → next ++ zeros (count - (i + 1)) ≡ start ++ zeros count
-one_zero start now next count i h inv e =
-    ap (λ l. l ++ zeros (count - (i + 1))) e ∙ append_assoc now (pos 0 ∷ []) (zeros (count - (i + 1))) ∙ ap (λ l. now ++ l) (sym (zeros_less (count - i) (count - (i + 1)) (omega (arith, h)))) ∙ inv
-
-pub no_zero : (start now : List ℤ) (count i : ℕ) → count ≤ i → now ++ zeros (count - i) ≡ start ++ zeros count → now ≡ start ++ zeros count
-no_zero start now count i h inv = sym (append-nil now) ∙ ap (λ n. now ++ zeros n) (let e : 0 ≡ count - i = omega (arith, h) in e) ∙ inv
-
 zeros_length : (m : ℕ) → length (zeros m) ≡ m
 zeros_length zero = refl
 zeros_length (suc m) = omega (arith, zeros_length m)
@@ -85,13 +76,34 @@ padded_more count vs ge =
 padded_is : (count : ℕ) (vs : List ℤ) → padded count vs ≡ take count vs ++ zeros (count - length (take count vs))
 padded_is count vs = elim (cases_lt count (length vs)) [ inl lt ↦ padded_cut count vs lt | inr ge ↦ padded_more count vs ge ]
 
-pub pad_is : (before vs old cut new : List ℤ) (start count end missing : ℕ) → old ≡ before ++ vs → start ≡ length before → end ≡ start + count → cut ≡ take end old → missing ≡ end - length cut → new ≡ cut ++ zeros missing →
+pad_is : (before vs old cut new : List ℤ) (start count end missing : ℕ) → old ≡ before ++ vs → start ≡ length before → end ≡ start + count → cut ≡ take end old → missing ≡ end - length cut → new ≡ cut ++ zeros missing →
     new ≡ before ++ padded count vs
 pad_is before vs old cut new start count end missing o s e c m n =
     let k : cut ≡ before ++ take count vs = c ∙ ap (take end) o ∙ take_past before vs count end (omega (arith, e, s)) in
     let a : length cut ≡ length before + length (take count vs) = ap length k ∙ length-append before (take count vs) in
     let b : missing ≡ count - length (take count vs) = omega (arith, a, m, e, s) in
     n ∙ ap (λ l. l ++ zeros missing) k ∙ append_assoc before (take count vs) (zeros missing) ∙ ap (λ x. before ++ (take count vs ++ zeros x)) b ∙ ap (λ l. before ++ l) (sym (padded_is count vs))
+
+zeros_are : (n : ℕ) → replicate n (pos 0) ≡ zeros n
+zeros_are zero = refl
+zeros_are (suc n) = ap (λ l. pos 0 ∷ l) (zeros_are n)
+
+missing_after : (end : ℕ) (old : List ℤ) → end - length old ≡ end - length (take end old)
+missing_after end old = elim (cases_lt end (length old)) [
+  | inl lt ↦ (let k = length-take-le end old (omega (arith, lt)) in omega (arith, k, lt))
+  | inr ge ↦ ap (λ l. end - length l) (sym (take_all end old ge))
+]
+
+-- a count that a vector can have is below the greatest word
+in_a_word : (n count start end : ℕ) → count ≡ capped n → end ≡ min (start + count) (2 ^ 64 - 1) → end < 2 ^ 63 → end ≡ start + n
+unfolding capped
+in_a_word n count start end e f h = omega (arith, e, f, h)
+
+pub resized : (n count start end : ℕ) (before vs old new : List ℤ) → count ≡ capped n → old ≡ before ++ vs → start ≡ length before → end ≡ min (start + count) (2 ^ 64 - 1) → end < 2 ^ 63 →
+    new ≡ take end old ++ replicate (end - length old) (pos 0) → new ≡ before ++ padded n vs
+resized n count start end before vs old new e o s f h g =
+    pad_is before vs old (take end old) new start n end (end - length old) o s (in_a_word n count start end e f h) refl (missing_after end old)
+    (g ∙ ap (λ l. take end old ++ l) (zeros_are (end - length old)))
 
 -- ---- the parts of a list
 
@@ -147,17 +159,6 @@ pub one_literal : (r : Result (Unit {0}) Refusal) (t : List (List ℕ)) (k : Lis
     OnOk r (new ≡ all ++ characters u (text_with t k n))
 one_literal r t k n m u new all text h g q = subst (λ x. OnOk r (new ≡ all ++ characters u x)) (g ∙ ap (λ o. literal_text (with_both t k) o) h) q
 
-pub padded_ok : (r : Result (Unit {0}) Refusal) (before vs old cut new : List ℤ) (start count end missing : ℕ) → old ≡ before ++ vs → start ≡ length before → end ≡ start + count → cut ≡ take end old → missing ≡ end - length cut → OnOk r (new ≡ cut ++ zeros missing) →
-    OnOk r (new ≡ before ++ padded count vs)
-padded_ok (Ok u) before vs old cut new start count end missing o s e c m n = pad_is before vs old cut new start count end missing o s e c m n
-padded_ok (Err x) before vs old cut new start count end missing o s e c m n = tt
-
 pub whole_values : (t : List (List ℕ)) (k : List ℕ) (s : Scope) (u : IntType) (lengths : List ℕ) (i : program.Initialiser) (new empty vs : List ℤ) → empty ≡ [] → new ≡ empty ++ vs → values_with t k u lengths i ≡ fine vs →
     typed.values (seen t k s) u lengths i ≡ fine new
 whole_values t k s u lengths i new empty vs e n h = values_same t k s (file_scope [] []) u lengths i ∙ h ∙ ap fine (sym (n ∙ ap (λ l. l ++ vs) e))
-
--- ---- counts that exceed a word
-
--- one of an element's parts is one of the whole's
-pub beyond_within : (first : ℕ) (rest lengths : List ℕ) → lengths ≡ first ∷ rest → (k : ℕ) × (2 ^ 64 ≤ elements_in (drop k rest)) → (k : ℕ) × (2 ^ 64 ≤ elements_in (drop k lengths))
-beyond_within first rest lengths e b = (suc b.0, subst (λ xs. 2 ^ 64 ≤ elements_in (drop (suc b.0) xs)) (sym e) b.1)

@@ -1,8 +1,9 @@
 //! The values of the elements of an object with static storage (6.7.9).
 #![tactic(auto)]
 
-ghost use Rattle.std.specs.Prelude.{◌≡◌, ◌≤◌, [], ◌∷◌, ◌++◌, ◌-◌, ◌^◌, ℕ, ℤ, List, drop, length, map, take, slice_get, IfErr, IfNone, IfOk, IfSome, OnOk};
+ghost use Rattle.std.specs.Prelude.{◌≡◌, [], ◌∷◌, ◌++◌, ◌-◌, ℕ, ℤ, List, length, map, take, slice_get, IfErr, IfOk, OnOk};
 ghost use Rattle.srcset.specs.declared.refusal.Refusal.TheVariants.{Memory};
+ghost use Rattle.tree.specs.Capped.{capped};
 ghost use Rattle.typed_ast.specs.View.{initialiser_of, initialisers_of, value_of};
 ghost use Rattle.typing_spec.specs.Verdict.{fine};
 ghost use Rattle.typing_spec.specs.Types.{elements_in};
@@ -18,17 +19,13 @@ use srcset::{Names, Refusal};
 use std::alloc::Global;
 use typed_ast::{Initialiser, Value};
 
-/// How many elements arrays of these lengths have; none only where no `usize` holds the number for the arrays, or for an element of theirs.
-fn element_count(lengths: &[u32]) -> Option<usize>
-    ensures counted { IfSome result (λ n. n ≡ elements_in lengths.now) }
-    ensures beyond { IfNone result ((k : ℕ) × (2 ^ 64 ≤ elements_in (drop k lengths.now))) }
+/// How many elements arrays of these lengths have, or 2^64 - 1 where that is less.
+fn element_count(lengths: &[u32]) -> usize
+    ensures { result ≡ capped (elements_in lengths.now) }
 {
     match lengths.split_first() {
-        None => Some(1),
-        Some((first, rest)) => match element_count(rest) {
-            Some(inner) => (*first as usize).checked_mul(inner),
-            None => None,
-        },
+        None => 1,
+        Some((first, rest)) => (*first as usize).saturating_mul(element_count(rest)),
     }
 }
 
@@ -43,31 +40,15 @@ fn push_value(value: i64, all: &mut Vec<i64>) -> Result<(), Refusal>
     }
 }
 
-/// Appends `count` zeros.
-fn push_zeros(count: usize, all: &mut Vec<i64>) -> Result<(), Refusal>
-    ensures ok { OnOk result (all.new.items ≡ all.old.items ++ typed.zeros count) }
-    ensures err { IfErr result (λ r. r ≡ Memory) }
-{
-    for _ in 0..count {
-        match push_value(0, all) {
-            Ok(()) => {}
-            Err(refusal) => return Err(refusal),
-        }
-    }
-    Ok(())
-}
-
-/// Cuts the values from this place on at `count`, or appends zeros up to it.
+/// Cuts the values from this place on at `count`, or appends zeros up to it. A `Vec` cannot have as many as the greatest `usize`.
 fn pad(start: usize, count: usize, all: &mut Vec<i64>) -> Result<(), Refusal>
-    ensures ok { (before vs : List ℤ) → all.old.items ≡ before ++ vs → start ≡ length before → OnOk result (all.new.items ≡ before ++ typed.padded count vs) }
+    ensures ok { (n : ℕ) (before vs : List ℤ) → count ≡ capped n → all.old.items ≡ before ++ vs → start ≡ length before → OnOk result (all.new.items ≡ before ++ typed.padded n vs) }
     ensures err { IfErr result (λ r. r ≡ Memory) }
 {
-    let Some(end) = start.checked_add(count) else {
-        return Err(Refusal::Memory);
-    };
-    all.truncate(end);
-    let missing = end.saturating_sub(all.len());
-    push_zeros(missing, all)
+    match all.resize(start.saturating_add(count), 0) {
+        Ok(()) => Ok(()),
+        Err(_) => Err(Refusal::Memory),
+    }
 }
 
 /// The characters of a text, which ends in a zero.
@@ -142,9 +123,7 @@ fn push_parts(
     ensures ok { OnOk result ((vs : List ℤ) × (all.new.items ≡ all.old.items ++ vs) × (all_values_with names.now literals.now element lengths.now (initialisers_of (map initialiser_of parts.now)) ≡ fine vs)) }
     ensures err { IfErr result (λ r. Tells r (all_values_with names.now literals.now element lengths.now (initialisers_of (map initialiser_of parts.now)))) }
 {
-    let Some(count) = element_count(lengths) else {
-        return Err(Refusal::Memory);
-    };
+    let count = element_count(lengths);
     for part in parts {
         let start = all.len();
         match push_values(names, literals, element, lengths, part, all) {

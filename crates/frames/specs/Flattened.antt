@@ -2,10 +2,13 @@
 use Rattle.std.specs.Prelude.{◌≡◌, ◌≤◌, ℕ, List, length, slice_get, Some}
 use Rattle.csem.specs.History.{Entry, trace_of}
 use Rattle.frames_code.specs.Code as flat
+use Rattle.frames_code.specs.Costs.{next_of}
 use Rattle.frames_code.specs.Run as flat_run
 use Rattle.frames_code.specs.Sound as flat_sound
+use Rattle.frames_code.specs.declared.code.Instruction.TheVariants as flat_instruction
 use Rattle.tac_code.specs.Code as tac
 use Rattle.tac_code.specs.Run as tac_run
+use Rattle.tac_code.specs.declared.code.Instruction.TheVariants as instruction
 use Rattle.tac_code.specs.Costs as tac_costs
 use Rattle.tac_code.specs.Sound.{AreBytes}
 use Rattle.frames.specs.Data.{data_of}
@@ -27,10 +30,19 @@ abbrev pub CostsNoMore : tac.Program → flat.Program → List ℕ → (n m : �
 CostsNoMore q f input n m =
     flat_costs.spent_in_all f m (flat_run.start f input) ≤ tac_costs.spent_in_all q n (tac_run.start q input)
 
--- at each of m steps the calls are those of the first run at one of its n
+-- each word in a temporary of three-address code is in that of flat code
+abbrev pub HasItsWords : flat_run.State → tac_run.State → Type 0
+HasItsWords s t = (k w : ℕ) → t.temporaries k ≡ Some (tac_run.word w) → s.temporaries k ≡ Some (flat_run.word w)
+
+-- where flat code is about to call a function or to return, three-address code is too, with the same words in its temporaries
+pub record IsAtCall (q : tac.Program) (f : flat.Program) (t : tac_run.State) (s : flat_run.State) : Type 0 where
+  pub calls : (g : ℕ) → next_of f s ≡ Some (flat_instruction.Call g) → (tac_run.instruction_at q t ≡ Some (instruction.Call g)) × HasItsWords s t
+  pub returns : next_of f s ≡ Some flat_instruction.Return → (tac_run.instruction_at q t ≡ Some instruction.Return) × HasItsWords s t
+
+-- at each of m steps the calls, those that are active and one that begins or ends next, are those of the first run at one of its n
 abbrev pub HasItsCalls : tac.Program → flat.Program → List ℕ → (n m : ℕ) → Type 0
 HasItsCalls q f input n m = (j : ℕ) (s : flat_run.State) → j ≤ m → behind f input j ≡ flat_run.running s →
-    (i : ℕ) × (i ≤ n) × ((t : tac_run.State) × (before q input i ≡ tac_run.running t) × (flat_run.active s ≡ tac_run.open_calls t))
+    (i : ℕ) × (i ≤ n) × ((t : tac_run.State) × (before q input i ≡ tac_run.running t) × (flat_run.active s ≡ tac_run.open_calls t) × IsAtCall q f t s)
 
 -- for each n where three-address code is not stuck; one step is at least one
 pub record InStep (q : tac.Program) (f : flat.Program) (input : List ℕ) : Type 0 where

@@ -12,7 +12,7 @@ use Rattle.tac_code.specs.declared.code.Parameter.TheVariants as parameter
 use Rattle.tac_code.specs.Code.{Program, Function, function_at, scalar_type}
 use Rattle.tac_code.specs.Costs.{array_parameters}
 use Rattle.tac_code.specs.Run as tac
-use Rattle.tac_code.specs.Run.{State, Call, Value, Values, word, reference, word_in, reference_in, word_for, number_object, numbers_in, arrays_in, open_calls}
+use Rattle.tac_code.specs.Run.{State, Call, Value, Values, word, reference, word_in, reference_in, word_for, number_object, numbers_in, arrays_in, words_in, open_calls}
 use Rattle.frames_code.specs.Code as flat_code
 use Rattle.frames_code.specs.Code.{frame_bytes, area_home}
 use Rattle.frames_code.specs.Run as flat
@@ -167,13 +167,13 @@ module _ (q : Program) (f : flat_code.Program) (g : IsMadeOf q f) (t : State) (s
       (λ i x ex. ap (slice_get (flat.function_at f n).code) (let sum : 0 + i ≡ i = omega arith in sum) ∙ (ap (λ (h : flat_code.Function). slice_get h.code i) (g.functions n)
       ∙ get_left (moves_from (layout_of callee) 0 0 0 callee.parameters) (map (translated (starts_of q) (layout_of callee)) callee.code) i x ex))
 
-  abbrev begun_state : State
+  abbrev pub begun_state : State
   begun_state = record t {
     call = record { function = n; at = 0; kept = tac.unset; base = length t.store; arrays = references };
     temporaries = tac.unset;
     waiting = record t.call { at = t.call.at + 1 } ∷ t.waiting;
     store = t.store ++ new;
-    history = Entered n ∷ t.history;
+    history = Entered n (words_in callee.parameters t.temporaries 0) ∷ t.history;
   }
 
   name : name_of f (moving s n 0 flat.unset).frame (moving s n 0 flat.unset).waiting ≡ stack_bytes q (n ∷ open_calls t)

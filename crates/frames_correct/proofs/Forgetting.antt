@@ -104,8 +104,20 @@ forgets q f t s n zero m le = m
 forgets q f t s n (suc k) m le =
     forgets q f (record t { store = put_in t.store (t.call.base + n) [] (new_object (slice_get (function_at q t.call.function).objects n)) }) s (suc n) k (forgets_one q f t s m n (omega (arith, le))) (omega (arith, le))
 
+-- no temporary has a value
+unsets : (q : Program) (f : flat_code.Program) (t : State) (s : flat.State) → Matched q f t s → Matched q f (record t { temporaries = tac.unset }) s
+unsets q f t s m = record {
+  frames = m.frames;
+  temporaries = λ k v ek. absurd (let z : ⊥ = cc in z);
+  count = m.count;
+  in_place = m.in_place;
+  input = m.input;
+  bytes = m.bytes;
+  trace = m.trace;
+}
+
 pub does_forget : (q : Program) (f : flat_code.Program) (t : State) (s : flat.State) (m : Matched q f t s) (u : Starts) (n k : ℕ) → n + k ≤ length (function_at q t.call.function).objects
     → Alike q f (tac.act q t (instruction.Forget n k)) (flat.act f s (translated u (layout_of (function_at q t.call.function)) (instruction.Forget n k)))
 does_forget q f t s m u n k le =
     let on : s.frame.at + 1 ≡ length (function_at q t.call.function).parameters + (t.call.at + 1) = omega (arith, m.frames.0.at) in
-    forgets q f (tac.next t) (flat.past s) n k (goes_to q f t s m (t.call.at + 1) (s.frame.at + 1) s.arguments on) le
+    forgets q f (record (tac.next t) { temporaries = tac.unset }) (flat.past s) n k (unsets q f (tac.next t) (flat.past s) (goes_to q f t s m (t.call.at + 1) (s.frame.at + 1) s.arguments on)) le

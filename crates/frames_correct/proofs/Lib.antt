@@ -19,6 +19,7 @@ pub mod Forgetting
 pub mod Returning
 pub mod Moving
 pub mod Calling
+pub mod AtCalls
 pub mod Steps
 pub mod Runs
 pub mod Laid

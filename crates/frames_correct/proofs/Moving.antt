@@ -9,7 +9,9 @@ use Rattle.tac_code.specs.declared.code.Parameter.{Parameter}
 use Rattle.tac_code.specs.declared.code.Parameter.TheVariants as parameter
 use Rattle.tac_code.specs.Code.{scalar_type}
 use Rattle.tac_code.specs.Run.{Values, word, reference, word_in, reference_in, word_for, number_of, is_word_of, and_then, number_object, numbers_in, arrays_in}
+use Rattle.frames_code.specs.declared.code.Operand.{Operand}
 use Rattle.frames_code.specs.declared.code.Operand.TheVariants as source
+use Rattle.frames_code.specs.declared.code.Target.{Target}
 use Rattle.frames_code.specs.declared.code.Target.TheVariants as into
 use Rattle.frames_code.specs.declared.code.Instruction.{Instruction}
 use Rattle.frames_code.specs.declared.code.Instruction.TheVariants as instruction
@@ -51,11 +53,17 @@ move_step p s g at c k cells v e ev =
 abbrev pub home : Layout → ℕ → ℕ
 home l i = cell_in (slice_get l.homes i)
 
+pub record IsAtMove (p : Program) (u : State) : Type 0 where
+  pub to : Target
+  pub from : Operand
+  pub is : next_of p u ≡ Some (instruction.Move to from)
+
 pub record Moved (p : Program) (s : State) (xs : List Spot) (g : ℕ) (l : Layout) (k n m count : ℕ) (numbers : List Tree) (arrays : List Reference) (cells : flat.Values) : Type 0 where
   pub cells2 : flat.Values
   pub runs : run p count (moving s g k cells) ≡ running (moving s g (k + count) cells2)
   pub spends : spent p count (moving s g k cells) ≡ 6 * count
   pub within : (j : ℕ) (u : State) → j ≤ count → run p j (moving s g k cells) ≡ running u → active u ≡ g ∷ active s
+  pub moves : (j : ℕ) (u : State) → j < count → run p j (moving s g k cells) ≡ running u → IsAtMove p u
   pub objects : (i : ℕ) (z : ℤ) → value_of (slice_get numbers i) ≡ Some z → cells2 (home l (n + i)) ≡ Some (flat.word (word_for z))
   pub references : (i : ℕ) (r : Reference) → slice_get arrays i ≡ Some r → Shows xs (reference r) (cells2 (l.references + (m + i)))
   pub keeps : (c : ℕ) → ((i : ℕ) → i < length numbers → c ≢ home l (n + i)) → ((i : ℕ) → i < length arrays → c ≢ l.references + (m + i)) → cells2 c ≡ cells c
@@ -119,6 +127,14 @@ module _ (p : Program) (s : State) (xs : List Spot) (g : ℕ) (l : Layout) (boun
       same_state a b e = cc
   first_within c k count cells v e h (suc j) u le eu = h j u (omega (arith, le)) (sym (ap (λ r. goes_on r (run p j)) e) ∙ eu)
 
+  first_moves : (c k count : ℕ) (cells : flat.Values) (v : flat.Value) → slice_get (function_at p g).code k ≡ Some (instruction.Move (into.Cell c) (argument k)) → step p (moving s g k cells) ≡ running (moving s g (k + 1) (flat.with_at cells c v))
+      → ((j : ℕ) (u : State) → j < count → run p j (moving s g (k + 1) (flat.with_at cells c v)) ≡ running u → IsAtMove p u) → (j : ℕ) (u : State) → j < suc count → run p j (moving s g k cells) ≡ running u → IsAtMove p u
+  first_moves c k count cells v ec e h zero u lt eu = let same : moving s g k cells ≡ u = same_state (moving s g k cells) u eu in subst (IsAtMove p) same (record { to = into.Cell c; from = argument k; is = ec })
+    where
+      same_state : (a b : State) → running a ≡ running b → a ≡ b
+      same_state a b e = cc
+  first_moves c k count cells v ec e h (suc j) u lt eu = h j u (omega (arith, lt)) (sym (ap (λ r. goes_on r (run p j)) e) ∙ eu)
+
   number_first : (k n m count w : ℕ) (ty : IntType) (numbers : List Tree) (arrays : List Reference) (cells : flat.Values) → slice_get (function_at p g).code k ≡ Some (instruction.Move (into.Cell (home l n)) (argument k)) → s.temporaries k ≡ Some (flat.word w) → is_word_of ty w ≡ true → n + suc (length numbers) ≤ bound
       → Moved p s xs g l (k + 1) (n + 1) m count numbers arrays (flat.with_at cells (home l n) (flat.word w)) → Moved p s xs g l k n m (suc count) (Element (Some (number_of ty w)) ∷ numbers) arrays cells
   number_first k n m count w ty numbers arrays cells ec ew eword room h =
@@ -132,6 +148,7 @@ module _ (p : Program) (s : State) (xs : List Spot) (g : ℕ) (l : Layout) (boun
         runs = first_runs (home l n) k count cells h.cells2 (flat.word w) one h.runs;
         spends = first_spends (home l n) k count cells (flat.word w) instruction.Nothing ec one h.spends;
         within = first_within (home l n) k count cells (flat.word w) one h.within;
+        moves = first_moves (home l n) k count cells (flat.word w) ec one h.moves;
         objects = by_place kept is h.objects;
         references = h.references;
         keeps = λ c no_object no_reference.
@@ -157,6 +174,7 @@ module _ (p : Program) (s : State) (xs : List Spot) (g : ℕ) (l : Layout) (boun
         runs = first_runs (l.references + m) k count cells h.cells2 v one h.runs;
         spends = first_spends (l.references + m) k count cells v instruction.Nothing ec one h.spends;
         within = first_within (l.references + m) k count cells v one h.within;
+        moves = first_moves (l.references + m) k count cells v ec one h.moves;
         objects = h.objects;
         references = by_place kept h.references;
         keeps = λ c no_object no_reference.
@@ -192,6 +210,7 @@ module _ (p : Program) (s : State) (xs : List Spot) (g : ℕ) (l : Layout) (boun
       runs = ap (λ i. running (moving s g i cells)) (let sum : k ≡ k + 0 = omega arith in sum);
       spends = refl;
       within = none_within;
+      moves = λ j u lt e. absurd (omega (arith, lt));
       objects = λ i z e. let none : [] ≡ numbers = same_some [] numbers en in absurd (no_value i z (ap (λ ns. value_of (slice_get ns i)) none ∙ e));
       references = λ i r e. let none : [] ≡ arrays = same_some [] arrays ea in absurd (no_reference i r (ap (λ rs. slice_get rs i) none ∙ e));
       keeps = λ c no_object no_reference. refl;

@@ -5,17 +5,15 @@ use Rattle.csem.specs.History.{Entry}
 use Rattle.tac_code.specs.Code.{Program}
 use Rattle.tac_code.specs.Costs as tac_costs
 use Rattle.tac_code.specs.Run as tac
-use Rattle.tac_code.specs.Run.{State, Progress, running, ended, stuck, step, run, instruction_at, open_calls}
+use Rattle.tac_code.specs.Run.{State, Progress, running, ended, stuck, step, run, instruction_at}
 use Rattle.frames_code.specs.Code as flat_code
 use Rattle.frames_code.specs.Costs as flat_costs
 use Rattle.frames_code.specs.Run as flat
-use Rattle.frames_code.specs.Run.{active}
 use Rattle.frames_correct.specs.Matched.{Matched, Alike}
-use Rattle.frames_correct.proofs.Frames.{functions_same}
 use Rattle.frames_correct.proofs.Ground.{IsMadeOf}
 use Rattle.frames_correct.proofs.Calling.{as_sum}
-use Rattle.frames_correct.specs.Laws.{Comes, Follows, FlatRunsCompose}
-use Rattle.frames_correct.proofs.Steps.{same_running, step_follows}
+use Rattle.frames_correct.specs.Laws.{HasCallsOf, Comes, Follows, FlatRunsCompose}
+use Rattle.frames_correct.proofs.Steps.{same_running, calls_of, step_follows}
 
 -- ---- consecutive flat runs
 
@@ -51,12 +49,12 @@ spent_both p (suc k) n s =
 -- ---- a run of three-address code, and that of its flat code
 
 -- at one of the first run's steps so far, its calls
-pub record CallsAt (q : Program) (t : State) (n : ℕ) (fs : List ℕ) : Type 0 where
+pub record CallsAt (q : Program) (f : flat_code.Program) (t : State) (n : ℕ) (u : flat.State) : Type 0 where
   pub at : ℕ
   pub below : at ≤ n
   pub state : State
   pub is : run q at t ≡ running state
-  pub calls : fs ≡ open_calls state
+  pub calls : HasCallsOf q f state u
 
 abbrev pub IsBelow : ℕ → ℕ → Progress → Type 0
 IsBelow n m (running t) = n ≤ m
@@ -68,7 +66,7 @@ pub record Along (q : Program) (f : flat_code.Program) (t : State) (s : flat.Sta
   pub below : IsBelow n count r
   pub alike : Alike q f r (flat.run f count s)
   pub costs : flat_costs.spent f count s ≤ tac_costs.spent q n t
-  pub calls : (j : ℕ) (u : flat.State) → j ≤ count → flat.run f j s ≡ flat.running u → CallsAt q t n (active u)
+  pub calls : (j : ℕ) (u : flat.State) → j ≤ count → flat.run f j s ≡ flat.running u → CallsAt q f t n u
 
 -- a stuck run promises nothing
 abbrev pub GoesAlong : Program → flat_code.Program → State → flat.State → ℕ → Progress → Type 0
@@ -77,8 +75,8 @@ GoesAlong q f t s n (running u) = Along q f t s n (running u)
 GoesAlong q f t s n (ended status input history) = Along q f t s n (ended status input history)
 
 module _ (q : Program) (f : flat_code.Program) (g : IsMadeOf q f) where
-  here : (t : State) (n : ℕ) (fs : List ℕ) → fs ≡ open_calls t → CallsAt q t n fs
-  here t n fs e = record { at = 0; below = omega arith; state = t; is = refl; calls = e }
+  here : (t : State) (n : ℕ) (u : flat.State) → HasCallsOf q f t u → CallsAt q f t n u
+  here t n u e = record { at = 0; below = omega arith; state = t; is = refl; calls = e }
 
   goes_nowhere : (t : State) (s : flat.State) → Matched q f t s → Along q f t s 0 (running t)
   goes_nowhere t s m = record {
@@ -89,8 +87,8 @@ module _ (q : Program) (f : flat_code.Program) (g : IsMadeOf q f) where
     calls = each;
   }
     where
-      each : (j : ℕ) (u : flat.State) → j ≤ 0 → flat.run f j s ≡ flat.running u → CallsAt q t 0 (active u)
-      each zero u le e = here t 0 (active u) (ap active (sym (same_running s u e)) ∙ functions_same q (t.call ∷ t.waiting) (s.frame ∷ s.waiting) t.store m.frames)
+      each : (j : ℕ) (u : flat.State) → j ≤ 0 → flat.run f j s ≡ flat.running u → CallsAt q f t 0 u
+      each zero u le e = here t 0 u (subst (HasCallsOf q f t) (same_running s u e) (calls_of q f g t s m))
       each (suc j) u le e = absurd (omega (arith, le))
 
   -- the first step ends
@@ -103,7 +101,7 @@ module _ (q : Program) (f : flat_code.Program) (g : IsMadeOf q f) where
         below = tt;
         alike = c.alike;
         costs = omega (arith, c.costs, rest);
-        calls = λ j u le ej. ⊎_elim (λ same. here t (suc n) (active u) same) (λ x. absurd x) (c.calls j u le ej);
+        calls = λ j u le ej. ⊎_elim (λ same. here t (suc n) u same) (λ x. absurd x) (c.calls j u le ej);
       }
 
   pub record IsThere (t2 : State) (r : flat.Progress) : Type 0 where
@@ -127,19 +125,19 @@ module _ (q : Program) (f : flat_code.Program) (g : IsMadeOf q f) where
         let more : tac_costs.cost_on (step q t) (tac_costs.spent q n) ≡ tac_costs.spent q n t2 = ap (λ r. tac_costs.cost_on r (tac_costs.spent q n)) e in
         omega (arith, both, rest, more, c.costs, le)
 
-    one_later : (fs : List ℕ) → CallsAt q t2 n fs → CallsAt q t (suc n) fs
-    one_later fs h = record { at = suc h.at; below = omega (arith, h.below); state = h.state; is = ap (λ r. tac.goes_on r (run q h.at)) e ∙ h.is; calls = h.calls }
+    one_later : (u : flat.State) → CallsAt q f t2 n u → CallsAt q f t (suc n) u
+    one_later u h = record { at = suc h.at; below = omega (arith, h.below); state = h.state; is = ap (λ r. tac.goes_on r (run q h.at)) e ∙ h.is; calls = h.calls }
 
-    second : (fs : List ℕ) → fs ≡ open_calls t2 → CallsAt q t (suc n) fs
-    second fs same = record { at = 1; below = omega arith; state = t2; is = ap (λ r. tac.goes_on r (run q zero)) e; calls = same }
+    second : (u : flat.State) → HasCallsOf q f t2 u → CallsAt q f t (suc n) u
+    second u same = record { at = 1; below = omega arith; state = t2; is = ap (λ r. tac.goes_on r (run q zero)) e; calls = same }
 
-    calls_further : (k : ℕ) → ((j : ℕ) (u : flat.State) → j ≤ k → flat.run f j s2 ≡ flat.running u → CallsAt q t2 n (active u)) → (j : ℕ) (u : flat.State) → j ≤ c.count + k → flat.run f j s ≡ flat.running u → CallsAt q t (suc n) (active u)
+    calls_further : (k : ℕ) → ((j : ℕ) (u : flat.State) → j ≤ k → flat.run f j s2 ≡ flat.running u → CallsAt q f t2 n u) → (j : ℕ) (u : flat.State) → j ≤ c.count + k → flat.run f j s ≡ flat.running u → CallsAt q f t (suc n) u
     calls_further k each j u le ej =
         ⊎_elim
-        (λ lt. ⊎_elim (λ same. here t (suc n) (active u) same) (λ same. second (active u) same) (c.calls j u (omega (arith, lt)) ej))
+        (λ lt. ⊎_elim (λ same. here t (suc n) u same) (λ same. second u same) (c.calls j u (omega (arith, lt)) ej))
         (λ ge.
         let sum = as_sum c.count j ge in
-        one_later (active u) (each sum.rest u (omega (arith, sum.sum, le)) (sym (further sum.rest) ∙ (ap (λ i. flat.run f i s) sum.sum ∙ ej))))
+        one_later u (each sum.rest u (omega (arith, sum.sum, le)) (sym (further sum.rest) ∙ (ap (λ i. flat.run f i s) sum.sum ∙ ej))))
         (cases_lt j c.count)
 
     below_more : (k : ℕ) (r : Progress) → IsBelow n k r → IsBelow (suc n) (c.count + k) r

@@ -1,6 +1,7 @@
 -- Each instruction, and one step.
-use Rattle.std.proofs.Common.{◌≡◌, ◌⊎◌, inl, inr, ℕ, zero, suc, ◌+◌, ◌*◌, ◌≤◌, List, [], ◌∷◌, ◌++◌, length, map, Option, Some, None, refl, sym, ap, ◌∙◌, subst, arith}
+use Rattle.std.proofs.Common.{◌≡◌, ◌⊎◌, inl, inr, ⊎_elim, ℕ, zero, suc, ◌+◌, ◌*◌, ◌<◌, ◌≤◌, List, [], ◌∷◌, ◌++◌, length, map, Option, Some, None, refl, sym, ap, ◌∙◌, subst, arith}
 use Rattle.std.specs.Prelude.{slice_get}
+use Rattle.std.proofs.lemmas.Bool.{cases_lt}
 use Rattle.ctypes.specs.declared.types.IntType.{IntType}
 use Rattle.ctypes.specs.declared.types.IntType.TheVariants as ty
 use Rattle.csem.specs.Store.{Tree, Reference}
@@ -21,9 +22,10 @@ use Rattle.frames_code.specs.declared.code.Instruction as flat_instruction
 use Rattle.frames_code.specs.declared.code.Instruction.TheVariants as flat_instructions
 use Rattle.frames.specs.Layout.{Starts, Layout, layout_of, starts_of}
 use Rattle.frames.specs.Translated.{translated, moves_from, conversion_of, target_of, operand_of}
+use Rattle.frames.specs.Flattened.{IsAtCall}
 use Rattle.frames.proofs.Sound.{length_moves}
 use Rattle.frames_correct.specs.Matched.{Matched, Alike}
-use Rattle.frames_correct.specs.Laws.{Comes, Follows}
+use Rattle.frames_correct.specs.Laws.{HasCallsOf, HasCallsAfter, Comes, Follows}
 use Rattle.frames_correct.proofs.Lists.{get_right, get_map}
 use Rattle.frames_correct.proofs.Frames.{functions_same}
 use Rattle.frames_correct.proofs.Ground.{IsMadeOf, function_is}
@@ -33,8 +35,9 @@ use Rattle.frames_correct.proofs.References.{does_address, does_part, does_eleme
 use Rattle.frames_correct.proofs.Storing.{does_load, does_store}
 use Rattle.frames_correct.proofs.Forgetting.{does_forget}
 use Rattle.frames_correct.proofs.Returning.{does_return}
-use Rattle.frames_correct.proofs.Moving.{step_is, moving}
-use Rattle.frames_correct.proofs.Calling.{arguments_moved, begun_matched}
+use Rattle.frames_correct.proofs.Moving.{step_is, moving, IsAtMove}
+use Rattle.frames_correct.proofs.Calling.{arguments_moved, begun_matched, begun_state}
+use Rattle.frames_correct.proofs.AtCalls.{at_call}
 
 -- ---- instructions but for calls
 
@@ -97,6 +100,17 @@ follows_bound q f t s cost (Some x) go each = each x refl
 pub same_running : (a b : flat.State) → flat.running a ≡ flat.running b → a ≡ b
 same_running a b e = cc
 
+-- before a move nothing is called, and nothing returns
+at_move : (q : Program) (f : flat_code.Program) (t : State) (u : flat.State) → IsAtMove f u → IsAtCall q f t u
+at_move q f t u h = record {
+  calls = λ n e. absurd (let both : Some (flat_instructions.Move h.to h.from) ≡ Some (flat_instructions.Call n) = sym h.is ∙ e in let z : ⊥ = cc in z);
+  returns = λ e. absurd (let both : Some (flat_instructions.Move h.to h.from) ≡ Some flat_instructions.Return = sym h.is ∙ e in let z : ⊥ = cc in z);
+}
+
+-- a state that matches
+pub calls_of : (q : Program) (f : flat_code.Program) (g : IsMadeOf q f) (t : State) (s : flat.State) → Matched q f t s → HasCallsOf q f t s
+calls_of q f g t s m = (functions_same q (t.call ∷ t.waiting) (s.frame ∷ s.waiting) t.store m.frames, at_call q f g t s m)
+
 nothing_more : (p : flat_code.Program) (r : flat.Progress) → flat_costs.cost_on r (flat_costs.spent p zero) ≡ 0
 nothing_more p (flat.running s) = refl
 nothing_more p (flat.ended status input trace) = refl
@@ -137,8 +151,8 @@ module _ (q : Program) (f : flat_code.Program) (g : IsMadeOf q f) (t : State) (s
       ap (λ (h : flat_code.Function). slice_get h.code s.frame.at) (function_is q f g t s m)
       ∙ (ap (slice_get (moves ++ rest)) at ∙ (get_right moves rest t.call.at ∙ get_map (translated (starts_of q) (layout_of the)) the.code t.call.at x e))
 
-  calls_now : active s ≡ open_calls t
-  calls_now = functions_same q (t.call ∷ t.waiting) (s.frame ∷ s.waiting) t.store m.frames
+  calls_now : (v : flat.State) → flat.running s ≡ flat.running v → HasCallsOf q f t v
+  calls_now v e = subst (HasCallsOf q f t) (same_running s v e) (calls_of q f g t s m)
 
   one_cost : (x : Instruction) → instruction_at q t ≡ Some x → IsNoCall x → flat_costs.spent f 1 s ≤ tac_costs.cost q x
   one_cost x e no_call_here =
@@ -155,11 +169,11 @@ module _ (q : Program) (f : flat_code.Program) (g : IsMadeOf q f) (t : State) (s
     calls = each;
   }
     where
-      each : (j : ℕ) (v : flat.State) → j ≤ 1 → flat.run f j s ≡ flat.running v → (active v ≡ open_calls t) ⊎ (active v ≡ open_calls u)
-      each zero v le ev = inl (ap active (sym (same_running s v ev)) ∙ calls_now)
+      each : (j : ℕ) (v : flat.State) → j ≤ 1 → flat.run f j s ≡ flat.running v → HasCallsOf q f t v ⊎ HasCallsOf q f u v
+      each zero v le ev = inl (calls_now v ev)
       each (suc zero) v le ev =
           let there : flat.running s2 ≡ flat.running v = sym (ap (λ r. flat.goes_on r (flat.run f zero)) e) ∙ ev in
-          inr (ap active (sym (same_running s2 v there)) ∙ functions_same q (u.call ∷ u.waiting) (s2.frame ∷ s2.waiting) u.store h.frames)
+          inr (subst (HasCallsOf q f u) (same_running s2 v there) (calls_of q f g u s2 h))
       each (suc (suc j)) v le ev = absurd (omega (arith, le))
   comes_one cost u (flat.ended status input trace) e le h = absurd h
   comes_one cost u flat.stuck e le h = absurd h
@@ -176,8 +190,8 @@ module _ (q : Program) (f : flat_code.Program) (g : IsMadeOf q f) (t : State) (s
     calls = each;
   }
     where
-      each : (j : ℕ) (v : flat.State) → j ≤ 1 → flat.run f j s ≡ flat.running v → (active v ≡ open_calls t) ⊎ ⊥
-      each zero v le ev = inl (ap active (sym (same_running s v ev)) ∙ calls_now)
+      each : (j : ℕ) (v : flat.State) → j ≤ 1 → flat.run f j s ≡ flat.running v → HasCallsOf q f t v ⊎ ⊥
+      each zero v le ev = inl (calls_now v ev)
       each (suc zero) v le ev =
           let there : flat.ended status2 input2 trace ≡ flat.running v = sym (ap (λ r. flat.goes_on r (flat.run f zero)) e) ∙ ev in
           absurd (let z : ⊥ = cc in z)
@@ -193,29 +207,47 @@ module _ (q : Program) (f : flat_code.Program) (g : IsMadeOf q f) (t : State) (s
   known : (n : ℕ) (h : Function) → slice_get q.functions n ≡ Some h → h ≡ function_at q n
   known n h e = rw e refl
 
-  enters : (n : ℕ) → instruction_at q t ≡ Some (instruction.Call n) → (numbers : List Tree) (references : List Reference) → numbers_in (function_at q n).parameters (function_at q n).objects t.temporaries 0 ≡ Some numbers → arrays_in (function_at q n).parameters t.temporaries 0 ≡ Some references
-      → Follows q f t s (tac_costs.cost q (instruction.Call n)) (begun t n (function_at q n) numbers references)
-  enters n e numbers references en er =
-      let h = arguments_moved q f g t s m n numbers references en er in
-      let size = length (function_at q n).parameters in
-      let next = stands (instruction.Call n) e in
-      let one : flat.step f s ≡ flat.running (moving s n 0 flat.unset) = step_is f s (flat_instructions.Call n) next in
-      let there : flat.run f (suc size) s ≡ flat.running (moving s n (0 + size) h.cells2) = ap (λ r. flat.goes_on r (flat.run f size)) one ∙ h.runs in
-      let first : flat_costs.cost_if (flat_costs.next_of f s) ≡ 44 = ap flat_costs.cost_if next in
-      let rest : flat_costs.cost_on (flat.step f s) (flat_costs.spent f size) ≡ 6 * size = ap (λ r. flat_costs.cost_on r (flat_costs.spent f size)) one ∙ h.spends in
-      record {
-        count = suc size;
-        some = omega arith;
-        alike = subst (Alike q f (begun t n (function_at q n) numbers references)) (sym there) (begun_matched q f g t s m n numbers references en er h);
-        costs = omega (arith, first, rest);
-        calls = each one h.within;
-      }
-    where
-      each : flat.step f s ≡ flat.running (moving s n 0 flat.unset) → ((j : ℕ) (u : flat.State) → j ≤ length (function_at q n).parameters → flat.run f j (moving s n 0 flat.unset) ≡ flat.running u → active u ≡ n ∷ active s)
-          → (j : ℕ) (v : flat.State) → j ≤ suc (length (function_at q n).parameters) → flat.run f j s ≡ flat.running v → (active v ≡ open_calls t) ⊎ (active v ≡ n ∷ open_calls t)
-      each one within zero v le ev = inl (ap active (sym (same_running s v ev)) ∙ calls_now)
-      each one within (suc j) v le ev =
-          inr (within j v (omega (arith, le)) (sym (ap (λ r. flat.goes_on r (flat.run f j)) one) ∙ ev) ∙ ap (λ fs. n ∷ fs) calls_now)
+  module _ (n : ℕ) (numbers : List Tree) (references : List Reference) (en : numbers_in (function_at q n).parameters (function_at q n).objects t.temporaries 0 ≡ Some numbers) (er : arrays_in (function_at q n).parameters t.temporaries 0 ≡ Some references) where
+    abbrev size : ℕ
+    size = length (function_at q n).parameters
+
+    abbrev callee : State
+    callee = begun_state q f g t s m n numbers references en er
+
+    abbrev first : flat.State
+    first = moving s n 0 flat.unset
+
+    -- the call, its moves, and the state after these
+    on_the_way : flat.step f s ≡ flat.running first → ((j : ℕ) (u : flat.State) → j ≤ size → flat.run f j first ≡ flat.running u → active u ≡ n ∷ active s) → ((j : ℕ) (u : flat.State) → j < size → flat.run f j first ≡ flat.running u → IsAtMove f u)
+        → (w : flat.State) → flat.run f (suc size) s ≡ flat.running w → HasCallsOf q f callee w
+        → (j : ℕ) (v : flat.State) → j ≤ suc size → flat.run f j s ≡ flat.running v → HasCallsOf q f t v ⊎ HasCallsOf q f callee v
+    on_the_way one within moves w there last zero v le ev = inl (calls_now v ev)
+    on_the_way one within moves w there last (suc j) v le ev =
+        let later : flat.run f j first ≡ flat.running v = sym (ap (λ r. flat.goes_on r (flat.run f j)) one) ∙ ev in
+        inr (⊎_elim
+        (λ lt. (within j v (omega (arith, le)) later ∙ ap (λ fs. n ∷ fs) (calls_of q f g t s m).0, at_move q f callee v (moves j v lt later)))
+        (λ ge.
+        let end : suc j ≡ suc size = omega (arith, ge, le) in
+        subst (HasCallsOf q f callee) (same_running w v (sym there ∙ (ap (λ k. flat.run f k s) (sym end) ∙ ev))) last)
+        (cases_lt j size))
+
+    enters : instruction_at q t ≡ Some (instruction.Call n) → Follows q f t s (tac_costs.cost q (instruction.Call n)) (begun t n (function_at q n) numbers references)
+    enters e =
+        let h = arguments_moved q f g t s m n numbers references en er in
+        let next = stands (instruction.Call n) e in
+        let one : flat.step f s ≡ flat.running first = step_is f s (flat_instructions.Call n) next in
+        let w = moving s n (0 + size) h.cells2 in
+        let there : flat.run f (suc size) s ≡ flat.running w = ap (λ r. flat.goes_on r (flat.run f size)) one ∙ h.runs in
+        let last : Matched q f callee w = begun_matched q f g t s m n numbers references en er h in
+        let cost : flat_costs.cost_if (flat_costs.next_of f s) ≡ 44 = ap flat_costs.cost_if next in
+        let rest : flat_costs.cost_on (flat.step f s) (flat_costs.spent f size) ≡ 6 * size = ap (λ r. flat_costs.cost_on r (flat_costs.spent f size)) one ∙ h.spends in
+        record {
+          count = suc size;
+          some = omega arith;
+          alike = subst (Alike q f (begun t n (function_at q n) numbers references)) (sym there) last;
+          costs = omega (arith, cost, rest);
+          calls = on_the_way one h.within h.moves w there (calls_of q f g callee w last);
+        }
 
   calls_follow : (n : ℕ) → instruction_at q t ≡ Some (instruction.Call n) → Follows q f t s (tac_costs.cost q (instruction.Call n)) (entered q t n)
   calls_follow n e =
@@ -226,7 +258,7 @@ module _ (q : Program) (f : flat_code.Program) (g : IsMadeOf q f) (t : State) (s
       subst (λ k. Follows q f t s cost (more k)) (sym (known n h eh))
       (follows_bound q f t s cost (numbers_in (function_at q n).parameters (function_at q n).objects t.temporaries 0) (last (function_at q n)) (λ numbers en.
       follows_bound q f t s cost (arrays_in (function_at q n).parameters t.temporaries 0) (λ references. begun t n (function_at q n) numbers references) (λ references er.
-      enters n e numbers references en er))))
+      enters n numbers references en er e))))
 
   -- ---- any instruction
 
@@ -254,7 +286,7 @@ module _ (q : Program) (f : flat_code.Program) (g : IsMadeOf q f) (t : State) (s
 
   fits_in : (o : Option Function) → slice_get q.functions t.call.function ≡ o → (x : Instruction) → instruction_at q t ≡ Some x → InstructionFits q the x
   fits_in None eo x e =
-      let none : function_at q t.call.function ≡ record { code = []; parameters = []; objects = []; temporaries = 0; kept = 0 } = rw eo refl in
+      let none : function_at q t.call.function ≡ record { code = []; parameters = []; objects = []; result = None; temporaries = 0; kept = 0 } = rw eo refl in
       let nothing : slice_get [] t.call.at ≡ Some x = sym (ap (λ (h : Function). slice_get h.code t.call.at) none) ∙ e in
       absurd (let z : ⊥ = cc in z)
   fits_in (Some h) eo x e =

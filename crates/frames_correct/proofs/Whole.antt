@@ -8,7 +8,6 @@ use Rattle.tac_code.specs.Sound.{AreBytes}
 use Rattle.frames_code.specs.Code as flat_code
 use Rattle.frames_code.specs.Costs as frame_costs
 use Rattle.frames_code.specs.Run as flat
-use Rattle.frames_code.specs.Run.{active}
 use Rattle.frames.specs.Layout.{starts_of}
 use Rattle.frames.specs.Translated.{flat_function, flat_program}
 use Rattle.frames.specs.Flattened.{InStep, IsAt, CostsNoMore, HasItsCalls}
@@ -45,8 +44,8 @@ module _ (q : Program) (f : flat_code.Program) (g : IsMadeOf q f) (input : List 
   costs : (n m : ℕ) → frame_costs.spent f m s ≤ tac_costs.spent q n t → CostsNoMore q f input n m
   costs n m le = omega (arith, le, costs_begin)
 
-  calls : (n m : ℕ) → ((j : ℕ) (u : flat.State) → j ≤ m → flat.run f j s ≡ flat.running u → CallsAt q t n (active u)) → HasItsCalls q f input n m
-  calls n m each j u le e = let c = each j u le e in (c.at, c.below, (c.state, c.is, c.calls))
+  calls : (n m : ℕ) → ((j : ℕ) (u : flat.State) → j ≤ m → flat.run f j s ≡ flat.running u → CallsAt q f t n u) → HasItsCalls q f input n m
+  calls n m each j u le e = let c = each j u le e in (c.at, c.below, (c.state, c.is, c.calls.0, c.calls.1))
 
   goes_on : (n : ℕ) (u : State) → run q n t ≡ running u → (m : ℕ) × (n ≤ m) × ((v : flat.State) × (flat.run f m s ≡ flat.running v) × IsAt v u) × CostsNoMore q f input n m × HasItsCalls q f input n m
   goes_on n u e =

@@ -10,14 +10,18 @@ use Rattle.frames_code.specs.Costs.{spent}
 use Rattle.frames_code.specs.Run as flat_run
 use Rattle.frames_code.specs.Run.{active}
 use Rattle.frames.specs.Translated.{flat_program}
-use Rattle.frames.specs.Flattened.{InStep, IsFlattened}
+use Rattle.frames.specs.Flattened.{IsAtCall, InStep, IsFlattened}
 use Rattle.frames_correct.specs.Matched.{Matched, Alike}
 
--- these are the calls that are open after a step
-abbrev pub AreCallsOf : List ℕ → Progress → Type 0
-AreCallsOf fs (running t) = fs ≡ open_calls t
-AreCallsOf fs (ended status input history) = ⊥
-AreCallsOf fs stuck = ⊥
+-- a state of flat code has the calls of one of three-address code, and calls or returns next only where this does
+abbrev pub HasCallsOf : Program → flat.Program → State → flat_run.State → Type 0
+HasCallsOf q f t u = (active u ≡ open_calls t) × IsAtCall q f t u
+
+-- those after a step
+abbrev pub HasCallsAfter : Program → flat.Program → Progress → flat_run.State → Type 0
+HasCallsAfter q f (running t) u = HasCallsOf q f t u
+HasCallsAfter q f (ended status input history) u = ⊥
+HasCallsAfter q f stuck u = ⊥
 
 -- flat code reaches, in at least one step and within a cost, a state that is alike, and has the calls of the one state or of the other
 pub record Comes (q : Program) (f : flat.Program) (t : State) (s : flat_run.State) (cost : ℕ) (r : Progress) : Type 0 where
@@ -25,7 +29,7 @@ pub record Comes (q : Program) (f : flat.Program) (t : State) (s : flat_run.Stat
   pub some : 0 < count
   pub alike : Alike q f r (flat_run.run f count s)
   pub costs : spent f count s ≤ cost
-  pub calls : (j : ℕ) (u : flat_run.State) → j ≤ count → flat_run.run f j s ≡ flat_run.running u → (active u ≡ open_calls t) ⊎ AreCallsOf (active u) r
+  pub calls : (j : ℕ) (u : flat_run.State) → j ≤ count → flat_run.run f j s ≡ flat_run.running u → HasCallsOf q f t u ⊎ HasCallsAfter q f r u
 
 -- a stuck run promises nothing
 abbrev pub Follows : Program → flat.Program → State → flat_run.State → ℕ → Progress → Type 0

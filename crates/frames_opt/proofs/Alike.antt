@@ -121,6 +121,10 @@ pub record Agree (rest : List Instruction) (s : State) (u a : Values) : Type 0 w
   pub temporaries : (k : ℕ) → (u k ≡ s.temporaries k) ⊎ (is_unread k rest ≡ true)
   pub arguments : (k : ℕ) (v : Value) → s.arguments k ≡ Some v → a k ≡ Some v
 
+-- a temporary that the next instruction reads is the same
+pub same_where_read : (y : Instruction) (xs : List Instruction) (s : State) (u a : Values) → Agree (y ∷ xs) s u a → (k : ℕ) → reads k y ≡ true → u k ≡ s.temporaries k
+same_where_read y xs s u a agree k e = ⊎_elim (λ g. g) (λ g. absurd (not_both (reads k y) e (unread_reads k y xs g))) (agree.temporaries k)
+
 -- the second has gone on from the first, where it goes on; rest of the code is that after the state reached
 pub record Goes (rest : List Instruction) (s : State) (z : Progress) : Type 0 where
   pub others : Values
@@ -189,7 +193,7 @@ module _ (p q : Program) (r : Sized p q) (rest : State → List Instruction) (s 
     t2 = over u a s
 
     pub same_read : (k : ℕ) → reads k y ≡ true → u k ≡ s.temporaries k
-    same_read k e = ⊎_elim (λ g. g) (λ g. absurd (not_both (reads k y) e (unread_reads k y xs g))) (agree.temporaries k)
+    same_read k e = same_where_read y xs s u a agree k e
 
     -- a temporary that is not written
     kept_agrees : (k : ℕ) → is_written k y ≡ false → (u k ≡ s.temporaries k) ⊎ (is_unread k xs ≡ true)

@@ -6,5 +6,6 @@ pub mod Runs
 pub mod Positions
 pub mod Results
 pub mod Lists
+pub mod AtCalls
 pub mod Fitting
 pub mod Whole

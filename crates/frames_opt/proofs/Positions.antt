@@ -37,7 +37,7 @@ module _ (P : Instruction → Type 0) where
     arranged_form : (x y : Operand) → P (arranged o d x y)
     arranged_form x y = either (is_product o) (multiplied d x y) (instruction.Compute o d x y) (multiplied_form x y) (any o x y)
 
-    compute_form : (x y : Operand) → P (compute o d x y)
+    pub compute_form : (x y : Operand) → P (compute o d x y)
     compute_form x y = either (is_constant x && (not (is_constant y) && commutes o)) (arranged o d y x) (arranged o d x y) (arranged_form y x) (arranged_form x y)
 
   module _ (d : Target) (x : Operand) (size : ℕ) (any : (y : Operand) → P (instruction.Element d x y size)) (frame : (o : ℕ) → P (instruction.Address d (location.Frame o))) (statics : (o : ℕ) → P (instruction.Address d (location.Statics o))) where
@@ -55,7 +55,7 @@ module _ (P : Instruction → Type 0) where
     numbered_form area (known.Statics o) n = statics_form (within o n size 0x10000000) n
     numbered_form area (known.Frame o) n = frame_form (within o n size area) n
 
-    element_form : (area : ℕ) (k : Known) (y : Operand) → P (simpler_element area k d x y size)
+    pub element_form : (area : ℕ) (k : Known) (y : Operand) → P (simpler_element area k d x y size)
     element_form area k (operand.Temporary j) = any (operand.Temporary j)
     element_form area k (operand.Cell c) = any (operand.Cell c)
     element_form area k (operand.Constant n) = numbered_form area k n

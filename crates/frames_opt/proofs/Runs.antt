@@ -1,5 +1,5 @@
 -- A program that was made simpler runs as the program does, at no more cost.
-use Rattle.std.proofs.Common.{◌≡◌, ◌≤◌, ◌⊎◌, inl, inr, ⊎_elim, ℕ, zero, suc, ◌+◌, List, [], ◌∷◌, drop, Option, Some, None, true, refl, sym, ap, ◌∙◌, subst, arith}
+use Rattle.std.proofs.Common.{◌≡◌, ◌≤◌, ◌⊎◌, inl, inr, ⊎_elim, ℕ, zero, suc, ◌+◌, List, [], ◌∷◌, length, drop, Option, Some, None, true, refl, sym, ap, ◌∙◌, subst, arith}
 use Rattle.std.specs.Prelude.{slice_get}
 use Rattle.frames_code.specs.declared.code.Instruction.{Instruction}
 use Rattle.frames_code.specs.declared.code.Instruction.TheVariants as instruction
@@ -37,10 +37,11 @@ pub record IsSimpler (p q : Program) (kn : ℕ → ℕ → List Known) (middle :
   pub sized : Sized p q
   pub main : q.main ≡ p.main
   pub starts : (k : ℕ) → kn k 0 ≡ nothing
+  pub count : (k : ℕ) → length (function_at q k).code ≡ length (function_at p k).code
   pub each : (k i : ℕ) (x : Instruction) → slice_get (function_at p k).code i ≡ Some x → Position (function_at p k).area (kn k) (middle k) (function_at q k).code i x
 
 module _ (p q : Program) (kn : ℕ → ℕ → List Known) (middle : ℕ → List Instruction) (simple : IsSimpler p q kn middle) where
-  abbrev rest : State → List Instruction
+  abbrev pub rest : State → List Instruction
   rest s = drop s.frame.at (middle s.frame.function)
 
   module _ (s : State) (u a : Values) (good : Stands p kn s) (agree : Agree (rest s) s u a) where
@@ -146,6 +147,38 @@ module _ (p q : Program) (kn : ℕ → ℕ → List Known) (middle : ℕ → Lis
           let two : cost_on (step q (over u a s)) (spent q n) ≡ cost_on (act q (over u a s) z) (spent q n) = ap (λ w. cost_on w (spent q n)) second in
           omega (arith, more, one, two, less s u a good agree x e)
 
+  -- the states that the two runs have come to
+  pub record Reached (s : State) (z : Progress) : Type 0 where
+    pub others : Values
+    pub given : Values
+    pub is : z ≡ running (over others given s)
+    pub agree : Agree (rest s) s others given
+
+  abbrev Reach : ℕ → Type 0
+  Reach n = (s : State) (u a : Values) → Stands p kn s → Agree (rest s) s u a → (s2 : State) → run p n s ≡ running s2 → Reached s2 (run q n (over u a s))
+
+  goes_to_it : (n : ℕ) (x z : Progress) → Match rest x z → Sat (Stands p kn) x → Reach n → (s2 : State) → goes_on x (run p n) ≡ running s2 → Reached s2 (goes_on z (run q n))
+  goes_to_it n (running s) z m g more s2 e = subst (λ w. Reached s2 (goes_on w (run q n))) (sym m.is) (more s m.others m.given g m.agree s2 e)
+  goes_to_it n (ended status input trace) z m g more s2 e = absurd (let no : ⊥ = cc in no)
+  goes_to_it n stuck z m g more s2 e = absurd (let no : ⊥ = cc in no)
+
+  same_running : (s s2 : State) → running s ≡ running s2 → s ≡ s2
+  same_running s s2 e = cc
+
+  pub reach : (n : ℕ) → Reach n
+  reach zero s u a good agree s2 e = subst (λ v. Reached v (running (over u a s))) (same_running s s2 e) (record { others = u; given = a; is = refl; agree = agree })
+  reach (suc n) s u a good agree s2 e = on (reach n) (slice_get (function_at p s.frame.function).code s.frame.at) refl
+    where
+      on : Reach n → (o : Option Instruction) → slice_get (function_at p s.frame.function).code s.frame.at ≡ o → Reached s2 (goes_on (step q (over u a s)) (run q n))
+      on later None h =
+          let no : stuck ≡ running s2 = sym (ap (λ w. goes_on w (run p n)) (none_first s u a good agree h)) ∙ e in
+          absurd (let z : ⊥ = cc in z)
+      on later (Some x) h =
+          let z = (simple.each s.frame.function s.frame.at x h).done in
+          let first : goes_on (act p s x) (run p n) ≡ running s2 = sym (ap (λ w. goes_on w (run p n)) (step_first s u a good agree x h)) ∙ e in
+          let here = goes_to_it n (act p s x) (act q (over u a s) z) (matches s u a good agree x h) (stands s u a good agree x h) later s2 first in
+          subst (λ w. Reached s2 (goes_on w (run q n))) (sym (step_second s u a good agree x h)) here
+
   abbrev started : ℕ → List ℕ → List ℕ → State
   started main statics input = record {
     frame = record { function = main; at = 0; cells = unset; area = unset };
@@ -157,7 +190,7 @@ module _ (p q : Program) (kn : ℕ → ℕ → List Known) (middle : ℕ → Lis
     trace = [];
   }
 
-  start_same : (input : List ℕ) → start q input ≡ over unset unset (start p input)
+  pub start_same : (input : List ℕ) → start q input ≡ over unset unset (start p input)
   start_same input = ap (λ m. started m q.statics input) simple.main ∙ ap (λ (xs : List ℕ). started p.main xs input) simple.sized.statics
 
   start_stands : (input : List ℕ) → Stands p kn (start p input)
@@ -165,6 +198,10 @@ module _ (p q : Program) (kn : ℕ → ℕ → List Known) (middle : ℕ → Lis
 
   start_agrees : (input : List ℕ) → Agree (rest (start p input)) (start p input) unset unset
   start_agrees input = record { temporaries = λ j. inl refl; arguments = λ j v e. e }
+
+  pub reached : (n : ℕ) (input : List ℕ) (s : State) → run p n (start p input) ≡ running s → Reached s (run q n (start q input))
+  reached n input s e =
+      subst (λ t. Reached s (run q n t)) (sym (start_same input)) (reach n (start p input) unset unset (start_stands input) (start_agrees input) s e)
 
   pub runs : (n : ℕ) (input : List ℕ) → DoesTheSame (run p n (start p input)) (run q n (start q input))
   runs n input =

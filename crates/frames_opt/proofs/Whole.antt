@@ -14,6 +14,7 @@ use Rattle.frames_opt.specs.layer.Functions.{IsSimplerCode, stayed, improved, Is
 use Rattle.frames_opt.proofs.Alike.{Sized, with_code}
 use Rattle.frames_opt.proofs.Runs.{Position, IsSimpler, runs, costs}
 use Rattle.frames_opt.proofs.Positions.{known_at, middle_of, position, same_position, start_known}
+use Rattle.frames_opt.proofs.AtCalls.{at_calls}
 use Rattle.frames_opt.proofs.Fitting.{code_length, function_fits}
 
 -- ---- functions
@@ -63,13 +64,13 @@ abbrev IsPair : (ℕ → List Known) → List Instruction → Option Function �
 IsPair kn middle None None = Unit {0}
 IsPair kn middle None (Some g) = ⊥
 IsPair kn middle (Some f) None = ⊥
-IsPair kn middle (Some f) (Some g) = (g ≡ with_code f g.code) × ((i : ℕ) (x : Instruction) → slice_get f.code i ≡ Some x → Position f.area kn middle g.code i x)
+IsPair kn middle (Some f) (Some g) = (g ≡ with_code f g.code) × (length g.code ≡ length f.code) × ((i : ℕ) (x : Instruction) → slice_get f.code i ≡ Some x → Position f.area kn middle g.code i x)
 
 pair_at : (fs gs : List Function) (each : AreSimpler fs gs) (k : ℕ) → IsPair (known_of fs gs each k) (middles_of fs gs each k) (slice_get fs k) (slice_get gs k)
 pair_at [] [] each k = tt
 pair_at [] (g ∷ gs) each k = absurd each
 pair_at (f ∷ fs) [] each k = absurd each
-pair_at (f ∷ fs) (g ∷ gs) each zero = (each.0.is, position_in f.area f.code g.code each.0.code)
+pair_at (f ∷ fs) (g ∷ gs) each zero = (each.0.is, code_length f.area f.code g.code each.0.code, position_in f.area f.code g.code each.0.code)
 pair_at (f ∷ fs) (g ∷ gs) each (suc k) = pair_at fs gs each.1 k
 
 module _ (p q : Program) (each : AreSimpler p.functions q.functions) (same_statics : q.statics ≡ p.statics) (same_main : q.main ≡ p.main) where
@@ -94,8 +95,14 @@ module _ (p q : Program) (each : AreSimpler p.functions q.functions) (same_stati
       let first : function_at p k ≡ f = rw e refl in
       let second : function_at q k ≡ g = rw e2 refl in
       let held : slice_get f.code i ≡ Some x = ap (λ (d : Function). slice_get d.code i) (sym first) ∙ h in
-      let one : Position f.area (kn k) (middle k) (function_at q k).code i x = subst (λ (d : Function). Position f.area (kn k) (middle k) d.code i x) (sym second) (is.1 i x held) in
+      let one : Position f.area (kn k) (middle k) (function_at q k).code i x = subst (λ (d : Function). Position f.area (kn k) (middle k) d.code i x) (sym second) (is.2 i x held) in
       subst (λ (d : Function). Position d.area (kn k) (middle k) (function_at q k).code i x) (sym first) one
+
+  count_at : (k : ℕ) (o o2 : Option Function) → slice_get p.functions k ≡ o → slice_get q.functions k ≡ o2 → IsPair (kn k) (middle k) o o2 → length (function_at q k).code ≡ length (function_at p k).code
+  count_at k None None e e2 is = rw (e, e2) refl
+  count_at k None (Some g) e e2 is = absurd is
+  count_at k (Some f) None e e2 is = absurd is
+  count_at k (Some f) (Some g) e e2 is = rw (e, e2) is.1
 
   simpler : IsSimpler p q kn middle
   simpler = record {
@@ -105,6 +112,7 @@ module _ (p q : Program) (each : AreSimpler p.functions q.functions) (same_stati
     };
     main = same_main;
     starts = start_of p.functions q.functions each;
+    count = λ k. count_at k (slice_get p.functions k) (slice_get q.functions k) refl refl (pair_at p.functions q.functions each k);
     each = λ k. position_at k (slice_get p.functions k) (slice_get q.functions k) refl refl (pair_at p.functions q.functions each k);
   }
 
@@ -166,6 +174,7 @@ is_simplified p q each statics main =
     let middle = middles_of p.functions q.functions each in
     record {
       runs = runs p q known middle r;
+      at_calls = at_calls p q known middle r;
       costs = costs p q known middle r;
       frames = frames_in p.functions q.functions each;
       bytes = bytes_in p.functions q.functions each;

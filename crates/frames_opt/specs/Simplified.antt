@@ -1,8 +1,9 @@
 -- The relation of a flat program to another that it simulates, at no more cost.
 use Rattle.std.specs.Prelude.{◌≡◌, ◌≤◌, ℕ, List, map, slice_get, sum_by, Some}
+use Rattle.frames_code.specs.declared.code.Instruction.TheVariants as instruction
 use Rattle.frames_code.specs.Code.{Function, Program, frame_bytes}
-use Rattle.frames_code.specs.Run.{State, Progress, running, ended, stuck, run, start, active}
-use Rattle.frames_code.specs.Costs.{spent}
+use Rattle.frames_code.specs.Run.{Value, State, Progress, running, ended, stuck, run, start, active}
+use Rattle.frames_code.specs.Costs.{next_of, spent}
 use Rattle.frames_code.specs.Sound.{IsSoundProgram}
 use Rattle.frames.specs.Costs.{code_bytes}
 
@@ -19,10 +20,20 @@ IsDefined (running s) = Unit {0}
 IsDefined (ended status input trace) = Unit {0}
 IsDefined stuck = ⊥
 
+-- what the first has in a temporary, the second has there
+abbrev pub HasItsValues : State → State → Type 0
+HasItsValues s t = (k : ℕ) (v : Value) → s.temporaries k ≡ Some v → t.temporaries k ≡ Some v
+
+-- where the second is about to call a function or to return, the first is too, with the same in its temporaries
+pub record IsAtCall (p q : Program) (s t : State) : Type 0 where
+  pub calls : (g : ℕ) → next_of q t ≡ Some (instruction.Call g) → (next_of p s ≡ Some (instruction.Call g)) × HasItsValues s t
+  pub returns : next_of q t ≡ Some instruction.Return → (next_of p s ≡ Some instruction.Return) × HasItsValues s t
+
 -- program q is p made simpler: after each number of steps it has done the same, has the same calls active, and has cost no more; its frames have the
--- same bytes, and the code of each function no more
+-- same bytes, and the code of each function no more; it calls and returns only where p does
 pub record IsSimplified (p q : Program) : Type 0 where
   pub runs : (n : ℕ) (input : List ℕ) → DoesTheSame (run p n (start p input)) (run q n (start q input))
+  pub at_calls : (n : ℕ) (input : List ℕ) (s t : State) → run p n (start p input) ≡ running s → run q n (start q input) ≡ running t → IsAtCall p q s t
   pub costs : (n : ℕ) (input : List ℕ) → IsDefined (run p n (start p input)) → spent q n (start q input) ≤ spent p n (start p input)
   pub frames : map frame_bytes q.functions ≡ map frame_bytes p.functions
   pub bytes : (k : ℕ) (f g : Function) → slice_get p.functions k ≡ Some f → slice_get q.functions k ≡ Some g → sum_by code_bytes g.code ≤ sum_by code_bytes f.code

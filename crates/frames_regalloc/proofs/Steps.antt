@@ -145,7 +145,7 @@ module _ (p q : Program) (to from : ℕ → ℕ → ℕ) (r : Alike p q to from)
     act_mapped None = refl
     act_mapped (Some x) = act_same x
 
-    next_same : next_of q s2 ≡ option_map (renumbered here) (next_of p s)
+    pub next_same : next_of q s2 ≡ option_map (renumbered here) (next_of p s)
     next_same =
         ap (λ f. slice_get f.code s.frame.at) (r.at s.frame.function) ∙ slice_get-map (renumbered here) (function_at p s.frame.function).code s.frame.at
 

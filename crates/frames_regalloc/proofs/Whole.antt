@@ -1,13 +1,15 @@
 -- A renumbered program: its runs, costs, frames, soundness.
-use Rattle.std.proofs.Common.{◌≡◌, ℕ, zero, suc, List, [], ◌∷◌, map, Option, Some, None, refl, ap, ◌∙◌}
-use Rattle.std.specs.Prelude.{slice_get}
+use Rattle.std.proofs.Common.{◌≡◌, ℕ, zero, suc, List, [], ◌∷◌, map, Option, Some, None, refl, sym, ap, ◌∙◌, subst}
+use Rattle.std.specs.Prelude.{slice_get, option_map}
+use Rattle.frames_code.specs.declared.code.Instruction.{Instruction}
+use Rattle.frames_code.specs.declared.code.Instruction.TheVariants as instruction
 use Rattle.frames_code.specs.Code.{Function, Program, frame_bytes}
 use Rattle.frames_code.specs.Run.{run, start, function_at}
-use Rattle.frames_code.specs.Costs.{spent}
-use Rattle.frames_regalloc.specs.Renumbered.{renumbered_function, AreRenumbered, IsRenumbered}
-use Rattle.frames_regalloc.specs.Laws.{words_of, RunsAlike, CostsAlike, FramesAlike}
+use Rattle.frames_code.specs.Costs.{next_of, spent}
+use Rattle.frames_regalloc.specs.Renumbered.{renumbered, renumbered_function, AreRenumbered, IsRenumbered}
+use Rattle.frames_regalloc.specs.Laws.{words_of, moved, RunsAlike, CallsAlike, CostsAlike, FramesAlike}
 use Rattle.frames_regalloc.proofs.Words.{Alike}
-use Rattle.frames_regalloc.proofs.Steps.{run_same, spent_same, start_same}
+use Rattle.frames_regalloc.proofs.Steps.{next_same, run_same, spent_same, start_same}
 
 -- ---- functions by their numbers
 
@@ -73,6 +75,53 @@ pub runs_alike : RunsAlike
 runs_alike p q same n input =
     let r = alike p q same in
     ap (run q n) (start_same p q (to p q same) (from p q same) r input) ∙ run_same p q (to p q same) (from p q same) r n (start p input)
+
+-- it calls, or returns
+abbrev Leaves : Instruction → Type 0
+Leaves instruction.Nothing = ⊥
+Leaves (instruction.Move d x) = ⊥
+Leaves (instruction.Compute o d x y) = ⊥
+Leaves (instruction.Convert c d x) = ⊥
+Leaves (instruction.Load w d l) = ⊥
+Leaves (instruction.Store w x l) = ⊥
+Leaves (instruction.Address d l) = ⊥
+Leaves (instruction.Element d x y size) = ⊥
+Leaves (instruction.Jump k) = ⊥
+Leaves (instruction.Branch t x y k) = ⊥
+Leaves (instruction.Call f) = Unit {0}
+Leaves instruction.PutByte = ⊥
+Leaves instruction.GetByte = ⊥
+Leaves instruction.Exit = ⊥
+Leaves instruction.Return = Unit {0}
+
+-- no other instruction becomes one of these
+stays : (to : ℕ → ℕ) (x : Instruction) → Leaves (renumbered to x) → renumbered to x ≡ x
+stays to instruction.Nothing h = absurd h
+stays to (instruction.Move d x) h = absurd h
+stays to (instruction.Compute o d x y) h = absurd h
+stays to (instruction.Convert c d x) h = absurd h
+stays to (instruction.Load w d l) h = absurd h
+stays to (instruction.Store w x l) h = absurd h
+stays to (instruction.Address d l) h = absurd h
+stays to (instruction.Element d x y size) h = absurd h
+stays to (instruction.Jump k) h = absurd h
+stays to (instruction.Branch t x y k) h = absurd h
+stays to (instruction.Call f) h = refl
+stays to instruction.PutByte h = absurd h
+stays to instruction.GetByte h = absurd h
+stays to instruction.Exit h = absurd h
+stays to instruction.Return h = refl
+
+was : (to : ℕ → ℕ) (o : Option Instruction) (y : Instruction) → Leaves y → option_map (renumbered to) o ≡ Some y → o ≡ Some y
+was to None y leaves e = absurd (let z : ⊥ = cc in z)
+was to (Some x) y leaves e = let same : renumbered to x ≡ y = cc in ap Some (sym (stays to x (subst Leaves (sym same) leaves)) ∙ same)
+
+pub calls_alike : CallsAlike
+calls_alike p q same s =
+    let next = next_same p q (to p q same) (from p q same) (alike p q same) s in
+    let before : (y : Instruction) → Leaves y → next_of q (moved (from p q same) s) ≡ Some y → next_of p s ≡ Some y =
+    λ y leaves e. was (to p q same s.frame.function) (next_of p s) y leaves (sym next ∙ e) in
+    (λ g e. before (instruction.Call g) tt e, λ e. before instruction.Return tt e)
 
 pub costs_alike : CostsAlike
 costs_alike p q same n input =

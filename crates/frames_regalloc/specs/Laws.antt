@@ -1,8 +1,9 @@
 -- A program whose words have other numbers does the same at the same cost, and is as sound.
-use Rattle.std.specs.Prelude.{◌≡◌, ℕ, zero, suc, List, [], ◌∷◌, map}
+use Rattle.std.specs.Prelude.{◌≡◌, ℕ, zero, suc, List, [], ◌∷◌, map, Some}
+use Rattle.frames_code.specs.declared.code.Instruction.TheVariants as instruction
 use Rattle.frames_code.specs.Code.{Function, Program, frame_bytes}
 use Rattle.frames_code.specs.Run.{Frame, State, Progress, running, ended, stuck, run, start}
-use Rattle.frames_code.specs.Costs.{spent}
+use Rattle.frames_code.specs.Costs.{next_of, spent}
 use Rattle.frames_code.specs.Sound.{IsSoundProgram}
 use Rattle.frames_regalloc.specs.Renumbered.{AreRenumbered, IsRenumbered}
 
@@ -30,6 +31,12 @@ moved_progress from stuck = stuck
 abbrev pub RunsAlike : Type 0
 RunsAlike = (p q : Program) → (same : IsRenumbered p q) → (n : ℕ) (input : List ℕ)
     → run q n (start q input) ≡ moved_progress (words_of p.functions q.functions same.functions) (run p n (start p input))
+
+-- It calls and returns only where the program does; the temporaries are the same there, as in each state.
+abbrev pub CallsAlike : Type 0
+CallsAlike = (p q : Program) → (same : IsRenumbered p q) → (s : State)
+    → ((g : ℕ) → next_of q (moved (words_of p.functions q.functions same.functions) s) ≡ Some (instruction.Call g) → next_of p s ≡ Some (instruction.Call g))
+    × (next_of q (moved (words_of p.functions q.functions same.functions) s) ≡ Some instruction.Return → next_of p s ≡ Some instruction.Return)
 
 abbrev pub CostsAlike : Type 0
 CostsAlike = (p q : Program) → IsRenumbered p q → (n : ℕ) (input : List ℕ) → spent q n (start q input) ≡ spent p n (start p input)

@@ -1,10 +1,15 @@
 //! A renumbered program does the same at the same cost: laws, each the contract of a function without code.
 
-ghost use Rattle.frames_regalloc.specs.Laws.{RunsAlike, CostsAlike, FramesAlike, StaysSound};
+ghost use Rattle.frames_regalloc.specs.Laws.{RunsAlike, CallsAlike, CostsAlike, FramesAlike, StaysSound};
 
 /// It takes the same steps, with the words of its frames under their new numbers.
 pub fn runs_alike()
     ensures { RunsAlike }
+{}
+
+/// It calls and returns only where the program does.
+pub fn calls_alike()
+    ensures { CallsAlike }
 {}
 
 /// Each run costs the same.

@@ -8,4 +8,4 @@ mod swaps;
 mod weights;
 
 pub use functions::{renumber, renumber_function, word_numbers};
-pub use laws::{costs_alike, frames_alike, runs_alike, stays_sound};
+pub use laws::{calls_alike, costs_alike, frames_alike, runs_alike, stays_sound};

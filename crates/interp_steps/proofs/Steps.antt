@@ -1,12 +1,12 @@
 -- Steps of statements.
-use Rattle.std.proofs.Common.{◌≡◌, ℕ, ℤ, suc, ◌+◌, ◌-◌, ◌<◌, ◌≤◌, List, length, map, get_or, refl, sym, ap, subst, ◌∙◌, arith, Bor}
+use Rattle.std.proofs.Common.{◌≡◌, ℕ, ℤ, zero, suc, [], ◌∷◌, ◌+◌, ◌-◌, ◌<◌, ◌≤◌, List, length, map, get_or, refl, sym, ap, subst, ◌∙◌, arith, Bor}
 use Rattle.std.specs.Prelude.{Result, Ok, Option, Some, None, option_map, slice_get}
 use Rattle.std.proofs.lemmas.Option.{slice_get-map}
 use Rattle.interp_store.proofs.Scenes.{beyond_any, got_any}
 use Rattle.typed_ast.specs.declared.types.ObjectType as held
 use Rattle.typed_ast.specs.View.{object_type_of}
 use Rattle.typing_spec.specs.Program as typed
-use Rattle.csem.specs.Store.{Reference}
+use Rattle.csem.specs.Store.{Reference, Store, Tree, put_in}
 use Rattle.std.proofs.lemmas.List.{append-nil}
 use Rattle.typing_spec.specs.Types.{ObjectType}
 use Rattle.interp_store.specs.declared.stop.Stop.{Stop}
@@ -37,6 +37,19 @@ one_renewed objects a i count n s t whole h at e all =
 
 pub all_done : (objects : List ObjectType) (a i count : ℕ) (s whole : State) → count ≡ i → all_renewed objects (a + i) (count - i) s ≡ whole → s ≡ whole
 all_done objects a i count s whole e all = let none : count - i ≡ 0 = omega arith in sym (ap (λ k. all_renewed objects (a + i) k s) none) ∙ all
+
+-- a store does not have that many objects
+put_beyond : (store : Store) (x : ℕ) (path : List ℕ) (new : Tree) → length store ≤ x → put_in store x path new ≡ store
+put_beyond [] x path new h = refl
+put_beyond (t ∷ store) zero path new h = absurd (omega (arith, h))
+put_beyond (t ∷ store) (suc x) path new h = ap (λ (s : Store). t ∷ s) (put_beyond store x path new (omega (arith, h)))
+
+one_beyond : (objects : List ObjectType) (n : ℕ) (s : State) → length s.store ≤ n → renewed objects n s ≡ s
+one_beyond objects n s h = ap (λ (k : Store). record s { store = k }) (put_beyond s.store (s.base + n) [] _ (omega (arith, h)))
+
+pub all_beyond : (objects : List ObjectType) (n k : ℕ) (s : State) → length s.store ≤ n → all_renewed objects n k s ≡ s
+all_beyond objects n zero s h = refl
+all_beyond objects n (suc k) s h = ap (λ t. all_renewed objects (suc n) k t) (one_beyond objects n s h) ∙ all_beyond objects (suc n) k s (omega (arith, h))
 
 -- a result without further steps
 pub leaves_as : (fs : List on.Frame) (x : Found) (r : Result Step Stop) (s t : State) → r ≡ Ok (step.Leaves x) → t ≡ s → Agrees (onto fs (goes (found_of x) s)) r fs t

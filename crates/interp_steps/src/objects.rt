@@ -25,8 +25,9 @@ pub fn renew_all(
     ensures err { IfErr result (λ e. e ≡ Memory) }
 {
     for i in 0..count {
+        // No store has objects past the last number.
         let Some(n) = first.checked_add(i) else {
-            return Err(Stop::Memory);
+            return Ok(());
         };
         match scene.renew(alloc, objects, n) {
             Ok(()) => {}

@@ -337,8 +337,8 @@ module _ (p : Program) where
   alike_defined d c c' ok (Some g) f vs =
       let h = alike_body d c c' ok g in
       record {
-        same = λ s lt. ap (λ r. then_do r (λ flow s2. Goes (value_left (nat_eq f p.main) flow) (leave s s2))) (h.same (enter f g vs s) lt);
-        falls = λ s. falls_then (body_of p c g (enter f g vs s)) (λ flow s2. Goes (value_left (nat_eq f p.main) flow) (leave s s2)) s.clock (h.falls (enter f g vs s)) (λ flow s2. le_self s2.clock);
+        same = λ s lt. ap (λ r. then_do r (λ flow s2. Goes (value_left (nat_eq f p.main) flow) (leave s (value_left (nat_eq f p.main) flow) s2))) (h.same (enter f g vs s) lt);
+        falls = λ s. falls_then (body_of p c g (enter f g vs s)) (λ flow s2. Goes (value_left (nat_eq f p.main) flow) (leave s (value_left (nat_eq f p.main) flow) s2)) s.clock (h.falls (enter f g vs s)) (λ flow s2. le_self s2.clock);
       }
 
   calling_enough : (d e : ℕ) → d ≤ e → AlikeCalls d (calling p d) (calling p e)

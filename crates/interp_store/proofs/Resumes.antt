@@ -320,7 +320,7 @@ module _ (p : Program) (call : Calling) where
     turn_leaves objects test a step (Returned v) s = refl
 
     flow_leaves : (f : Frame) (flow : Flow) (s : State) → with_flow p call f flow s ≡ resumed p call (left_by_flow p f flow s)
-    flow_leaves (on.returns back is_main count base arrays) flow s = back_leaves back (value_left is_main flow) (back_at count base arrays s)
+    flow_leaves (on.returns back is_main count base arrays) flow s = back_leaves back (value_left is_main flow) (back_at count base arrays (value_left is_main flow) s)
     flow_leaves (on.rest objects more) flow s = rest_leaves objects more flow s
     flow_leaves on.in_switch flow s = once_resumes a_flow _
     flow_leaves (on.turn objects test a step) flow s = turn_leaves objects test a step flow s
@@ -353,7 +353,7 @@ module _ (p : Program) (call : Calling) where
         then_do (call_defined p call o f passed s) (goes_back p call back) ≡ resumed p call (entered_call p back o f passed s)
     call_enters back None f passed s = back_leaves back None s
     call_enters back (Some g) f passed s =
-        then_then (body_of p call g (enter f g passed s)) (λ flow s2. Goes (value_left (nat_eq f p.main) flow) (leave s s2)) (goes_back p call back)
+        then_then (body_of p call g (enter f g passed s)) (λ flow s2. Goes (value_left (nat_eq f p.main) flow) (leave s (value_left (nat_eq f p.main) flow) s2)) (goes_back p call back)
         ∙ body_leaves (ticks (suc (length g.type.parameters)) (enter f g passed s)) g.objects g.body (after p call (on.returns back (nat_eq f p.main) (length s.store) s.base s.arrays))
 
     pub call_acts : (at : Pos) (callee : Callee) (used : Bool) (passed : List Passed) (s : State) →

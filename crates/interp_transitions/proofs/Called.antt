@@ -14,7 +14,7 @@ use Rattle.csem.specs.Expressions as meaning
 use Rattle.csem.specs.History.{Entered}
 use Rattle.csem.specs.Machine.{State}
 use Rattle.interp_store.specs.View.{reference_of, store_of}
-use Rattle.csem.specs.Meaning.{numbers_of, arrays_of, objects_of, enter}
+use Rattle.csem.specs.Meaning.{numbers_of, arrays_of, objects_of, words_of, enter}
 use Rattle.interp_store.specs.declared.stop.Stop.{Stop}
 use Rattle.interp_store.specs.declared.scene.Scene.{Scene}
 use Rattle.interp_store.specs.declared.frames.Step.{Step}
@@ -63,16 +63,16 @@ pub back_acts : (p : typed.Program) (b : on.Back) (v : Option ℤ) (s : State) (
     Agrees (onto fs (went_back p b v s)) r fs s → Agrees (onto fs (went_back p b v s)) r fs (state_in scene (outside_behind (went_back p b v s)))
 back_acts p b v s fs r scene o e h = at_scene fs fs (went_back p b v s) r s scene o e (back_outside p b v s) h
 
-abbrev with_parts : ℕ → Outside → Store → ℕ → List Reference → State
-with_parts f o store base arrays = record { clock = o.clock; store = store; base = base; arrays = arrays; input = o.input; history = Entered f ∷ o.history }
+abbrev with_parts : ℕ → List meaning.Passed → Outside → Store → ℕ → List Reference → State
+with_parts f passed o store base arrays = record { clock = o.clock; store = store; base = base; arrays = arrays; input = o.input; history = Entered f (words_of passed) ∷ o.history }
 
 pub set_as : (scene old : Scene) (o : Outside) (f : ℕ) (g : typed.Function) (objects : List ObjectType) (passed : List meaning.Passed) →
     store_of scene.store ≡ store_of old.store ++ objects_of objects passed → objects ≡ g.objects → scene.base ≡ length (store_of old.store) →
-    map reference_of scene.arrays.items ≡ arrays_of passed → state_in scene (record o { history = Entered f ∷ o.history }) ≡ enter f g passed (state_in old o)
+    map reference_of scene.arrays.items ≡ arrays_of passed → state_in scene (record o { history = Entered f (words_of passed) ∷ o.history }) ≡ enter f g passed (state_in old o)
 set_as scene old o f g objects passed a same b c =
-    ap (λ x. with_parts f o x scene.base (map reference_of scene.arrays.items)) (a ∙ ap (λ l. store_of old.store ++ objects_of l passed) same)
-    ∙ ap (λ x. with_parts f o (store_of old.store ++ objects_of g.objects passed) x (map reference_of scene.arrays.items)) b
-    ∙ ap (with_parts f o (store_of old.store ++ objects_of g.objects passed) (length (store_of old.store))) c
+    ap (λ x. with_parts f passed o x scene.base (map reference_of scene.arrays.items)) (a ∙ ap (λ l. store_of old.store ++ objects_of l passed) same)
+    ∙ ap (λ x. with_parts f passed o (store_of old.store ++ objects_of g.objects passed) x (map reference_of scene.arrays.items)) b
+    ∙ ap (with_parts f passed o (store_of old.store ++ objects_of g.objects passed) (length (store_of old.store))) c
 
 -- ---- the function that is called
 

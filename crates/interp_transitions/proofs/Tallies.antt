@@ -1,6 +1,6 @@
 -- Calls that are active.
 use Rattle.std.proofs.Common.{◌≡◌, ◌≤◌, ℕ, ◌+◌, ◌-◌, List, [], ◌∷◌, ◌++◌, length, map, sym, ap, ◌∙◌, arith}
-use Rattle.std.specs.Prelude.{reverse}
+use Rattle.std.specs.Prelude.{Option, reverse}
 use Rattle.std.proofs.lemmas.List.{reverse-append, reverse-reverse}
 use Rattle.typing_spec.specs.Program as typed
 use Rattle.csem.specs.History.{Entry, Left, active, without_innermost, weight_in, sum_of, greatest_sum}
@@ -23,10 +23,10 @@ last_is_innermost w [] ws x e = absurd (omega (arith, ap length e))
 last_is_innermost w (f ∷ fs) ws x e =
     (sym (reverse-reverse ws) ∙ ap reverse (sym (ap without_innermost e)), ap (λ k. k + sum_of w fs) (ap first e))
 
-pub innermost_ends : (p : typed.Program) (h : List Entry) (weight sum greatest : ℕ) (ws : List ℕ) (old : Tally) → Tells p h old → old.weights.items ≡ ws ++ weight ∷ [] →
-    sum ≡ old.sum - weight → greatest ≡ old.greatest → (ws ≡ reverse (map (weight_in p) (active (Left ∷ h)))) × (sum ≡ sum_of (weight_in p) (active (Left ∷ h)))
-    × (greatest ≡ greatest_sum (weight_in p) (Left ∷ h))
-innermost_ends p h weight sum greatest ws old t a b c =
+pub innermost_ends : (p : typed.Program) (h : List Entry) (value : Option ℕ) (weight sum greatest : ℕ) (ws : List ℕ) (old : Tally) → Tells p h old → old.weights.items ≡ ws ++ weight ∷ [] →
+    sum ≡ old.sum - weight → greatest ≡ old.greatest → (ws ≡ reverse (map (weight_in p) (active (Left value ∷ h)))) × (sum ≡ sum_of (weight_in p) (active (Left value ∷ h)))
+    × (greatest ≡ greatest_sum (weight_in p) (Left value ∷ h))
+innermost_ends p h value weight sum greatest ws old t a b c =
     let w = weight_in p in
     let all : map w (active h) ≡ weight ∷ reverse ws =
     sym (reverse-reverse (map w (active h))) ∙ ap reverse (sym t.0 ∙ a) ∙ reverse-append ws (weight ∷ []) in

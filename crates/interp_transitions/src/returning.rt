@@ -1,6 +1,6 @@
 //! The end of a call (6.8.6.4, 6.9.1p12).
 
-ghost use Rattle.std.specs.Prelude.{◌≡◌, ◌∷◌, List, map};
+ghost use Rattle.std.specs.Prelude.{◌≡◌, ◌∷◌, List, Option, ℤ, map, option_map};
 ghost use Rattle.typing_spec.specs.Program as typed;
 ghost use Rattle.csem.specs.History.{Left};
 ghost use Rattle.csem.specs.Machine.{State};
@@ -84,8 +84,8 @@ pub fn go_back<'p>(back: Back, value: Option<i64>) -> Result<Step<'p>, Stop>
 
 /// The objects of a call end, and the caller goes on with its own (6.2.4p6).
 fn restore(scene: &mut Scene, count: usize, base: usize, arrays: Vec<Reference>)
-    ensures { (o : Outside) → state_in scene.new (record o { history = Left ∷ o.history }) ≡
-        back_at count base (map reference_of arrays.items) (state_in scene.old o) }
+    ensures { (o : Outside) (value : Option ℤ) → state_in scene.new (record o { history = Left (option_map meaning.word_of value) ∷ o.history }) ≡
+        back_at count base (map reference_of arrays.items) value (state_in scene.old o) }
 {
     scene.store.truncate(count);
     scene.base = base;

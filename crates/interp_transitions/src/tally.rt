@@ -1,6 +1,6 @@
 //! The weights of the calls that are active.
 
-ghost use Rattle.std.specs.Prelude.{◌≡◌, ◌∷◌, [], ℕ, List, IfErr, OnOk, max};
+ghost use Rattle.std.specs.Prelude.{◌≡◌, ◌∷◌, [], ℕ, List, Option, IfErr, OnOk, max};
 ghost use Rattle.typing_spec.specs.Program as typed;
 ghost use Rattle.csem.specs.History.{Entered, Entry, Left, weight_in};
 ghost use Rattle.interp_store.specs.declared.stop.Stop.TheVariants.{Memory};
@@ -33,7 +33,8 @@ impl Tally {
     ///
     /// Errors: memory ran out.
     pub fn begin(&mut self, weight: u64) -> Result<(), Stop>
-        ensures ok { (p : typed.Program) (h : List Entry) (f : ℕ) → weight_in p f ≡ weight → Tells p h self.old → OnOk result (Tells p (Entered f ∷ h) self.new) }
+        ensures ok { (p : typed.Program) (h : List Entry) (f : ℕ) (arguments : List (Option ℕ)) → weight_in p f ≡ weight → Tells p h self.old →
+            OnOk result (Tells p (Entered f arguments ∷ h) self.new) }
         ensures err { IfErr result (λ e. e ≡ Memory) }
     {
         let Some(sum) = self.sum.checked_add(weight) else {
@@ -51,7 +52,7 @@ impl Tally {
 
     /// The innermost call ends.
     pub fn end(&mut self)
-        ensures { (p : typed.Program) (h : List Entry) → Tells p h self.old → Tells p (Left ∷ h) self.new }
+        ensures { (p : typed.Program) (h : List Entry) (value : Option ℕ) → Tells p h self.old → Tells p (Left value ∷ h) self.new }
     {
         if let Some(weight) = self.weights.pop() {
             self.sum = self.sum.saturating_sub(weight);

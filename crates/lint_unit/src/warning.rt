@@ -14,7 +14,7 @@ pub fn warn_of_sources(alloc: Global, set: &FileSet, asked: Asked<'_>) -> Result
     report(alloc, files, names, warnings.as_slice(), asked)
 }
 
-/// The warnings of the files as they are laid out, or, where that cannot be, as they are.
+/// The warnings of the files as they are laid out, or, where that cannot be, as they are. Files that a phase refuses have none.
 fn warnings_of(
     alloc: Global,
     set: &FileSet,
@@ -33,6 +33,6 @@ fn warnings_of(
     *names = Names::new(alloc);
     match gathered(alloc, set, asked.main, asked.stack, names)? {
         Some(found) => Ok(found),
-        None => Err(AllocError),
+        None => Ok(Vec::new(alloc)),
     }
 }

@@ -81,7 +81,7 @@ module _ (z : Ground) where
 
   closes_within : {A : Type 0} (is_main : Bool) (pc pc2 : ℕ) → 0 < z.bound → Closes z.code is_main pc pc2 → Within z A 1 104 pc pc2
   closes_within true pc pc2 b i = one z _ 104 pc pc2 i (omega arith) (λ a. (b, zero_small))
-  closes_within false pc pc2 b i = settle z 1 104 (omega arith) (none z pc pc2 i)
+  closes_within false pc pc2 b i = one z _ 104 pc pc2 i (omega arith) (λ a. nothing_below (length z.function.objects))
 
   pub all_within : (n start end back size lo : ℕ) (is_main : Bool) → back ≤ z.limit
       → statement_is_typed z.source z.function lo (length z.function.objects) z.function.body ≡ true → in_statement z.source z.function.body ≡ true

@@ -1,5 +1,5 @@
 -- The code of a statement keeps within its nodes' room, and is fine.
-use Rattle.std.proofs.Common.{◌≡◌, ℕ, ◌+◌, ◌*◌, ◌≤◌, max, List, ◌++◌, length, Some, Bool, true, false, ◌&&◌, inl, inr, refl, sym, subst, arith}
+use Rattle.std.proofs.Common.{◌≡◌, ℕ, zero, suc, ◌+◌, ◌*◌, ◌≤◌, max, List, ◌++◌, length, Some, Bool, true, false, ◌&&◌, inl, inr, refl, sym, subst, arith}
 use Rattle.std.specs.Prelude.{nat_le, nat_lt, slice_get}
 use Rattle.typing_spec.specs.Types.{same_result}
 use Rattle.typing_spec.specs.Program as typed
@@ -13,7 +13,7 @@ use Rattle.tac_code.specs.declared.code.Target.TheVariants as target
 use Rattle.tac_code.specs.declared.code.Instruction.TheVariants as instruction
 use Rattle.lower_correct.specs.Values.{waits_in, Nowhere, If, mode_of}
 use Rattle.lower_correct.specs.Code.{One}
-use Rattle.lower_correct.specs.Bodies.{is_within, Leaves, Stands, StandAll, StandAt}
+use Rattle.lower_correct.specs.Bodies.{is_within, has_objects, forgets, Leaves, Stands, StandAll, StandAt}
 use Rattle.lower_correct.proofs.Words.{left_true, right_true}
 use Rattle.lower_bounds.proofs.Grounds.{Ground}
 use Rattle.lower_bounds.proofs.Stretches.{Within, one, none, join, settle, aimed}
@@ -58,6 +58,10 @@ module _ (z : Ground) where
 
   forget : {A : Type 0} (n k pc pc2 : ℕ) → One z.code (instruction.Forget n k) pc pc2 → n + k ≤ length z.function.objects → Within z A 1 124 pc pc2
   forget n k pc pc2 i h = one z _ 124 pc pc2 i (omega arith) (λ a. h)
+
+  forget_them : {A : Type 0} (n k pc pc2 : ℕ) → One z.code (forgets n k) pc pc2 → n + k ≤ length z.function.objects → Within z A 1 124 pc pc2
+  forget_them n zero pc pc2 i h = nothing z pc pc2 i
+  forget_them n (suc k) pc pc2 i h = forget n (suc k) pc pc2 i h
 
   block_inside : (lo hi a k : ℕ) (b : Bool) → (nat_le lo a && (nat_le (a + k) hi && b)) ≡ true → hi ≤ length z.function.objects → a + k ≤ length z.function.objects
   block_inside lo hi a k b h le =
@@ -109,12 +113,12 @@ module _ (z : Ground) where
         (left_wide (value_nodes e) (max (widest a) (widest b)) z.slots w) tt i.5))
         (join z (aimed z (λ c. (on i.2 pc2 z.limit there c.0, c.1, c.2, c.3)) body) (join z (jump pc2 i.2 i.3 i.7 (λ c. c.0)) last))))
     stands_within (typed.switch u e a k all) out again back lo hi pc pc2 h d le w i =
-        let o = waits_in e (is_within a k) false 0 0 in
+        let o = waits_in e (is_within a k) (has_objects k) 0 0 in
         let he = left_true (V e) (N e) (left_true (V e && N e) (nat_le lo a && (nat_le (a + k) hi && All a (a + k) all)) h) in
         let h2 = right_true (V e && N e) (nat_le lo a && (nat_le (a + k) hi && All a (a + k) all)) h in
         let inside = block_inside lo hi a k (All a (a + k) all) h2 le in
         let we = left_wide (value_nodes e) (widest_of all) z.slots w in
-        let s = waits z e (is_within a k) false 0 0 (rests_fine z e he) in
+        let s = waits z e (is_within a k) (has_objects k) 0 0 (rests_fine z e he) in
         let body = at_within all i.4 pc2 again back a (a + k) i.3 pc2 (block_typed lo hi a k (All a (a + k) all) h2) (right_true (E e) (B all) d) inside
         (right_wide (value_nodes e) (widest_of all) z.slots w) i.9 in
         let tests = tests_within z o (labels_of all) i.4 pc2 i.2 i.3 (operand_fine z o 0 0 (free z e 0 0 (whole z e we)) s) i.8 in
@@ -122,7 +126,7 @@ module _ (z : Ground) where
         settle z (value_nodes e + statements_nodes all + 2) 0 (switch_room (value_nodes e) (statements_nodes all) (length (labels_of all))) (join z (nothing z pc i.0 i.5)
         (join z (aimed z (λ c. (on i.1 pc2 z.limit first c.0, mode_aims z o))
         (effect_within z e (mode_of o) i.0 i.1 he (left_true (E e) (B all) d) we (mode_lands z o 0 0 s) i.6))
-        (join z (forget a k i.1 i.2 i.7 inside)
+        (join z (forget_them a k i.1 i.2 i.7 inside)
         (join z (aimed z (λ c. (body.1 c.0, c.0)) tests) (aimed z (λ c. (c.0, c.0, c.2, c.3)) body.0)))))
     stands_within (typed.case v) out again back lo hi pc pc2 h d le w i = settle z 1 32 (omega arith) (nothing z pc pc2 i)
     stands_within typed.default out again back lo hi pc pc2 h d le w i = settle z 1 32 (omega arith) (nothing z pc pc2 i)

@@ -165,6 +165,7 @@ module _ (p : typed.Program) (checked : IsChecked p) where
     bounded = record {
       objects = made.objects;
       parameters = made.parameters;
+      result = made.result;
       within_weight = subst (λ w. call_bytes g ≤ w) (sym (checked.each k f ef).weight)
           (stack f.nodes (less_nodes (widest f.body) (statement_nodes f.body) f.nodes (length f.type.parameters) (widest_le f.body) typed_parts.0));
       within_span = stack (widest f.body) (same_le (widest f.body));

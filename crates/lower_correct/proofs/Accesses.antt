@@ -27,7 +27,7 @@ use Rattle.lower_correct.specs.Values.{place_calls, place_writes, writes_none, e
 use Rattle.lower_correct.specs.Places.{is_truth, cuts, found, free_temporary_at, free_kept_at}
 use Rattle.lower_correct.specs.Code.{Ends, Gets, Puts}
 use Rattle.lower_correct.proofs.Words.{Ranged, differ, bool_cases, left_true, right_true, converts_again}
-use Rattle.lower_correct.proofs.Steps.{Reaches, reaches_on, stays, GoesTo, goes, Sim, sim_then, sim_move}
+use Rattle.lower_correct.proofs.Steps.{Reaches, reaches_on, stays, GoesTo, goes, Sim, sim_then, sim_move, halts}
 use Rattle.lower_correct.proofs.Shapes.{value_in}
 use Rattle.lower_correct.proofs.Stores.{World, Refers, Fine, After, after_none, after_store}
 use Rattle.lower_correct.proofs.Standing.{Scratch, here, put_scratch, set_same, put_state, Holds, does_convert, first_automatic, world, IsCode}
@@ -102,7 +102,8 @@ module _ (p : typed.Program) (tf : Function) (call : Calling) (q : Program) (dee
       → Fine (world p q f ws) s2 → After (first_automatic q) (place_writes a) before s2
       → Sim q 14 (60 * s2.clock + 40) s2.clock (here f p1 now2 ws s2) (Good p q f (typed.read u a) m t k pc2 before old ws)
       (value_or_undefined (position_of a) o s2)
-  get_last a u m t k p1 pc2 before old now2 ws r s2 None apart e sc fr su i ha hr kk fine after = tt
+  get_last a u m t k p1 pc2 before old now2 ws r s2 None apart e sc fr su i ha hr kk fine after =
+      halts q (60 * s2.clock + 40) (here f p1 now2 ws s2) s2 refl refl
   get_last a u m t k p1 pc2 before old now2 ws r s2 (Some v) apart e sc fr su i ha hr kk fine after =
       let refers = scalar_refers (world p q f ws) r u (type_of_place p tf a) sc hr in
       let sub = tree_there (world p q f ws) r u [] s2 fine refers in
@@ -231,11 +232,11 @@ module _ (p : typed.Program) (tf : Function) (call : Calling) (q : Program) (dee
 
   -- a store, which is undefined in a string literal, and the code after it
   pub write_there : {B : Type 0} (Good2 : B → machine.State → State → Type 0) (hi lo : ℕ) (z : State) (at : Pos) (r : Reference) (v : ℤ) (s : machine.State)
-      (go : ℤ → machine.State → Run B) (b : Bool) → nat_lt r.object (length p.literals) ≡ b
+      (go : ℤ → machine.State → Run B) (b : Bool) → z.history ≡ s.history → z.input ≡ s.input → nat_lt r.object (length p.literals) ≡ b
       → (nat_lt r.object (length q.literals) ≡ false → Sim q 14 hi lo z Good2 (go v (stored r v s)))
       → Sim q 14 hi lo z Good2 (then_do (choose b (undefined U7 at s) (Goes v (stored r v s))) go)
-  write_there Good2 hi lo z at r v s go true e next = tt
-  write_there Good2 hi lo z at r v s go false e next = next (ap (λ l. nat_lt r.object (length l)) is.literals ∙ e)
+  write_there Good2 hi lo z at r v s go true e1 e2 e next = halts q hi z s e1 e2
+  write_there Good2 hi lo z at r v s go false e1 e2 e next = next (ap (λ l. nat_lt r.object (length l)) is.literals ∙ e)
 
   -- the found place, and a further temporary that is free
   pub found_beside : (a : Place) (c : Bool) (t k j w : ℕ) (r : Reference) (now : Scratch) (s : machine.State) → free_temporary_at (found a c t k) t ≤ j

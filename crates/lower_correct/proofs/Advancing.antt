@@ -28,7 +28,7 @@ use Rattle.lower_correct.specs.Values.{place_calls, place_writes, writes_none, i
 use Rattle.lower_correct.specs.Places.{cuts, found, free_temporary_at, free_kept_at}
 use Rattle.lower_correct.specs.Code.{One, AltersAside, AltersBy}
 use Rattle.lower_correct.proofs.Words.{ranged, wide_word}
-use Rattle.lower_correct.proofs.Steps.{Reaches, reaches_on, goes, Sim, sim_after, sim_then, sim_move, tick_in}
+use Rattle.lower_correct.proofs.Steps.{Reaches, reaches_on, goes, Sim, sim_after, sim_then, sim_move, tick_in, halts}
 use Rattle.lower_correct.proofs.Shapes.{value_in}
 use Rattle.lower_correct.proofs.Stores.{Refers, Fine, After, after_none, fine_later}
 use Rattle.lower_correct.proofs.Standing.{Scratch, here, put_scratch, set_same, does_nothing, first_automatic, world, IsCode}
@@ -97,7 +97,7 @@ module _ (p : typed.Program) (tf : Function) (call : Calling) (q : Program) (dee
       keeps_put g (word_for w) false j k2 now4 l1.now2 jj (l1.keeps false j k2 now4 jj (keeps_all false j k2 now4)) in
       let ha5 = stays_found p tf call q deep f is a false t k r now4 now5 writes_none s2 s2 kept (after_none writes_none s2) ha in
       write_there p tf call q deep f is Result2 (60 * s2.clock + 80) s2.clock (here f pc now4 ws s2) at r cw s2 (λ y s. Goes ov s)
-      (nat_lt r.object (length p.literals)) refl
+      (nat_lt r.object (length p.literals)) refl refl refl
       (λ hl.
       let st = puts_do p tf call q deep f is (cuts u Nowhere || is_wide u) u (operand.Temporary (j + 1)) spot Nowhere (j + 1) i.0 i.1 r w now5 ws s2
       (can_stay u Nowhere w (is_wide u) rw_ (λ y. sym (wide_word u w y))) i.3 (set_same l1.now2.temporaries (j + 1) (word (word_for w))) ha5
@@ -155,14 +155,14 @@ module _ (p : typed.Program) (tf : Function) (call : Calling) (q : Program) (dee
       (then_do (value_or_undefined (position_of a) ov s2) (λ old s.
       then_do (computed_at at (operated (step_operation so) of old (pos 1)) s) (λ w s.
       then_do (write p at r (converted u w) s) (λ new s. Goes (step_value moment old new) s))))
-  step_last moment m n p2 p3 pc2 r s now now2 ws s2 fr su i1 i2 ha hr fine k1 a1 None ex = tt
+  step_last moment m n p2 p3 pc2 r s now now2 ws s2 fr su i1 i2 ha hr fine k1 a1 None ex = halts q (60 * s2.clock + 100) (here f p2 now2 ws s2) s2 refl refl
   step_last moment m n p2 p3 pc2 r s now now2 ws s2 fr su i1 i2 ha hr fine k1 a1 (Some ov) ex =
       by_result (operated (step_operation so) of ov (pos 1)) refl
     where
       by_result : (res : Result ℤ Undef) → operated (step_operation so) of ov (pos 1) ≡ res
           → Sim q 14 (60 * s2.clock + 100) s2.clock (here f p2 now2 ws s2) (Good p q f (node moment) m t k pc2 s now ws)
           (then_do (computed_at at res s2) (λ w s. then_do (write p at r (converted u w) s) (λ new s. Goes (step_value moment ov new) s)))
-      by_result (Err act) er = tt
+      by_result (Err act) er = halts q (60 * s2.clock + 100) (here f p2 now2 ws s2) s2 refl refl
       by_result (Ok w) er =
           let refers = scalar_refers (world p q f ws) r u (type_of_place p tf a) sc hr in
           let sub = tree_there (world p q f ws) r u [] s2 fine refers in

@@ -29,7 +29,7 @@ use Rattle.lower_correct.specs.Values.{calls, place_calls, writes, place_writes,
 use Rattle.lower_correct.specs.Places.{cuts, found, free_temporary_at, free_kept_at}
 use Rattle.lower_correct.specs.Code.{One, Puts, Alters, Into}
 use Rattle.lower_correct.proofs.Words.{Ranged, ranged, wide_word, word_stays}
-use Rattle.lower_correct.proofs.Steps.{reaches_on, goes, Sim, sim_after, sim_then, sim_move, tick_in}
+use Rattle.lower_correct.proofs.Steps.{reaches_on, goes, Sim, sim_after, sim_then, sim_move, tick_in, halts}
 use Rattle.lower_correct.proofs.Shapes.{value_in}
 use Rattle.lower_correct.proofs.Stores.{Refers, Fine, After, after_on, after_none, after_since, after_store, fine_changed, fine_later}
 use Rattle.lower_correct.proofs.Standing.{Scratch, here, put_scratch, set_same, set_other, Holds, does_nothing, first_automatic, world, sizes, IsCode}
@@ -96,7 +96,7 @@ module _ (p : typed.Program) (tf : Function) (call : Calling) (q : Program) (dee
         let rv = ranged (extent e) v ke.value in
         goes_same p call q deep f Result2 (60 * s3.clock + 114) s3.clock (here f p3 now3 ws s3) (write p at r cv s3)
         (write_there p tf call q deep f is Result2 (60 * s3.clock + 114) s3.clock (here f p3 now3 ws s3) at r cv s3 (λ y s. Goes y s)
-        (nat_lt r.object (length p.literals)) refl
+        (nat_lt r.object (length p.literals)) refl refl refl
         (λ hl.
         let st = puts_do p tf call q deep f is (cuts u m || keeps u e) u (operand_of e t2 k2) spot m t2 p3 pc2 r v now3 ws s3
         (can_stay u m v (keeps u e) rv (λ g. sym (word_stays u (extent e) v g ke.value))) i h ha
@@ -164,7 +164,7 @@ module _ (p : typed.Program) (tf : Function) (call : Calling) (q : Program) (dee
       keeps_put g (word_for w) c t2 k2 now l1.now2 le (l1.keeps c t2 k2 now le (keeps_all c t2 k2 now)) in
       let ha5 = stays_found p tf call q deep f is a c t k r now now5 writes_none s s kept (after_none writes_none s) ha in
       write_there p tf call q deep f is Result2 (60 * s.clock + 80) s.clock (here f pc now ws s) at r cw s (λ y s. Goes (finish y) s)
-      (nat_lt r.object (length p.literals)) refl
+      (nat_lt r.object (length p.literals)) refl refl refl
       (λ hl.
       let st = puts_do p tf call q deep f is (cuts u m || is_wide u) u (operand.Temporary j) (found a c t k) m j i.0 pc2 r w now5 ws s
       (can_stay u m w (is_wide u) rw_ (λ y. sym (wide_word u w y))) i.2 (set_same l1.now2.temporaries j (word (word_for w))) ha5
@@ -214,13 +214,14 @@ module _ (p : typed.Program) (tf : Function) (call : Calling) (q : Program) (dee
         → Sim q 14 (60 * s3.clock + 114) s3.clock (here f p3 now3 ws s3) (Good p q f compound m t k pc2 s now ws)
         (then_do (value_or_undefined (position_of a) ov s3)
         (λ old s. then_do (computed_at at (operated o of old v) s) (λ w s. write p at r (converted u w) s)))
-    compound_last n p3 p4 pc2 s now now2 now3 ws r v s2 s3 i1 i2 h ha hr k1 a1 ke None ex = tt
+    compound_last n p3 p4 pc2 s now now2 now3 ws r v s2 s3 i1 i2 h ha hr k1 a1 ke None ex =
+        halts q (60 * s3.clock + 114) (here f p3 now3 ws s3) s3 refl refl
     compound_last n p3 p4 pc2 s now now2 now3 ws r v s2 s3 i1 i2 h ha hr k1 a1 ke (Some ov) ex = by_result (operated o of ov v) refl
       where
         by_result : (res : Result ℤ Undef) → operated o of ov v ≡ res
             → Sim q 14 (60 * s3.clock + 114) s3.clock (here f p3 now3 ws s3) (Good p q f compound m t k pc2 s now ws)
             (then_do (computed_at at res s3) (λ w s. write p at r (converted u w) s))
-        by_result (Err act) er = tt
+        by_result (Err act) er = halts q (60 * s3.clock + 114) (here f p3 now3 ws s3) s3 refl refl
         by_result (Ok w) er =
             let Result2 = Good p q f compound m t k pc2 s now ws in
             let refers = scalar_refers (world p q f ws) r u (type_of_place p tf a) sc hr in

@@ -18,7 +18,7 @@ use Rattle.lower_correct.specs.Values.{If}
 use Rattle.lower_correct.specs.Code.{One}
 use Rattle.lower_correct.proofs.Words.{differ, ranged, converts_again}
 use Rattle.lower_correct.proofs.Steps.{stays, GoesTo, goes, from, Sim, sim_after, sim_then, sim_more, sim_map, sim_move, tick_in}
-use Rattle.lower_correct.proofs.Standing.{Scratch, here, does_nothing, does_jump, does_forget, world, first_automatic}
+use Rattle.lower_correct.proofs.Standing.{Scratch, here, slots_only, does_nothing, does_jump, does_forget, world, first_automatic}
 use Rattle.lower_correct.proofs.Stores.{Fine, After, after_on, with_tree, fine_put, after_put, fine_later, after_since}
 use Rattle.lower_correct.proofs.Goods.{Good, object_state}
 use Rattle.lower_correct.proofs.Leaves.{IsNumber, scalar_is, IntoDoes, Converted, ConvertsDoes}
@@ -39,33 +39,33 @@ module _ (p : typed.Program) (call : Calling) (q : Program) (deep f : ℕ) (resu
       → Runs p call q deep f result (λ s. tick s (λ s. rb (all_renewed (function_at q f).objects first count s))) pc end out again
   block_runs rb first count pc p1 end out again o db s now ws le fine =
       let Good2 = FlowGood p call q deep f result end out again s ws in
-      tick_in q 14 Good2 (here f pc now ws s) (here f p1 now ws (record s { store = forgotten (function_at q f).objects s.base first count s.store })) s 0
+      tick_in q 14 Good2 (here f pc now ws s) (here f p1 (slots_only now) ws (record s { store = forgotten (function_at q f).objects s.base first count s.store })) s 0
       (60 * s.clock) (λ s. rb (all_renewed (function_at q f).objects first count s)) (omega arith) refl refl
       (does_forget q f first count pc p1 now ws s o)
       (λ n lt.
       let s1 : machine.State = record s { clock = n } in
       let h = all_forgotten (world p q f ws) first count s1 (fine_later (world p q f ws) s n fine) in
       let s2 = all_renewed (function_at q f).objects first count s1 in
-      sim_move q 14 Good2 (60 * n + 60 + 0) n (here f p1 now ws (record s1 { store = forgotten (function_at q f).objects s1.base first count s1.store }))
-      (here f p1 now ws s2) (rb s2) (ap (here f p1 now ws) h.same)
-      (loosely Good2 (60 * n + 60 + 0) n (60 * s2.clock + 14) s2.clock (here f p1 now ws s2) (rb s2) (omega (arith, h.clock)) (omega (arith, h.clock))
-      (sim_map q 14 14 (FlowGood p call q deep f result end out again s2 ws) Good2 (60 * s2.clock + 14) (60 * s2.clock + 14) s2.clock (here f p1 now ws s2)
-      (rb s2) (omega arith) (omega arith) (db s2 now ws (omega (arith, le, lt, h.clock)) h.fine)
+      sim_move q 14 Good2 (60 * n + 60 + 0) n (here f p1 (slots_only now) ws (record s1 { store = forgotten (function_at q f).objects s1.base first count s1.store }))
+      (here f p1 (slots_only now) ws s2) (rb s2) (ap (here f p1 (slots_only now) ws) h.same)
+      (loosely Good2 (60 * n + 60 + 0) n (60 * s2.clock + 14) s2.clock (here f p1 (slots_only now) ws s2) (rb s2) (omega (arith, h.clock)) (omega (arith, h.clock))
+      (sim_map q 14 14 (FlowGood p call q deep f result end out again s2 ws) Good2 (60 * s2.clock + 14) (60 * s2.clock + 14) s2.clock (here f p1 (slots_only now) ws s2)
+      (rb s2) (omega arith) (omega arith) (db s2 (slots_only now) ws (omega (arith, le, lt, h.clock)) h.fine)
       (λ flow s3 z g. flow_since p call q deep f result end out again s s2 ws (after_since writes_all s s2 n h.after) flow s3 z g))))
 
   pub declare_runs : (x pc end out again : ℕ) → One (function_at q f).code (instruction.Forget x 1) pc end
       → Runs p call q deep f result (λ s. tick s (λ s. Goes Normal (renewed (function_at q f).objects x s))) pc end out again
   declare_runs x pc end out again o s now ws le fine =
       let Good2 = FlowGood p call q deep f result end out again s ws in
-      tick_in q 14 Good2 (here f pc now ws s) (here f end now ws (record s { store = forgotten (function_at q f).objects s.base x 1 s.store })) s 0
+      tick_in q 14 Good2 (here f pc now ws s) (here f end (slots_only now) ws (record s { store = forgotten (function_at q f).objects s.base x 1 s.store })) s 0
       (60 * s.clock) (λ s. Goes Normal (renewed (function_at q f).objects x s)) (omega arith) refl refl
       (does_forget q f x 1 pc end now ws s o)
       (λ n lt.
       let s1 : machine.State = record s { clock = n } in
       let h = all_forgotten (world p q f ws) x 1 s1 (fine_later (world p q f ws) s n fine) in
       there p call q deep f result end out again (60 * n + 60 + 0) s ws Normal (renewed (function_at q f).objects x s1)
-      (here f end now ws (record s { store = forgotten (function_at q f).objects s.base x 1 s.store })) (omega arith)
-      (record { now = now; at = refl; fine = h.fine; after = after_since writes_all s (renewed (function_at q f).objects x s1) n h.after }))
+      (here f end (slots_only now) ws (record s { store = forgotten (function_at q f).objects s.base x 1 s.store })) (omega arith)
+      (record { now = slots_only now; at = refl; fine = h.fine; after = after_since writes_all s (renewed (function_at q f).objects x s1) n h.after }))
 
   -- ---- first values (6.7.9)
 
@@ -123,7 +123,7 @@ module _ (p : typed.Program) (call : Calling) (q : Program) (deep f : ℕ) (resu
   define_runs ri x pc p1 end out again o di s now ws le fine =
       let Good2 = FlowGood p call q deep f result end out again s ws in
       let last : Unit {0} → machine.State → Run Flow = λ u s. Goes Normal s in
-      tick_in q 14 Good2 (here f pc now ws s) (here f p1 now ws (record s { store = forgotten (function_at q f).objects s.base x 1 s.store })) s 0
+      tick_in q 14 Good2 (here f pc now ws s) (here f p1 (slots_only now) ws (record s { store = forgotten (function_at q f).objects s.base x 1 s.store })) s 0
       (60 * s.clock) (λ s. then_do (ri s.base (renewed (function_at q f).objects x s)) last) (omega arith) refl refl
       (does_forget q f x 1 pc p1 now ws s o)
       (λ n lt.
@@ -131,8 +131,8 @@ module _ (p : typed.Program) (call : Calling) (q : Program) (deep f : ℕ) (resu
       let s2 = renewed (function_at q f).objects x s1 in
       let h = all_forgotten (world p q f ws) x 1 s1 (fine_later (world p q f ws) s n fine) in
       let Good3 : Unit {0} → machine.State → State → Type 0 = λ y. StandsAt p call q deep f result end s2 ws in
-      sim_then q 14 14 Good3 Good2 (60 * n + 8) 66 (60 * n + 60 + 0) n (here f p1 now ws s2) (ri s.base s2) last (omega arith) (omega arith)
-      (di s.base s2 now ws refl (omega (arith, le, lt)) h.fine)
+      sim_then q 14 14 Good3 Good2 (60 * n + 8) 66 (60 * n + 60 + 0) n (here f p1 (slots_only now) ws s2) (ri s.base s2) last (omega arith) (omega arith)
+      (di s.base s2 (slots_only now) ws refl (omega (arith, le, lt)) h.fine)
       (λ y s3 z lt2 g. there p call q deep f result end out again (60 * s3.clock + 66) s ws Normal s3 z (omega arith)
       (record {
         now = g.now;

@@ -25,7 +25,7 @@ use Rattle.lower_wf.specs.Asked.{is_wide}
 use Rattle.lower_correct.specs.Values.{calls, writes, writes_none, rests_in, extent, operand_of, constant_of, Mode, mode_of}
 use Rattle.lower_correct.specs.Code.{Ends, Changes, Into}
 use Rattle.lower_correct.proofs.Words.{Ranged, ranged, converts_again, wide_word, is_word}
-use Rattle.lower_correct.proofs.Steps.{Reaches, reaches_on, Sim, sim_after, sim_then, sim_move, tick_in, find_in}
+use Rattle.lower_correct.proofs.Steps.{Reaches, reaches_on, Sim, sim_after, sim_then, sim_move, tick_in, find_in, halts}
 use Rattle.lower_correct.proofs.Standing.{Scratch, here, put_scratch, set_same, put_state, Holds, does_nothing, does_convert, world, sizes}
 use Rattle.lower_correct.proofs.Stores.{Fine, after_on, after_put, with_tree, fine_put, read_back, read_fits, fine_later, after_since}
 use Rattle.lower_correct.proofs.Goods.{Keeps, keeps_put, IsFreeFor, Known, Suits, Good, ends, mode_free, mode_suits, held, object_state}
@@ -92,9 +92,9 @@ module _ (p : typed.Program) (call : Calling) (q : Program) (deep f : ℕ) where
 
   pub undefined_then : {B : Type 0} (Good2 : B → machine.State → State → Type 0) (hi lo : ℕ) (t : State) (b : Bool) (act : Undef) (at : Pos) (s : machine.State)
       (r : Run ℤ) (go : ℤ → machine.State → Run B)
-      → Sim q 14 hi lo t Good2 (then_do r go) → Sim q 14 hi lo t Good2 (then_do (choose b (undefined act at s) r) go)
-  undefined_then Good2 hi lo t true act at s r go l = tt
-  undefined_then Good2 hi lo t false act at s r go l = l
+      → t.history ≡ s.history → t.input ≡ s.input → Sim q 14 hi lo t Good2 (then_do r go) → Sim q 14 hi lo t Good2 (then_do (choose b (undefined act at s) r) go)
+  undefined_then Good2 hi lo t true act at s r go e1 e2 l = halts q hi t s e1 e2
+  undefined_then Good2 hi lo t false act at s r go e1 e2 l = l
 
   -- the object has its new value: on from there
   write_in : (Good2 : ℤ → machine.State → State → Type 0) (go : ℤ → machine.State → Run ℤ) (at : Pos) (x : ℕ) (u : IntType) (pc hi b w : ℕ) (now : Scratch)
@@ -112,6 +112,7 @@ module _ (p : typed.Program) (call : Calling) (q : Program) (deep f : ℕ) where
       let now_at : z ≡ here f pc now ws s3 = ap (here f pc now ws) (object_state p q f x u w v s (scalar_is (function_at q f).objects x u num) ew) in
       subst (λ n. Sim q 14 hi s.clock z Good2 (then_do (write p at (whole (n + x)) v s) go)) eb
       (undefined_then Good2 hi s.clock z (nat_lt (s.base + x) (length p.literals)) U7 at s (Goes v s3) go
+      (ap (λ y. y.history) now_at) (ap (λ y. y.input) now_at)
       (sim_move q 14 Good2 hi s.clock z (here f pc now ws s3) (go v s3) now_at (next fine3 there)))
 
   -- the object changes: on from there
@@ -126,7 +127,8 @@ module _ (p : typed.Program) (call : Calling) (q : Program) (deep f : ℕ) where
       → Sim q 14 hi s.clock (here f pc2 now2 ws (with_tree x (Element (Some (converted u w))) s)) Good2
       (go (converted u w) (with_tree x (Element (Some (converted u w))) s)))
       → Sim q 14 top s.clock (here f pc now ws s) Good2 (then_do (computed_at at r s) (λ w s. then_do (write p at (whole (b + x)) (converted u w) s) go))
-  change_in Good2 go at o x u of a t pc pc2 hi top b old v now ws s (Err act) h1 e hof num eb fine rv i ex ha next = tt
+  change_in Good2 go at o x u of a t pc pc2 hi top b old v now ws s (Err act) h1 e hof num eb fine rv i ex ha next =
+      halts q top (here f pc now ws s) s refl refl
   change_in Good2 go at o x u of a t pc pc2 hi top b old v now ws s (Ok w) h1 e hof num eb fine rv i ex ha next =
       let ro = ranged num.type.element old (read_fits (world p q f ws) x num.type old s num.at fine ex) in
       let c = changes_do (is_wide u) o u of x a t old v w pc pc2 now ws s refl hof num ro rv i (ap (option_map (λ y. word (word_for y))) ex) ha e in
@@ -156,14 +158,14 @@ module _ (p : typed.Program) (call : Calling) (q : Program) (deep f : ℕ) where
         (Good p q f (typed.compound at o u of (typed.named at2 (typed.automatic x)) e) m t k pc2 s now ws)
         (then_do (value_or_undefined at2 old s2)
         (λ old s. then_do (computed_at at (operated o of old v) s) (λ w s. write p at (whole (s2.base + x)) (converted u w) s)))
-    compound_last n p2 p3 pc2 now now1 ws s i i2 v s2 h known None ex = tt
+    compound_last n p2 p3 pc2 now now1 ws s i i2 v s2 h known None ex = halts q (60 * s2.clock + 134) (here f p2 now1 ws s2) s2 refl refl
     compound_last n p2 p3 pc2 now now1 ws s i i2 v s2 h known (Some old) ex = by_result (operated o of old v) refl
       where
         by_result : (r : Result ℤ Undef) → operated o of old v ≡ r
             → Sim q 14 (60 * s2.clock + 134) s2.clock (here f p2 now1 ws s2)
             (Good p q f (typed.compound at o u of (typed.named at2 (typed.automatic x)) e) m t k pc2 s now ws)
             (then_do (computed_at at r s2) (λ w s. write p at (whole (s2.base + x)) (converted u w) s))
-        by_result (Err act) er = tt
+        by_result (Err act) er = halts q (60 * s2.clock + 134) (here f p2 now1 ws s2) s2 refl refl
         by_result (Ok w) er =
             let Result2 = Good p q f (typed.compound at o u of (typed.named at2 (typed.automatic x)) e) m t k pc2 s now ws in
             goes_same Result2 (60 * s2.clock + 134) s2.clock (here f p2 now1 ws s2) (write p at (whole (s2.base + x)) (converted u w) s2)

@@ -12,10 +12,10 @@ use Rattle.typing_spec.specs.WellTyped.{parameters_are_first, function_is_typed,
 use Rattle.csem.specs.Store.{Tree, Element, Store, Reference, indeterminate, literal_object}
 use Rattle.csem.specs.Machine as machine
 use Rattle.csem.specs.Expressions.{Passed, Number, Referred}
-use Rattle.csem.specs.Meaning.{numbers_of, arrays_of, objects_of, enter, leave}
+use Rattle.csem.specs.Meaning.{numbers_of, arrays_of, objects_of, words_of, enter, leave}
 use Rattle.tac_code.specs.Code.{scalar_type, type_if_scalar}
 use Rattle.tac_code.specs.Lowered.{kind_of}
-use Rattle.tac_code.specs.Run.{Values, word_in, word_for, number_of, is_word_of, number_object, numbers_in, arrays_in, and_then, reference_in, is_element}
+use Rattle.tac_code.specs.Run.{Values, word_in, word_for, number_of, is_word_of, number_object, numbers_in, arrays_in, words_in, and_then, reference_in, is_element}
 use Rattle.tac_code.specs.Sound.{AreBytes}
 use Rattle.lower_correct.proofs.Words.{differ, left_true, right_true, ranged, converts_again, is_word}
 use Rattle.lower_correct.proofs.Shapes.{HasShape, filled_has}
@@ -74,6 +74,22 @@ arrays_are W (number u ∷ ps) [] t m h = absurd h
 arrays_are W (number u ∷ ps) (Referred r ∷ passed) t m h = absurd h
 arrays_are W (elements u ∷ ps) [] t m h = absurd h
 arrays_are W (elements u ∷ ps) (Number v ∷ passed) t m h = absurd h
+
+-- the history has the word of each number, and none of an array
+pub words_are : (W : World) (ps : List ParameterType) (passed : List Passed) (t : ℕ) (m : Values) → Fitting W ps passed t m
+    → words_in (map kind_of ps) m t ≡ words_of passed
+words_are W [] [] t m h = refl
+words_are W (number u ∷ ps) (Number v ∷ passed) t m h =
+    ap (λ o. word_in o ∷ words_in (map kind_of ps) m (suc t)) h.1
+    ∙ ap (λ l. Some (word_for v) ∷ l) (words_are W ps passed (suc t) m (subst (λ n. Fitting W ps passed n m) (next_place t) h.2))
+words_are W (elements u ∷ ps) (Referred r ∷ passed) t m h =
+    ap (λ l. None ∷ l) (words_are W ps passed (suc t) m (subst (λ n. Fitting W ps passed n m) (next_place t) h.2))
+words_are W [] (Number v ∷ passed) t m h = absurd h
+words_are W [] (Referred r ∷ passed) t m h = absurd h
+words_are W (number u ∷ ps) [] t m h = absurd h
+words_are W (number u ∷ ps) (Referred r ∷ passed) t m h = absurd h
+words_are W (elements u ∷ ps) [] t m h = absurd h
+words_are W (elements u ∷ ps) (Number v ∷ passed) t m h = absurd h
 
 -- the object of a parameter
 given_object : (u : IntType) (o : ObjectType) (v : ℤ) → u ≡ o.element → o.lengths ≡ [] → IsValueOf u v
@@ -260,8 +276,9 @@ length_taken xs zero le = refl
 length_taken [] (suc n) le = absurd (omega (arith, le))
 length_taken (x ∷ xs) (suc n) le = ap suc (length_taken xs n (omega (arith, le)))
 
-pub fine_left : (W : World) (objects rows : List ObjectType) (s s2 : machine.State) → Fine W s → Fine (entered_world W objects rows) s2 → Fine W (leave s s2)
-fine_left W objects rows s s2 fine inner = record {
+pub fine_left : (W : World) (objects rows : List ObjectType) (v : Option ℤ) (s s2 : machine.State) → Fine W s → Fine (entered_world W objects rows) s2
+    → Fine W (leave s v s2)
+fine_left W objects rows v s s2 fine inner = record {
   few = fine.few;
   low = fine.low;
   base = fine.base;
@@ -291,9 +308,9 @@ element_below [] i e = absurd (let z : ⊥ = cc in z)
 element_below (t ∷ store) zero e = omega arith
 element_below (t ∷ store) (suc i) e = omega (arith, element_below store i e)
 
-pub after_left : (W : World) (w : ℕ → Bool) (g : ℕ) (f : Function) (passed : List Passed) (s s2 : machine.State) → Fine W s
-    → After W.first writes_all (enter g f passed s) s2 → After W.first w s (leave s s2)
-after_left W w g f passed s s2 fine after = record {
+pub after_left : (W : World) (w : ℕ → Bool) (g : ℕ) (f : Function) (passed : List Passed) (v : Option ℤ) (s s2 : machine.State) → Fine W s
+    → After W.first writes_all (enter g f passed s) s2 → After W.first w s (leave s v s2)
+after_left W w g f passed v s s2 fine after = record {
   base = refl;
   arrays = refl;
   below = λ i lo lt e. stays_same i lo e;

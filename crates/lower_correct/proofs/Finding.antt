@@ -29,7 +29,7 @@ use Rattle.lower_correct.specs.Values.{calls, place_calls, writes, place_writes,
 use Rattle.lower_correct.specs.Places.{size_of_type, target_for, named_spot, found, free_temporary_at, free_kept_at}
 use Rattle.lower_correct.specs.Code.{One, Parts, PartsNamed, Finds}
 use Rattle.lower_correct.proofs.Words.{Ranged, ranged, differ}
-use Rattle.lower_correct.proofs.Steps.{Reaches, reaches_on, stays, goes, Sim, sim_then, sim_move, tick_in}
+use Rattle.lower_correct.proofs.Steps.{Reaches, reaches_on, stays, goes, Sim, sim_then, sim_move, tick_in, halts}
 use Rattle.lower_correct.proofs.Stores.{World, all_types, Refers, RefersToRows, Fine, After, after_on, own_at, before_it, behind, below_length, length_mapped, fine_later, after_later, after_since}
 use Rattle.lower_correct.proofs.Standing.{Scratch, here, Holds, set_same, set_other, does_nothing, literal_type, types_below, first_automatic, rows_of, parameters_of, world, sizes, type_at, IsCode}
 use Rattle.lower_correct.proofs.Memory.{put_reference, IsAside, IsAt, got_mapped, length_there, refers_into, does_address, does_part}
@@ -373,7 +373,8 @@ module _ (p : typed.Program) (tf : Function) (call : Calling) (q : Program) (dee
         → After (first_automatic q) (writes index) s2 s3
         → Sim q 40 (60 * s3.clock + 114) s3.clock (here f p3 now3 ws s3) (Found (typed.element at array index) c t k pc2 before old ws)
         (subscripted at r v s3)
-    part_last n p3 pc2 before old now2 now3 ws r (negsuc v) s2 s3 i ha2 hi rv hr k1 kk fine a1 a2 = tt
+    part_last n p3 pc2 before old now2 now3 ws r (negsuc v) s2 s3 i ha2 hi rv hr k1 kk fine a1 a2 =
+        halts q (60 * s3.clock + 114) (here f p3 now3 ws s3) s3 refl refl
     part_last n p3 pc2 before old now2 now3 ws r (pos v) s2 s3 i ha2 hi rv hr k1 kk fine a1 a2 =
         by_bound (nat_lt v (length_of (tree_at s3.store r))) refl
       where
@@ -389,7 +390,7 @@ module _ (p : typed.Program) (tf : Function) (call : Calling) (q : Program) (dee
         by_bound : (b : Bool) → nat_lt v (length_of (tree_at s3.store r)) ≡ b
             → Sim q 40 (60 * s3.clock + 114) s3.clock (here f p3 now3 ws s3) (Found (typed.element at array index) c t k pc2 before old ws)
             (choose b (Goes (into r v) s3) (undefined U5 at s3))
-        by_bound false e = tt
+        by_bound false e = halts q (60 * s3.clock + 114) (here f p3 now3 ws s3) s3 refl refl
         by_bound true e =
             let count = length_there (world p q f ws) r rows.element rows.count rows.lengths s3 fine rows.refers in
             let lt : v < rows.count = less e count in

@@ -16,7 +16,7 @@ use Rattle.tac_code.specs.declared.code.Target.TheVariants as target
 use Rattle.tac_code.specs.declared.code.Instruction.TheVariants as instruction
 use Rattle.tac_code.specs.Code.{Program, function_at}
 use Rattle.tac_code.specs.Run.{Values, Call, State, running, word, word_for, forgotten}
-use Rattle.lower_correct.specs.Values.{or_int, Nowhere}
+use Rattle.lower_correct.specs.Values.{Nowhere}
 use Rattle.lower_correct.specs.Code.{One}
 use Rattle.lower_correct.specs.Bodies.{Leaves}
 use Rattle.lower_correct.proofs.Words.{differ}
@@ -97,7 +97,7 @@ module _ (p : typed.Program) (call : Calling) (q : Program) (deep f : ℕ) (resu
   -- a call's value, where it has one
   abbrev pub Returning : Option ℤ → Values → Type 0
   Returning None m = result ≡ None
-  Returning (Some v) m = IsValueOf (or_int result) v × (m 0 ≡ Some (word (word_for v)))
+  Returning (Some v) m = (u : IntType) × (result ≡ Some u) × IsValueOf u v × (m 0 ≡ Some (word (word_for v)))
 
   -- it is about to return
   pub record AboutToReturn (o : Option ℤ) (before : machine.State) (ws : List Call) (s : machine.State) (z : State) : Type 0 where
@@ -234,7 +234,7 @@ module _ (p : typed.Program) (call : Calling) (q : Program) (deep f : ℕ) (resu
       (here f p1 now ws s) (evaluate p call e s1) last_step (omega arith) (omega arith)
       (de s1 now ws (omega (arith, le, lt)) (fine_later (world p q f ws) s n fine))
       (λ v s2 z lt2 c. leave_ends (Some (converted u v)) back last p2 end end out again (60 * s2.clock + 66) c.now s ws s2 z (omega arith) r i c.at
-      (subst (λ r. IsValueOf (or_int r) (converted u v)) (sym hr) (converted_fits u v), c.has) c.known.fine
+      (u, hr, converted_fits u v, c.has) c.known.fine
       (all_after _ s s2 (after_since _ s s2 n c.known.after))))
 
   -- ---- expressions (6.8.3), conditions (6.8.4.1)

@@ -24,7 +24,7 @@ use Rattle.tac_code.specs.Run.{Call, State, running, word, word_for, number_of, 
 use Rattle.lower_correct.specs.Values.{calls, writes, writes_none, rests_in, extent, smallest, stays_word, keeps, operand_of, constant_of, Mode, Nowhere, To, If, mode_of}
 use Rattle.lower_correct.specs.Code.{One, Ends, Constantly, Converts, Into, truth_jump}
 use Rattle.lower_correct.proofs.Words.{Ranged, ranged, smallest_has, converts_again, converted_is_word, word_stays, differ}
-use Rattle.lower_correct.proofs.Steps.{Reaches, GoesTo, goes, from, Sim, sim_then, sim_more, sim_map, sim_move, undefined_or, tick_in, tick_ends, find_in}
+use Rattle.lower_correct.proofs.Steps.{Reaches, GoesTo, goes, from, Sim, sim_then, sim_more, sim_map, sim_move, undefined_or, tick_in, tick_ends, find_in, halts}
 use Rattle.lower_correct.proofs.Standing.{Scratch, here, put_scratch, type_in, put_state, Takes, does_nothing, does_move, does_jump, does_convert, world, sizes}
 use Rattle.lower_correct.proofs.Stores.{World, Fine, after_on, after_put, with_tree, fine_put, read_back, read_fits, fine_later, after_later, after_since}
 use Rattle.lower_correct.proofs.Goods.{keeps_all, keeps_put, IsFree, IsFreeFor, HasIn, has_put, meets, Known, known_with, SuitsIn, Suits, takes, Good, ends, mode_free, mode_suits, Held, held, object_state}
@@ -121,7 +121,8 @@ module _ (p : typed.Program) (call : Calling) (q : Program) (deep f : ℕ) where
       → Ends (function_at q f).code m (operand.Object x) p1 pc2
       → Sim q 14 (60 * n + 60 + 0) n (here f p1 now ws s) (Good p q f (typed.read u (typed.named at (typed.automatic x))) m t k pc2 s now ws)
       (value_or_undefined at o (record s { clock = n }))
-  read_ends at x u m t k n p1 pc2 now ws s None e num fr su fine i = tt
+  read_ends at x u m t k n p1 pc2 now ws s None e num fr su fine i =
+      halts q (60 * n + 60 + 0) (here f p1 now ws s) (record s { clock = n }) refl refl
   read_ends at x u m t k n p1 pc2 now ws s (Some v) e num fr su fine i =
       ends p q f (typed.read u (typed.named at (typed.automatic x))) m t k (operand.Object x) p1 pc2 (60 * n + 60 + 0) s now now ws v (record s { clock = n }) fr
       su i
@@ -242,6 +243,7 @@ module _ (p : typed.Program) (call : Calling) (q : Program) (deep f : ℕ) where
       ends p q f e m t k (operand.Object x) pc pc2 hi before old now ws v s3 fr su i (ap (option_map (λ y. word (word_for y))) there) h1 (known fine3 there) in
       subst (λ n. Sim q 14 hi s.clock z (Good p q f e m t k pc2 before old ws) (write p at (whole (n + x)) v s)) eb
       (undefined_or q 14 (Good p q f e m t k pc2 before old ws) hi s.clock z (nat_lt (s.base + x) (length p.literals)) U7 at s (Goes v s3)
+      (ap (λ y. y.history) now_at) (ap (λ y. y.input) now_at)
       (sim_move q 14 (Good p q f e m t k pc2 before old ws) hi s.clock z (here f pc now ws s3) (Goes v s3) now_at last))
 
   assign_last : (at at2 : Pos) (u : IntType) (x : ℕ) (e : Expression) (m : Mode) (t k n p2 pc2 : ℕ) (now : Scratch) (ws : List Call) (s : machine.State)

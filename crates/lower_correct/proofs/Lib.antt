@@ -43,3 +43,4 @@ pub mod Statements
 pub mod Entering
 pub mod Beginning
 pub mod Program
+pub mod History

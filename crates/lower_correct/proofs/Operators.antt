@@ -29,7 +29,7 @@ use Rattle.lower_wf.specs.Asked.{is_wide}
 use Rattle.lower_correct.specs.Values.{calls, writes, writes_none, rests_in, extent, holds_all, stays_word, keeps, reading_of, computed_extent, operand_of, constant_of, waits_in, free_temporary, free_kept, Mode, Nowhere, To, If, mode_of, target_of}
 use Rattle.lower_correct.specs.Code.{One, Then, Operates, Casts, Into, zero_word}
 use Rattle.lower_correct.proofs.Words.{Ranged, ranged, zero_test, truth_of, truth_fits, converts_again, wide_word, word_stays, has_all, le_holds, left_true, right_true, differ}
-use Rattle.lower_correct.proofs.Steps.{Reaches, reaches_on, stays, goes, Sim, sim_then, sim_move, tick_in}
+use Rattle.lower_correct.proofs.Steps.{Reaches, reaches_on, stays, goes, Sim, sim_then, sim_move, tick_in, halts}
 use Rattle.lower_correct.proofs.Standing.{Scratch, here, put_scratch, put_state, Takes, Holds, does_nothing, does_convert, world, sizes}
 use Rattle.lower_correct.proofs.Stores.{World, Fine, after_on, after_none, fine_later, after_since}
 use Rattle.lower_correct.proofs.Goods.{Keeps, keeps_on, IsFreeFor, Has, meets, lands, RestsIn, IsConstant, Known, put_mode, Suits, takes, target_suits, Good, follows, mode_free, mode_suits, held, stays_there, free_more}
@@ -230,7 +230,8 @@ module _ (p : typed.Program) (call : Calling) (q : Program) (deep f : ℕ) where
       → Holds q f x (word_for b) now s → Holds q f y (word_for c) now s → operated o u b c ≡ r
       → ((w : ℤ) → r ≡ Ok w → Known (world p q f ws) a t k before old w s now)
       → Sim q 14 (60 * s.clock + 74) s.clock (here f pc now ws s) (Good p q f a m t k pc2 before old ws) (computed_at at r s)
-  signed_ends at a o u m x y t k b c pc pc2 before old now ws s (Err act) hu rb rc fr su i hx hy e known = tt
+  signed_ends at a o u m x y t k b c pc pc2 before old now ws s (Err act) hu rb rc fr su i hx hy e known =
+      halts q (60 * s.clock + 74) (here f pc now ws s) s refl refl
   signed_ends at a o u m x y t k b c pc pc2 before old now ws s (Ok w) hu rb rc fr su i hx hy e known =
       then_does p q f a o u m x y t k b c w pc pc2 (60 * s.clock + 74) before old now ws s hu rb rc fr su i hx hy e (omega arith) (known w refl)
 
@@ -385,7 +386,8 @@ module _ (p : typed.Program) (call : Calling) (q : Program) (deep f : ℕ) where
         w s3 now3
         → (r : Result ℤ Undef) → operated o u v w ≡ r
         → Sim q 14 (60 * s3.clock + 88) s3.clock (here f p3 now3 ws s3) (Good p q f (typed.binary at o u a b) m t k pc2 s now ws) (computed_at at r s3)
-    binary_last n p3 pc2 s now ws v w s2 s3 now2 now3 i hl hr ka kb (Err act) e = tt
+    binary_last n p3 pc2 s now ws v w s2 s3 now2 now3 i hl hr ka kb (Err act) e =
+        halts q (60 * s3.clock + 88) (here f p3 now3 ws s3) s3 refl refl
     binary_last n p3 pc2 s now ws v w s2 s3 now2 now3 i hl hr ka kb (Ok z) e =
         operates_do p q f (typed.binary at o u a b) o u m (waits_in a (writes b) (calls b) t k)
         (operand_of b (free_temporary (waits_in a (writes b) (calls b) t k) t) (free_kept (waits_in a (writes b) (calls b) t k) k)) t k v w z p3 pc2

@@ -21,7 +21,7 @@ use Rattle.tac_code.specs.Run.{Values, Call, State, running, word, reference, wo
 use Rattle.lower_correct.specs.Values.{calls, arguments_call, writes, arguments_write, or_int, pending, unless_written, at_rest, constant_or, writes_none, rests_in, extent, keeps, constant_of, waits_in, free_temporary, free_kept, Mode, Nowhere, To, If, mode_of}
 use Rattle.lower_correct.specs.Code.{One, Ends, Into, Loads}
 use Rattle.lower_correct.proofs.Words.{ranged, converts_again, word_stays, differ}
-use Rattle.lower_correct.proofs.Steps.{Reaches, stays, GoesTo, goes, from, Sim, sim_then, sim_move, tick_in}
+use Rattle.lower_correct.proofs.Steps.{Reaches, stays, GoesTo, goes, from, Sim, sim_then, sim_move, tick_in, halts}
 use Rattle.lower_correct.proofs.Standing.{Scratch, here, put_scratch, Holds, set_same, set_other, does_nothing, does_convert, does_move, world, first_automatic, sizes}
 use Rattle.lower_correct.proofs.Stores.{World, RefersToRows, Fine, After, after_on, after_none, fine_later, after_since}
 use Rattle.lower_correct.proofs.Goods.{Keeps, keeps_all, IsFreeFor, Known, Suits, Good, ends, mode_free, mode_suits, held, stays_there, free_more}
@@ -287,7 +287,7 @@ module _ (p : typed.Program) (call : Calling) (q : Program) (deep f : ℕ) where
         → Sim q 14 (60 * s3.clock + 22) s3.clock (here f pc now3 ws s3) (Good p q f node m t k pc2 s now ws) (call_value u at o s3)
     value_ends pc pc2 s now now3 ws s3 (Some v) u w i gave known hz =
         ends p q f node m t k (operand.Temporary 0) pc pc2 (60 * s3.clock + 22) s now now3 ws v s3 fr su i gave.1 (omega arith) (known v gave.0)
-    value_ends pc pc2 s now now3 ws s3 None true w i gave known hz = tt
+    value_ends pc pc2 s now now3 ws s3 None true w i gave known hz = halts q (60 * s3.clock + 22) (here f pc now3 ws s3) s3 refl refl
     value_ends pc pc2 s now now3 ws s3 None false w i gave known hz = at_mode m w i
       where
         at_mode : (m : Mode) → Wanted m false → Ends (function_at q f).code m (operand.Temporary 0) pc pc2

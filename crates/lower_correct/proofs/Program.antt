@@ -1,8 +1,10 @@
 -- The code follows calls to any depth, and so whole programs.
 use Rattle.std.proofs.Common.{◌≡◌, ℕ, zero, suc, ◌+◌, ◌*◌, ◌<◌, ◌≤◌, List, [], ◌∷◌, ◌++◌, length, take, drop, map, Option, Some, None, Bool, true, false, ◌&&◌, ℤ, pos, refl, sym, ap, ◌∙◌, subst, arith}
-use Rattle.std.specs.Prelude.{nat_eq, nat_le, nat_lt, slice_get, ◌%◌, ◌^◌}
+use Rattle.std.specs.Prelude.{nat_eq, nat_le, nat_lt, slice_get, option_map, if◌then◌else◌, ◌%◌, ◌^◌}
+use Rattle.ctypes.specs.declared.types.IntType.{IntType}
 use Rattle.ctypes.specs.declared.types.IntType.TheVariants as ty
 use Rattle.ctypes.specs.Types.{IsValueOf}
+use Rattle.ctypes.proofs.Uses.{converted_keeps}
 use Rattle.typing_spec.specs.Types.{ObjectType, FunctionType}
 use Rattle.typing_spec.specs.Units as units
 use Rattle.typing_spec.specs.Nodes.{typed_nodes}
@@ -16,7 +18,7 @@ use Rattle.csem.specs.Machine as machine
 use Rattle.csem.specs.Machine.{Run, Goes, Stops, Ended, TicksUsed, then_do, tick, ticks}
 use Rattle.csem.specs.Expressions.{Passed, Calling}
 use Rattle.csem.specs.Statements.{Flow, Normal, Broken, Continued, Returned, execute}
-use Rattle.csem.specs.Meaning.{arrays_of, numbers_of, enter, leave, value_at_end, value_left, body_of, call_defined, calling, start, status_of, end_with, cstep}
+use Rattle.csem.specs.Meaning.{arrays_of, numbers_of, word_of, words_of, enter, leave, value_at_end, value_left, body_of, call_defined, calling, start, status_of, end_with, cstep}
 use Rattle.tac_code.specs.declared.code.Operand.TheVariants as operand
 use Rattle.tac_code.specs.declared.code.Target.TheVariants as target
 use Rattle.tac_code.specs.declared.code.Instruction.TheVariants as instruction
@@ -24,7 +26,7 @@ use Rattle.tac_code.specs.Code as tac_code
 use Rattle.tac_code.specs.Code.{Program, function_at, or_no_function}
 use Rattle.tac_code.specs.Costs.{cost, spent, spent_in_all}
 use Rattle.tac_code.specs.Run as tac
-use Rattle.tac_code.specs.Run.{Values, Call, State, running, ended, word, word_in, word_for, unset, result_alone, entered, returned, numbers_in, arrays_in, begun, ◌>>=◌}
+use Rattle.tac_code.specs.Run.{Values, Call, State, running, ended, word, word_in, word_for, word_at, is_word_of, unset, result_in, result_alone, entered, returned, numbers_in, arrays_in, words_in, begun, ◌>>=◌}
 use Rattle.tac_code.specs.Sound.{AreBytes}
 use Rattle.tac_code.specs.Lowered.{kind_of}
 use Rattle.lower_wf.specs.Asked.{bodies_are_asked, is_sized, parameter_is_sized, function_is_sized, types_are_sized, is_asked, statement_is_asked}
@@ -32,9 +34,9 @@ use Rattle.lower_correct.specs.Values.{or_int, writes_none}
 use Rattle.lower_correct.specs.Code.{One}
 use Rattle.lower_correct.specs.Bodies.{Idles, Closes, Stands, IsFunctionFor, IsCodeFor}
 use Rattle.lower_correct.specs.Laws.{CodeBehaves}
-use Rattle.lower_correct.proofs.Words.{differ, low8, left_true, right_true}
-use Rattle.lower_correct.proofs.Steps.{stays, from, GoesTo, EndsAt, PausesAt, Sim, goes, sim_after, sim_then, sim_more, sim_map, sim_move, tick_in}
-use Rattle.lower_correct.proofs.Standing.{Scratch, here, put_scratch, set_same, does_one, does_nothing, does_move, world, first_automatic, types_below, rows_of, parameters_of, IsCode}
+use Rattle.lower_correct.proofs.Words.{differ, ranged, is_word, low8, left_true, right_true}
+use Rattle.lower_correct.proofs.Steps.{stays, from, GoesTo, EndsAt, PausesAt, HaltsAt, Sim, goes, sim_after, sim_then, sim_more, sim_map, sim_move, tick_in}
+use Rattle.lower_correct.proofs.Standing.{Scratch, here, slots_only, put_scratch, set_same, does_one, does_nothing, does_move, does_forget, world, first_automatic, types_below, rows_of, parameters_of, IsCode}
 use Rattle.lower_correct.proofs.Stores.{below_length, length_mapped, all_types, Fine, After, fine_later, after_later}
 use Rattle.lower_correct.proofs.Passing.{Fitting, Gave, CallGood, CallsDo}
 use Rattle.lower_correct.proofs.Flows.{writes_all, StandsAt, FlowGood, flow_since}
@@ -43,7 +45,7 @@ use Rattle.std.specs.List.{list_all}
 use Rattle.std.proofs.lemmas.Bool.Decides.{nat_tests}
 use Rattle.lower_correct.proofs.Initialising.{AreSized}
 use Rattle.lower_correct.proofs.Statements.{statement_runs}
-use Rattle.lower_correct.proofs.Entering.{item_is, function_is, item_below, arrays_are, numbers_are, fine_lives, fine_entered, fine_left, after_left}
+use Rattle.lower_correct.proofs.Entering.{item_is, function_is, item_below, arrays_are, numbers_are, words_are, fine_lives, fine_entered, fine_left, after_left}
 use Rattle.lower_correct.proofs.Beginning.{first_world, lives_first}
 
 -- ---- ticks of a definition and its parameters
@@ -83,6 +85,21 @@ not_none x e = cc
 same_type : (x y : FunctionType) → Some x ≡ Some y → x ≡ y
 same_type x y e = cc
 
+-- ---- results
+
+no_word : (r : Option IntType) → result_in r None ≡ Some None
+no_word None = refl
+no_word (Some u) = refl
+
+no_result : (w : Option ℕ) (r : Option IntType) → r ≡ None → result_in r w ≡ Some None
+no_result w r e = ap (λ r. result_in r w) e
+
+word_given : (r : Option IntType) (u : IntType) (v : ℤ) (m : Values) → r ≡ Some u → IsValueOf u v → m 0 ≡ Some (word (word_for v))
+    → result_in r (word_in (m 0)) ≡ Some (Some (word_for v))
+word_given r u v m e h there =
+    let fits : is_word_of u (word_for v) ≡ true = is_word u v (ranged u v h) (ap word_for (converted_keeps u v h)) in
+    ap (λ r. result_in r (word_in (m 0))) e ∙ (ap (λ x. result_in (Some u) (word_in x)) there ∙ ap (λ b. if b then Some (Some (word_for v)) else None) fits)
+
 module _ (p : typed.Program) (q : Program) (typed_well : is_typed p ≡ true) (asked : is_asked p ≡ true) (texts : (n : ℕ) (text : List ℕ) → slice_get p.literals n ≡ Some text → AreBytes text) (code : IsCodeFor p q)
     (main_gives : (f : Function) → slice_get p.functions p.main ≡ Some f → f.type.result ≡ Some ty.Int) where
   -- ---- a function and its code
@@ -113,6 +130,9 @@ module _ (p : typed.Program) (q : Program) (typed_well : is_typed p ≡ true) (a
     objects_same : (function_at q g).objects ≡ f.objects
     objects_same = ap (λ h. h.objects) here_is ∙ (both g f e).is.objects
 
+    result_same : (function_at q g).result ≡ f.type.result
+    result_same = ap (λ h. h.result) here_is ∙ (both g f e).is.result
+
     parameters_same : (function_at q g).parameters ≡ map kind_of f.type.parameters
     parameters_same = ap (λ h. h.parameters) here_is ∙ (both g f e).is.parameters
 
@@ -142,10 +162,18 @@ module _ (p : typed.Program) (q : Program) (typed_well : is_typed p ≡ true) (a
       pub now : Scratch
       pub at : z ≡ here g pc now ws s
       pub leave : One (function_at q g).code instruction.Return pc pc2
-      pub gave : (v : ℤ) → o ≡ Some v → IsValueOf (or_int f.type.result) v × (now.temporaries 0 ≡ Some (word (word_for v)))
+      pub value : (v : ℤ) → o ≡ Some v → IsValueOf (or_int f.type.result) v
+      pub gives : result_in f.type.result (word_in (now.temporaries 0)) ≡ Some (option_map word_of o)
       pub has : nat_eq g p.main ≡ true → (v : ℤ) × (o ≡ Some v)
       pub fine : Fine (world p q g ws) s
       pub after : After (first_automatic q) writes_all before s
+
+    -- the Return then gives the value of the call
+    gives_result : (ws : List Call) (o : Option ℤ) (before s : machine.State) (z : State) (r : AtReturn before ws o s z)
+        → tac.act q (here g r.pc r.now ws s) instruction.Return ≡ returned (here g r.pc r.now ws s) ws (option_map word_of o)
+    gives_result ws o before s z r =
+        let t = here g r.pc r.now ws s in
+        ap (λ x. result_in x (word_in (r.now.temporaries 0)) >>= returned t ws) result_same ∙ ap (λ x. x >>= returned t ws) r.gives
 
     is_code : IsCode p f q g
     is_code = record { function = e; objects = objects_same; literals = code.literals; statics = code.statics }
@@ -184,21 +212,25 @@ module _ (p : typed.Program) (q : Program) (typed_well : is_typed p ≡ true) (a
             now = now2;
             at = refl;
             leave = r;
-            gave = λ v ev. let same : pos 0 ≡ v = cc in subst (λ v. IsValueOf (or_int f.type.result) v × (now2.temporaries 0 ≡ Some (word (word_for v)))) same
-                (zero_fits f.type.result, set_same st.now.temporaries 0 (word 0));
+            value = λ v ev. let same : pos 0 ≡ v = cc in subst (IsValueOf (or_int f.type.result)) same (zero_fits f.type.result);
+            gives = word_given f.type.result ty.Int (pos 0) now2.temporaries (is_main eb) (zero_fits (Some ty.Int)) (set_same st.now.temporaries 0 (word 0));
             has = λ m. (pos 0, refl);
             fine = st.fine;
             after = st.after;
           })
       closed false end back last before ws s z eb h r st =
-          goes q 84 (AtReturn before ws None) (60 * s.clock + 90) s.clock 0 0 z z s (stays q z) (omega arith) (omega arith)
+          let now2 = slots_only st.now in
+          goes q 84 (AtReturn before ws None) (60 * s.clock + 90) s.clock 1 0 z (here g back now2 ws s) s
+          (from q z (here g end st.now ws s) 1 0 (running (here g back now2 ws s)) st.at (does_forget q g 0 0 end back st.now ws s h)) (omega arith)
+          (omega arith)
           (record {
             pc = back;
             pc2 = last;
-            now = st.now;
-            at = st.at ∙ ap (λ n. here g n st.now ws s) h;
+            now = now2;
+            at = refl;
             leave = r;
-            gave = λ v ev. absurd (let y : ⊥ = cc in y);
+            value = λ v ev. absurd (let y : ⊥ = cc in y);
+            gives = no_word f.type.result;
             has = λ m. absurd (differ (sym eb ∙ m));
             fine = st.fine;
             after = st.after;
@@ -219,7 +251,8 @@ module _ (p : typed.Program) (q : Program) (typed_well : is_typed p ≡ true) (a
             now = l.now;
             at = l.at;
             leave = l.leave;
-            gave = λ v ev. absurd (let y : ⊥ = cc in y);
+            value = λ v ev. absurd (let y : ⊥ = cc in y);
+            gives = no_result (word_in (l.now.temporaries 0)) f.type.result l.gives;
             has = λ m. let clash : None ≡ Some ty.Int = sym l.gives ∙ is_main m in absurd (let y : ⊥ = cc in y);
             fine = l.fine;
             after = l.after;
@@ -232,8 +265,9 @@ module _ (p : typed.Program) (q : Program) (typed_well : is_typed p ≡ true) (a
             now = l.now;
             at = l.at;
             leave = l.leave;
-            gave = λ w ew. let same : v ≡ w = cc in subst (λ w. IsValueOf (or_int f.type.result) w × (l.now.temporaries 0 ≡ Some (word (word_for w)))) same
-                l.gives;
+            value = λ w ew. let same : v ≡ w = cc in subst (IsValueOf (or_int f.type.result)) same
+                (subst (λ r. IsValueOf (or_int r) v) (sym l.gives.1) l.gives.2);
+            gives = word_given f.type.result l.gives.0 v l.now.temporaries l.gives.1 l.gives.2 l.gives.3;
             has = λ m. (v, refl);
             fine = l.fine;
             after = l.after;
@@ -286,35 +320,37 @@ module _ (p : typed.Program) (q : Program) (typed_well : is_typed p ≡ true) (a
         ap (λ l. numbers_in l b.h.objects now.temporaries 0) b.is.parameters
         ∙ (ap (λ l. numbers_in (map kind_of fn.type.parameters) l now.temporaries 0) b.is.objects
         ∙ numbers_are (world p q f ws) fn.type.parameters fn.objects passed 0 now.temporaries (parameters_first g fn e) fits) in
+        let words : words_in b.h.parameters now.temporaries 0 ≡ words_of passed =
+        ap (λ l. words_in l now.temporaries 0) b.is.parameters ∙ words_are (world p q f ws) fn.type.parameters passed 0 now.temporaries fits in
         let arrays : arrays_in b.h.parameters now.temporaries 0 ≡ Some (arrays_of passed) =
         ap (λ l. arrays_in l now.temporaries 0) b.is.parameters ∙ arrays_are (world p q f ws) fn.type.parameters passed 0 now.temporaries fits in
         ap (λ o. o >>= λ h. numbers_in h.parameters h.objects now.temporaries 0 >>= λ numbers. arrays_in h.parameters now.temporaries 0 >>= λ arrays. begun t g
         h numbers arrays) b.at
         ∙ (ap (λ o. o >>= λ numbers. arrays_in b.h.parameters now.temporaries 0 >>= λ arrays. begun t g b.h numbers arrays) numbers
         ∙ (ap (λ o. o >>= λ arrays. begun t g b.h (numbers_of passed) arrays) arrays
+        ∙ (ap (λ l. begun t g (record b.h { objects = l }) (numbers_of passed) (arrays_of passed)) b.is.objects
         ∙ ap (λ l. running (record t {
           call = record { function = g; at = 0; kept = unset; base = length s.store; arrays = arrays_of passed };
           temporaries = unset;
           waiting = record { function = f; at = pc + 1; kept = now.kept; base = s.base; arrays = s.arrays } ∷ ws;
-          store = s.store ++ (numbers_of passed ++ map indeterminate (drop (length (numbers_of passed)) l));
-          history = Entered g ∷ s.history;
-        })) b.is.objects))
+          store = s.store ++ (numbers_of passed ++ map indeterminate (drop (length (numbers_of passed)) fn.objects));
+          history = Entered g l ∷ s.history;
+        })) words)))
 
     -- and ends
     abbrev waits : Call
     waits = record { function = f; at = pc + 1; kept = now.kept; base = s.base; arrays = s.arrays }
 
-    gave_of : (call : Calling) (deep : ℕ) (o : Option ℤ) (m : Values)
-        → ((v : ℤ) → o ≡ Some v → IsValueOf (or_int fn.type.result) v × (m 0 ≡ Some (word (word_for v))))
-        → Gave p call q deep f fn.type.result o (result_alone (word_in (m 0)))
-    gave_of call deep None m h = tt
-    gave_of call deep (Some v) m h = ((h v refl).0, ap (λ x. result_alone (word_in x) 0) (h v refl).1)
+    gave_of : (call : Calling) (deep : ℕ) (o : Option ℤ) → ((v : ℤ) → o ≡ Some v → IsValueOf (or_int fn.type.result) v)
+        → Gave p call q deep f fn.type.result o (result_alone (option_map word_of o))
+    gave_of call deep None h = tt
+    gave_of call deep (Some v) h = (h v refl, refl)
 
     ends_call : (call : Calling) (deep : ℕ) (o : Option ℤ) (s2 : machine.State) (z : State) → pc + 1 ≡ pc2
         → AtReturn g fn e (enter g fn passed s) (waits ∷ ws) o s2 z
-        → GoesTo q 22 (60 * s2.clock + 84) s2.clock z (CallGood p call q deep f pc2 now.kept ws s fn.type.result o) (leave s s2)
+        → GoesTo q 22 (60 * s2.clock + 84) s2.clock z (CallGood p call q deep f pc2 now.kept ws s fn.type.result o) (leave s o s2)
     ends_call call deep o s2 z en r =
-        let temporaries = result_alone (word_in (r.now.temporaries 0)) in
+        let temporaries = result_alone (option_map word_of o) in
         let shape : ℕ → ℕ → State = λ n m. record {
           call = record { function = f; at = m; kept = now.kept; base = s.base; arrays = s.arrays };
           temporaries =
@@ -322,20 +358,22 @@ module _ (p : typed.Program) (q : Program) (typed_well : is_typed p ≡ true) (a
           waiting = ws;
           store = take n s2.store;
           input = s2.input;
-          history = Left ∷ s2.history;
+          history = Left (option_map word_of o) ∷ s2.history;
         } in
-        let u = here f pc2 (record { temporaries = temporaries; kept = now.kept }) ws (leave s s2) in
-        let step : tac.act q (here g r.pc r.now (waits ∷ ws) s2) instruction.Return ≡ running u =
-        ap (λ n. running (shape n (pc + 1))) r.after.base ∙ ap (λ m. running (shape (length s.store) m)) en in
-        goes q 22 (CallGood p call q deep f pc2 now.kept ws s fn.type.result o) (60 * s2.clock + 84) s2.clock 1 43 z u (leave s s2)
+        let t = here g r.pc r.now (waits ∷ ws) s2 in
+        let u = here f pc2 (record { temporaries = temporaries; kept = now.kept }) ws (leave s o s2) in
+        let step : tac.act q t instruction.Return ≡ running u =
+        gives_result g fn e (waits ∷ ws) o (enter g fn passed s) s2 z r
+        ∙ (ap (λ n. running (shape n (pc + 1))) r.after.base ∙ ap (λ m. running (shape (length s.store) m)) en) in
+        goes q 22 (CallGood p call q deep f pc2 now.kept ws s fn.type.result o) (60 * s2.clock + 84) s2.clock 1 43 z u (leave s o s2)
         (from q z (here g r.pc r.now (waits ∷ ws) s2) 1 43 (running u) r.at
         (does_one q g instruction.Return r.pc r.pc2 r.now (waits ∷ ws) s2 (running u) r.leave step)) (omega arith) (omega arith)
         (record {
           temporaries = temporaries;
           at = refl;
-          gave = gave_of call deep o r.now.temporaries r.gave;
-          fine = fine_left (world p q f ws) (function_at q g).objects (rows_of (parameters_of (slice_get p.functions g))) s s2 fine r.fine;
-          after = after_left (world p q f ws) writes_none g fn passed s s2 fine r.after;
+          gave = gave_of call deep o r.value;
+          fine = fine_left (world p q f ws) (function_at q g).objects (rows_of (parameters_of (slice_get p.functions g))) o s s2 fine r.fine;
+          after = after_left (world p q f ws) writes_none g fn passed o s s2 fine r.after;
         })
 
   call_of : (d g f : ℕ) (fn : Function) (e : slice_get p.functions g ≡ Some fn) (ok : CallsDo p (calling p d) q d g) (passed : List Passed) (s : machine.State)
@@ -357,7 +395,7 @@ module _ (p : typed.Program) (q : Program) (typed_well : is_typed p ≡ true) (a
       (does_one q f (instruction.Call g) pc pc2 now ws s (running (here g 0 fresh (w ∷ ws) s1)) o (begins g fn e f passed s now ws pc pc2 fine fits))
       (omega (arith, size)) (omega arith)
       (sim_then q 84 22 (λ flow. AtReturn g fn e s1 (w ∷ ws) (value_left (nat_eq g p.main) flow)) Good2 (60 * s.clock + 16) 84 (60 * s.clock + 16) s.clock
-      (here g 0 fresh (w ∷ ws) s1) (body_of p (calling p d) fn s1) (λ flow s2. Goes (value_left (nat_eq g p.main) flow) (leave s s2)) (omega arith)
+      (here g 0 fresh (w ∷ ws) s1) (body_of p (calling p d) fn s1) (λ flow s2. Goes (value_left (nat_eq g p.main) flow) (leave s (value_left (nat_eq g p.main) flow) s2)) (omega arith)
       (omega arith)
       (body_does g fn e (calling p d) d ok s1 (w ∷ ws) le fine1)
       (λ flow s2 z lt r. ends_call g fn e f passed s now ws pc pc2 fine (calling p (suc d)) (suc d) (value_left (nat_eq g p.main) flow) s2 z o.next r))
@@ -407,7 +445,7 @@ module _ (p : typed.Program) (q : Program) (typed_well : is_typed p ≡ true) (a
       -- main's value is the status
       record Waits (o : Option ℤ) (s : machine.State) (z : State) : Type 0 where
         pub s2 : machine.State
-        pub same : s ≡ leave (start n p input) s2
+        pub same : s ≡ leave (start n p input) o s2
         pub last : AtReturn p.main fn e (enter p.main fn [] (start n p input)) [] o s2 z
 
       begun_same : tac.start q input ≡ here p.main 0 (record { temporaries = unset; kept = unset }) [] (enter p.main fn [] (start n p input))
@@ -418,7 +456,7 @@ module _ (p : typed.Program) (q : Program) (typed_well : is_typed p ≡ true) (a
             waiting = [];
             store = first ++ map indeterminate objects;
             input = input;
-            history = Entered m ∷ [];
+            history = Entered m [] ∷ [];
           } in
           let stores : tac.first_store q ≡ store.first_store p =
           ap (λ l. map literal_object l ++ map static_object q.statics) code.literals
@@ -434,16 +472,18 @@ module _ (p : typed.Program) (q : Program) (typed_well : is_typed p ≡ true) (a
           let r = w.last in
           let t = here p.main r.pc r.now [] w.s2 in
           let has = r.has (let y : nat_eq p.main p.main ≡ true = grind (arith, nat_tests) in y) in
-          let there = (r.gave has.0 has.1).1 in
-          let step : tac.act q t instruction.Return ≡ ended (status_of o) w.s2.input (Left ∷ w.s2.history) =
-          ap (λ x. word_in x >>= λ k. ended (k % 2 ^ 8) w.s2.input (Left ∷ w.s2.history)) there
-          ∙ ap (λ k. ended k w.s2.input (Left ∷ w.s2.history)) (status_is o has.0 has.1) in
+          let history = Left (option_map word_of o) ∷ w.s2.history in
+          let step : tac.act q t instruction.Return ≡ ended (status_of o) w.s2.input history =
+          gives_result p.main fn e [] o (enter p.main fn [] (start n p input)) w.s2 z r
+          ∙ (ap (λ o. returned t [] (option_map word_of o)) has.1
+          ∙ (ap (λ k. ended k w.s2.input (Left (Some (word_for has.0)) ∷ w.s2.history)) (status_is o has.0 has.1)
+          ∙ ap (λ x. ended (status_of o) w.s2.input (Left (option_map word_of x) ∷ w.s2.history)) (sym has.1))) in
           subst (λ y. EndsAt q (60 * y.clock + 84) z (status_of o) y.input y.history) (sym w.same)
           (record {
             j = 1;
             c = 43;
-            reaches = from q z t 1 43 (ended (status_of o) w.s2.input (Left ∷ w.s2.history)) r.at
-                (does_one q p.main instruction.Return r.pc r.pc2 r.now [] w.s2 (ended (status_of o) w.s2.input (Left ∷ w.s2.history)) r.leave step);
+            reaches = from q z t 1 43 (ended (status_of o) w.s2.input history) r.at
+                (does_one q p.main instruction.Return r.pc r.pc2 r.now [] w.s2 (ended (status_of o) w.s2.input history) r.leave step);
             within =
                 omega arith;
           })
@@ -463,9 +503,9 @@ module _ (p : typed.Program) (q : Program) (typed_well : is_typed p ≡ true) (a
           (sim_then q 84 14 Waits Never (60 * n + 16) 84 (60 * n + 18) n z (call_defined p (calling p n) (Some fn) p.main [] s0) end_with (omega arith)
           (omega arith)
           (sim_then q 84 84 (λ flow. AtReturn p.main fn e s1 [] (value_left (nat_eq p.main p.main) flow)) Waits (60 * n + 16) 84 (60 * n + 16) n z
-          (body_of p (calling p n) fn s1) (λ flow s2. Goes (value_left (nat_eq p.main p.main) flow) (leave s0 s2)) (omega arith) (omega arith)
+          (body_of p (calling p n) fn s1) (λ flow s2. Goes (value_left (nat_eq p.main p.main) flow) (leave s0 (value_left (nat_eq p.main p.main) flow) s2)) (omega arith) (omega arith)
           (body_does p.main fn e (calling p n) n (calls_do n p.main) s1 [] le fine1)
-          (λ flow s2 z2 lt r. goes q 84 (Waits (value_left (nat_eq p.main p.main) flow)) (60 * s2.clock + 84) s2.clock 0 0 z2 z2 (leave s0 s2) (stays q z2)
+          (λ flow s2 z2 lt r. goes q 84 (Waits (value_left (nat_eq p.main p.main) flow)) (60 * s2.clock + 84) s2.clock 0 0 z2 z2 (leave s0 (value_left (nat_eq p.main p.main) flow) s2) (stays q z2)
           (omega arith) (omega arith) (record { s2 = s2; same = refl; last = r })))
           (λ o s z3 lt w. ends_all o s z3 w))
 
@@ -493,6 +533,10 @@ code_behaves p q input checked asked code bytes =
           let l : PausesAt q (60 * n + 18) n (tac.start q input) s =
           subst (λ r. Sim q 14 (60 * n + 18) n (tac.start q input) (Never p q checked.well_typed asked checked.literals code checked.main_gives_int) r) h (all n) in
           (l.j, l.progress, (l.u, l.reaches.by, l.history, l.input), costs n l.j l.c l.reaches.spends l.within);
+      stops = λ n act at s h.
+          let l : HaltsAt q (60 * n + 18) (tac.start q input) s =
+          subst (λ r. Sim q 14 (60 * n + 18) n (tac.start q input) (Never p q checked.well_typed asked checked.literals code checked.main_gives_int) r) h (all n) in
+          (l.j, (l.u, l.reaches.by, l.history, l.input), costs n l.j l.c l.reaches.spends l.within);
     }
   where
     left_part : is_typed p ≡ true → nat_lt p.main (length p.functions) ≡ true

@@ -21,7 +21,7 @@ use Rattle.tac_code.specs.declared.code.Instruction.{Instruction}
 use Rattle.tac_code.specs.declared.code.Instruction.TheVariants as instruction
 use Rattle.tac_code.specs.Code.{Program, function_at, scalar_type}
 use Rattle.tac_code.specs.Costs.{cost, cost_if}
-use Rattle.tac_code.specs.Run.{Value, word, Values, with_at, Call, State, Progress, running, ◌>>=◌, where_true, word_in, word_for, number_of, is_word_of, operate, holds, value, word_at, goes_to, next, with_number, own, gives, gives_word, forgotten, act, step}
+use Rattle.tac_code.specs.Run.{Value, word, Values, unset, with_at, Call, State, Progress, running, ◌>>=◌, where_true, word_in, word_for, number_of, is_word_of, operate, holds, value, word_at, goes_to, next, with_number, own, gives, gives_word, forgotten, act, step}
 use Rattle.lower_correct.specs.Places.{size_of_type}
 use Rattle.lower_correct.specs.Code.{One}
 use Rattle.lower_correct.proofs.Steps.{Reaches, one_step}
@@ -31,6 +31,10 @@ use Rattle.lower_correct.proofs.Stores.{World}
 pub record Scratch : Type 0 where
   pub temporaries : Values
   pub kept : Values
+
+-- the same slots, and no temporary
+abbrev pub slots_only : Scratch → Scratch
+slots_only now = record { temporaries = unset; kept = now.kept }
 
 -- the code at instruction pc of function f, in the same state
 abbrev pub here : ℕ → ℕ → Scratch → List Call → machine.State → State
@@ -217,7 +221,7 @@ module _ (q : Program) (f : ℕ) where
       ∙ (ap (λ z. running (here f (if z then to else pc + 1) now ws s)) e ∙ ap (λ n. running (here f (if z then to else n) now ws s)) i.next)))
 
   pub does_forget : (n k pc pc2 : ℕ) (now : Scratch) (ws : List Call) (s : machine.State) → One (function_at q f).code (instruction.Forget n k) pc pc2
-      → Reaches q (here f pc now ws s) 1 0 (running (here f pc2 now ws (record s { store = forgotten (function_at q f).objects s.base n k s.store })))
+      → Reaches q (here f pc now ws s) 1 0 (running (here f pc2 (slots_only now) ws (record s { store = forgotten (function_at q f).objects s.base n k s.store })))
   does_forget n k pc pc2 now ws s o =
       let s2 : machine.State = record s { store = forgotten (function_at q f).objects s.base n k s.store } in
-      does_one (instruction.Forget n k) pc pc2 now ws s (running (here f pc2 now ws s2)) o (on_to pc pc2 now ws s2 o.next)
+      does_one (instruction.Forget n k) pc pc2 now ws s (running (here f pc2 (slots_only now) ws s2)) o (on_to pc pc2 (slots_only now) ws s2 o.next)

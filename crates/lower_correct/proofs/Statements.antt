@@ -20,7 +20,7 @@ use Rattle.lower_wf.specs.Asked.{is_wide, value_is_asked, number_is_asked, optio
 use Rattle.lower_correct.specs.Values.{extent, rests_in, constant_of, keeps, waits_in, operand_of, Nowhere, If, mode_of}
 use Rattle.lower_correct.specs.Places.{size_of_place}
 use Rattle.lower_correct.specs.Code.{One, Converts, Into}
-use Rattle.lower_correct.specs.Bodies.{is_within, Initialises, Effects, Repeats, Stands, StandAll, StandAt}
+use Rattle.lower_correct.specs.Bodies.{is_within, has_objects, Initialises, Effects, Repeats, Stands, StandAll, StandAt}
 use Rattle.lower_correct.proofs.Words.{left_true, right_true, differ}
 use Rattle.lower_correct.proofs.Steps.{Sim}
 use Rattle.lower_correct.proofs.Standing.{here, IsCode}
@@ -192,11 +192,11 @@ module _ (p : typed.Program) (tf : Function) (call : Calling) (q : Program) (dee
         (left_true (number_is_asked e) (statements_are_asked all)
         (right_true (list_all (label_fits u) (labels_of all)) (number_is_asked e && statements_are_asked all)
         (right_true (is_wide u) (list_all (label_fits u) (labels_of all) && (number_is_asked e && statements_are_asked all)) ha)))
-        (mode_of (waits_in e (is_within first count) false 0 0)) h.0 h.1
-        (mode_free p q f (constant_of e) (rests_in e) (is_within first count) false 0 0)
-        (mode_suits p q f (constant_of e) (rests_in e) (is_within first count) false 0 0 (extent e))
+        (mode_of (waits_in e (is_within first count) (has_objects count) 0 0)) h.0 h.1
+        (mode_free p q f (constant_of e) (rests_in e) (is_within first count) (has_objects count) 0 0)
+        (mode_suits p q f (constant_of e) (rests_in e) (is_within first count) (has_objects count) 0 0 (extent e))
         (sized p tf call q deep f same ok
-        (λ size. Into (function_at q f).code size e (mode_of (waits_in e (is_within first count) false 0 0)) 0 0 h.0 h.1) h.6)) h.7 h.8
+        (λ size. Into (function_at q f).code size e (mode_of (waits_in e (is_within first count) (has_objects count) 0 0)) 0 0 h.0 h.1) h.6)) h.7 h.8
         (λ label to place. from_runs all first (first + count) h.4 label pc2 again h.3 to pc2
         (right_true (nat_le (first + count) hi) (statements_are_typed p tf first (first + count) all)
         (right_true (nat_le lo first) (nat_le (first + count) hi && statements_are_typed p tf first (first + count) all)

@@ -23,7 +23,7 @@ use Rattle.tac_code.specs.Run.{Call, State, running, word, word_for}
 use Rattle.lower_wf.specs.Asked.{is_wide}
 use Rattle.lower_correct.specs.Values.{Mode, Nowhere, To, If}
 use Rattle.lower_correct.specs.Code.{One, Steps, StepsAfter, StepsBy, Into}
-use Rattle.lower_correct.proofs.Steps.{Reaches, stays, goes, Sim, sim_after, sim_map, tick_in, find_in}
+use Rattle.lower_correct.proofs.Steps.{Reaches, stays, goes, Sim, sim_after, sim_map, tick_in, find_in, halts}
 use Rattle.lower_correct.proofs.Standing.{Scratch, here, put_scratch, set_same, put_state, Takes, does_nothing, does_move, world, sizes}
 use Rattle.lower_correct.proofs.Stores.{Fine, after_put, with_tree, read_fits, fine_later, after_since}
 use Rattle.lower_correct.proofs.Goods.{Keeps, keeps_all, keeps_put, IsFree, IsFreeFor, HasIn, Known, Suits, Good, ends}
@@ -200,7 +200,7 @@ module _ (p : typed.Program) (call : Calling) (q : Program) (deep f : ℕ) where
         (then_do (value_or_undefined at2 old (record s { clock = n })) (λ old s3.
         then_do (computed_at at (operated (step_operation so) of old (pos 1)) s3)
         (λ w s2. then_do (write p at (whole (s.base + x)) (converted u w) s2) (finishes moment old))))
-    step_ends moment m p1 pc2 n now ws s None fr su i fine ex = tt
+    step_ends moment m p1 pc2 n now ws s None fr su i fine ex = halts q (60 * n + 120) (here f p1 now ws s) (record s { clock = n }) refl refl
     step_ends typed.before m p1 pc2 n now ws s (Some old) fr su i fine ex = before_ends m p1 pc2 n now ws s old fr su i fine ex
     step_ends typed.after m p1 pc2 n now ws s (Some old) fr su i fine ex = after_ends m p1 pc2 n now ws s old fr su i fine ex
 

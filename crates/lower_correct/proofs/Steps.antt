@@ -98,12 +98,26 @@ pub record PausesAt (q : Program) (hi lo : ℕ) (t : State) (s : machine.State) 
   pub history : u.history ≡ s.history
   pub input : u.input ≡ s.input
 
+-- it has done the same where the run meets undefined behaviour, perhaps amid a tick
+pub record HaltsAt (q : Program) (hi : ℕ) (t : State) (s : machine.State) : Type 0 where
+  pub j : ℕ
+  pub c : ℕ
+  pub u : State
+  pub reaches : Reaches q t j c (running u)
+  pub within : c ≤ hi
+  pub history : u.history ≡ s.history
+  pub input : u.input ≡ s.input
+
 -- the code follows a run: `hi` bounds the cost and 60 times the ticks left, `lo` is at most the steps and the ticks left
 abbrev pub Sim : {A : Type 0} → Program → ℕ → ℕ → ℕ → State → (A → machine.State → State → Type 0) → Run A → Type 0
 Sim q slack hi lo t Good (Goes a s) = GoesTo q slack hi lo t (Good a) s
 Sim q slack hi lo t Good (Stops (Ended status) s) = EndsAt q hi t status s.input s.history
-Sim q slack hi lo t Good (Stops (Undefined act at) s) = Unit {0}
+Sim q slack hi lo t Good (Stops (Undefined act at) s) = HaltsAt q hi t s
 Sim q slack hi lo t Good (Stops TicksUsed s) = PausesAt q hi lo t s
+
+-- no step where the same is done already
+pub halts : (q : Program) (hi : ℕ) (t : State) (s : machine.State) → t.history ≡ s.history → t.input ≡ s.input → HaltsAt q hi t s
+halts q hi t s e1 e2 = record { j = 0; c = 0; u = t; reaches = stays q t; within = omega arith; history = e1; input = e2 }
 
 -- steps first
 pub sim_after : {A : Type 0} (q : Program) (slack : ℕ) (Good : A → machine.State → State → Type 0) (hi lo hi2 lo2 j c : ℕ) (t u : State) (r : Run A)
@@ -119,7 +133,15 @@ sim_after q slack Good hi lo hi2 lo2 j c t u (Goes a s) l h1 h2 r = record {
 }
 sim_after q slack Good hi lo hi2 lo2 j c t u (Stops (Ended status) s) l h1 h2 r =
     record { j = j + r.j; c = c + r.c; reaches = reaches_on q t u j c r.j r.c (ended status s.input s.history) l r.reaches; within = omega (arith, r.within) }
-sim_after q slack Good hi lo hi2 lo2 j c t u (Stops (Undefined act at) s) l h1 h2 r = tt
+sim_after q slack Good hi lo hi2 lo2 j c t u (Stops (Undefined act at) s) l h1 h2 r = record {
+  j = j + r.j;
+  c = c + r.c;
+  u = r.u;
+  reaches = reaches_on q t u j c r.j r.c (running r.u) l r.reaches;
+  within = omega (arith, r.within);
+  history = r.history;
+  input = r.input;
+}
 sim_after q slack Good hi lo hi2 lo2 j c t u (Stops TicksUsed s) l h1 h2 r = record {
   j = j + r.j;
   c = c + r.c;
@@ -142,7 +164,8 @@ sim_then q slack slack2 Good Good2 hi more hi2 lo t (Goes a s) go h1 h2 l next =
     (next a s l.u (omega (arith, l.within)) l.good)
 sim_then q slack slack2 Good Good2 hi more hi2 lo t (Stops (Ended status) s) go h1 h2 l next =
     record { j = l.j; c = l.c; reaches = l.reaches; within = omega (arith, l.within) }
-sim_then q slack slack2 Good Good2 hi more hi2 lo t (Stops (Undefined act at) s) go h1 h2 l next = tt
+sim_then q slack slack2 Good Good2 hi more hi2 lo t (Stops (Undefined act at) s) go h1 h2 l next =
+    record { j = l.j; c = l.c; u = l.u; reaches = l.reaches; within = omega (arith, l.within); history = l.history; input = l.input }
 sim_then q slack slack2 Good Good2 hi more hi2 lo t (Stops TicksUsed s) go h1 h2 l next = record {
   j = l.j;
   c = l.c;
@@ -169,7 +192,8 @@ sim_map q slack slack2 Good Good2 hi hi2 lo t (Goes a s) h h2 l next = record {
 }
 sim_map q slack slack2 Good Good2 hi hi2 lo t (Stops (Ended status) s) h h2 l next =
     record { j = l.j; c = l.c; reaches = l.reaches; within = omega (arith, l.within) }
-sim_map q slack slack2 Good Good2 hi hi2 lo t (Stops (Undefined act at) s) h h2 l next = tt
+sim_map q slack slack2 Good Good2 hi hi2 lo t (Stops (Undefined act at) s) h h2 l next =
+    record { j = l.j; c = l.c; u = l.u; reaches = l.reaches; within = omega (arith, l.within); history = l.history; input = l.input }
 sim_map q slack slack2 Good Good2 hi hi2 lo t (Stops TicksUsed s) h h2 l next = record {
   j = l.j;
   c = l.c;
@@ -218,7 +242,8 @@ sim_more q slack slack2 Good Good2 hi more hi2 lo t (Goes a s) h1 h2 l next =
     (next a s l.u (omega (arith, l.within)) l.good)
 sim_more q slack slack2 Good Good2 hi more hi2 lo t (Stops (Ended status) s) h1 h2 l next =
     record { j = l.j; c = l.c; reaches = l.reaches; within = omega (arith, l.within) }
-sim_more q slack slack2 Good Good2 hi more hi2 lo t (Stops (Undefined act at) s) h1 h2 l next = tt
+sim_more q slack slack2 Good Good2 hi more hi2 lo t (Stops (Undefined act at) s) h1 h2 l next =
+    record { j = l.j; c = l.c; u = l.u; reaches = l.reaches; within = omega (arith, l.within); history = l.history; input = l.input }
 sim_more q slack slack2 Good Good2 hi more hi2 lo t (Stops TicksUsed s) h1 h2 l next = record {
   j = l.j;
   c = l.c;
@@ -230,12 +255,12 @@ sim_more q slack slack2 Good Good2 hi more hi2 lo t (Stops TicksUsed s) h1 h2 l 
   input = l.input;
 }
 
--- a run with undefined behaviour promises nothing
+-- a run that meets undefined behaviour has done the same, and the code makes no step
 pub undefined_or : {A : Type 0} (q : Program) (slack : ℕ) (Good : A → machine.State → State → Type 0) (hi lo : ℕ) (t : State) (b : Bool) (act : Undef)
     (at : Pos) (s : machine.State) (r : Run A)
-    → Sim q slack hi lo t Good r → Sim q slack hi lo t Good (choose b (undefined act at s) r)
-undefined_or q slack Good hi lo t true act at s r l = tt
-undefined_or q slack Good hi lo t false act at s r l = l
+    → t.history ≡ s.history → t.input ≡ s.input → Sim q slack hi lo t Good r → Sim q slack hi lo t Good (choose b (undefined act at s) r)
+undefined_or q slack Good hi lo t true act at s r e1 e2 l = halts q hi t s e1 e2
+undefined_or q slack Good hi lo t false act at s r e1 e2 l = l
 
 -- a tick, and a free instruction
 pub tick_in : {A : Type 0} (q : Program) (slack : ℕ) (Good : A → machine.State → State → Type 0) (t u : State) (s : machine.State) (extra hi : ℕ)

@@ -16,20 +16,20 @@ use Rattle.tac_code.specs.declared.code.Operand.{Operand}
 use Rattle.tac_code.specs.declared.code.Operand.TheVariants as operand
 use Rattle.tac_code.specs.declared.code.Instruction.TheVariants as instruction
 use Rattle.tac_code.specs.Code.{Program, function_at}
-use Rattle.tac_code.specs.Run.{Call, State, word_for, forgotten}
+use Rattle.tac_code.specs.Run.{Call, State, running, word_for, forgotten}
 use Rattle.lower_correct.specs.Values.{extent, rests_in, constant_of, waits_in, mode_of}
 use Rattle.lower_correct.specs.Code.{One}
-use Rattle.lower_correct.specs.Bodies.{is_within, Tests}
+use Rattle.lower_correct.specs.Bodies.{is_within, has_objects, forgets, Tests}
 use Rattle.lower_correct.proofs.Words.{differ, Ranged, ranged, is_value, left_true, right_true}
-use Rattle.lower_correct.proofs.Steps.{stays, goes, Sim, sim_after, sim_then, sim_move, sim_tick, tick_in}
-use Rattle.lower_correct.proofs.Standing.{Scratch, here, Holds, does_nothing, does_jump, does_branch, does_forget, world, first_automatic}
+use Rattle.lower_correct.proofs.Steps.{Reaches, stays, goes, Sim, sim_after, sim_then, sim_move, sim_tick, tick_in}
+use Rattle.lower_correct.proofs.Standing.{Scratch, here, slots_only, Holds, does_nothing, does_jump, does_branch, does_forget, world, first_automatic}
 use Rattle.lower_correct.proofs.Operations.{equal_words}
 use Rattle.tac_code.specs.declared.code.Reading.TheVariants as reading
 use Rattle.tac_code.specs.declared.code.Comparison.TheVariants as comparison
 use Rattle.lower_wf.specs.Asked.{is_wide, label_fits}
 use Rattle.std.specs.List.{list_all}
 use Rattle.lower_correct.proofs.Stores.{After, after_on, after_none, after_put, fine_later, after_later, after_since}
-use Rattle.lower_correct.proofs.Goods.{keeps_all, Good, held, stays_there}
+use Rattle.lower_correct.proofs.Goods.{Keeps, keeps_all, Good, held, stays_there}
 use Rattle.lower_correct.proofs.Leaves.{IntoDoes}
 use Rattle.lower_correct.proofs.Flows.{writes_all, all_forgotten, FlowGood, Runs, Lists, flow_since, there}
 
@@ -149,6 +149,21 @@ module _ (p : typed.Program) (call : Calling) (q : Program) (deep f : ℕ) (resu
       (λ j. hp (suc j) ∙ ap (slice_get all) (let z : n + suc j ≡ suc n + j = omega arith in z)) hd i.2)
       (same_value c (converted u v)) (case_test u v c hu r hc))
 
+  -- its objects are forgotten, which leaves the slots, and the temporaries if there are none
+  record Forgotten (first count pc pc2 : ℕ) (now : Scratch) (ws : List Call) (s : machine.State) : Type 0 where
+    pub now2 : Scratch
+    pub reaches : Reaches q (here f pc now ws s) 1 0 (running (here f pc2 now2 ws (record s { store = forgotten (function_at q f).objects s.base first count s.store })))
+    pub keeps : (t k : ℕ) → Keeps (has_objects count) t k now now2
+
+  forgets_them : (first count pc pc2 : ℕ) (now : Scratch) (ws : List Call) (s : machine.State) → One (function_at q f).code (forgets first count) pc pc2
+      → Forgotten first count pc pc2 now ws s
+  forgets_them first zero pc pc2 now ws s o = record { now2 = now; reaches = does_nothing q f pc pc2 now ws s o; keeps = λ t k. keeps_all false t k now }
+  forgets_them first (suc n) pc pc2 now ws s o = record {
+    now2 = slots_only now;
+    reaches = does_forget q f first (suc n) pc pc2 now ws s o;
+    keeps = λ t k. record { temporaries = λ e i lt. absurd (differ (sym e)); kept = λ i lt. refl };
+  }
+
   -- how a switch is left
   leave_switch : (end again hi : ℕ) (out : ℕ) (before : machine.State) (ws : List Call) (flow : Flow) (s : machine.State) (z : State) → 60 * s.clock + 14 ≤ hi
       → FlowGood p call q deep f result end end again before ws flow s z
@@ -160,16 +175,16 @@ module _ (p : typed.Program) (call : Calling) (q : Program) (deep f : ℕ) (resu
 
   pub switch_runs : (u : IntType) (e : Expression) (first count : ℕ) (labels : List (Option ℤ)) (places : List ℕ) (rf : Option ℕ → machine.State → Run Flow)
       (pc p1 p2 p3 p4 end out again : ℕ) → is_wide u ≡ true → list_all (label_fits u) labels ≡ true
-      → One (function_at q f).code instruction.Nothing pc p1 → IntoDoes p call q deep f e (mode_of (waits_in e (is_within first count) false 0 0)) 0 0 p1 p2
-      → One (function_at q f).code (instruction.Forget first count) p2 p3
-      → Tests (function_at q f).code (waits_in e (is_within first count) false 0 0) labels places end p3 p4
+      → One (function_at q f).code instruction.Nothing pc p1 → IntoDoes p call q deep f e (mode_of (waits_in e (is_within first count) (has_objects count) 0 0)) 0 0 p1 p2
+      → One (function_at q f).code (forgets first count) p2 p3
+      → Tests (function_at q f).code (waits_in e (is_within first count) (has_objects count) 0 0) labels places end p3 p4
       → ((label : Option ℕ) (to : ℕ) → IsPlace places end label to → Lists p call q deep f result (rf label) to end end again)
       → Runs p call q deep f result (λ s. tick s (λ s. then_do (evaluate p call e s) (λ v s. tick s (λ s.
       then_do (label_for (converted u v) labels 0 None (all_renewed (function_at q f).objects first count s)) (λ label s. then_do (rf label s) after_switch)))))
       pc end out again
   switch_runs u e first count labels places rf pc p1 p2 p3 p4 end out again hu hl o de i1 i2 df s now ws le fine =
       let Good2 = FlowGood p call q deep f result end out again s ws in
-      let a = waits_in e (is_within first count) false 0 0 in
+      let a = waits_in e (is_within first count) (has_objects count) 0 0 in
       let last : Option ℕ → machine.State → Run Flow = λ label s. then_do (rf label s) after_switch in
       let second : ℤ → machine.State → Run Flow =
       λ v s. tick s (λ s. then_do (label_for (converted u v) labels 0 None (all_renewed (function_at q f).objects first count s)) last) in
@@ -181,39 +196,40 @@ module _ (p : typed.Program) (call : Calling) (q : Program) (deep f : ℕ) (resu
       (omega arith) (omega arith)
       (de s1 now ws (omega (arith, le, lt)) (fine_later (world p q f ws) s n fine))
       (λ v s2 z lt2 good.
-      let h = held p q f e (is_within first count) false 0 0 p2 s1 now ws v s2 z good in
+      let h = held p q f e (is_within first count) (has_objects count) 0 0 p2 s1 now ws v s2 z good in
       sim_move q 14 Good2 (60 * s2.clock + 74) s2.clock z (here f p2 h.now ws s2) (second v s2) h.at
-      (tick_in q 14 Good2 (here f p2 h.now ws s2) (here f p3 h.now ws (record s2 { store = forgotten (function_at q f).objects s2.base first count s2.store }))
+      (let w = forgets_them first count p2 p3 h.now ws s2 i1 in
+      tick_in q 14 Good2 (here f p2 h.now ws s2) (here f p3 w.now2 ws (record s2 { store = forgotten (function_at q f).objects s2.base first count s2.store }))
       s2 74 (60 * s2.clock + 74)
       (λ s. then_do (label_for (converted u v) labels 0 None (all_renewed (function_at q f).objects first count s)) last) (omega arith) refl refl
-      (does_forget q f first count p2 p3 h.now ws s2 i1)
+      w.reaches
       (λ k lt3.
       let s3 : machine.State = record s2 { clock = k } in
       let g = all_forgotten (world p q f ws) first count s3 (fine_later (world p q f ws) s2 k h.known.fine) in
       let s4 = all_renewed (function_at q f).objects first count s3 in
       let w4 = after_all (is_within first count) (function_at q f).objects first count s3 (λ x lo hi. within_is first count x lo hi) in
-      let ho = stays_there p q f (constant_of e) (rests_in e) (is_within first count) false 0 0 (word_for v) h.now h.now s2 s4 (keeps_all false _ _ h.now)
+      let ho = stays_there p q f (constant_of e) (rests_in e) (is_within first count) (has_objects count) 0 0 (word_for v) h.now w.now2 s2 s4 (w.keeps _ _)
       (after_since (is_within first count) s2 s4 k w4) h.holds in
       let into4 : After (first_automatic q) writes_all s s4 = after_on writes_all writes_all writes_all s s2 s4 (λ x y. y) (λ x y. y)
       (all_after _ s s2 (after_since _ s s2 n h.known.after)) (after_since writes_all s2 s4 k g.after) in
       let c4 : s4.clock ≡ k = g.clock in
-      sim_move q 14 Good2 (60 * k + 60 + 74) k (here f p3 h.now ws (record s3 { store = forgotten (function_at q f).objects s3.base first count s3.store }))
-      (here f p3 h.now ws s4) (then_do (label_for (converted u v) labels 0 None s4) last) (ap (here f p3 h.now ws) g.same)
-      (sim_after q 14 Good2 (60 * k + 60 + 74) k (60 * s4.clock + 60 + 74) s4.clock 0 0 (here f p3 h.now ws s4) (here f p3 h.now ws s4)
-      (then_do (label_for (converted u v) labels 0 None s4) last) (stays q (here f p3 h.now ws s4)) (omega (arith, c4)) (omega (arith, c4))
-      (sim_then q 14 14 (Found places end h.now ws s4) Good2 (60 * s4.clock + 15) 60 (60 * s4.clock + 60 + 74) s4.clock (here f p3 h.now ws s4)
+      sim_move q 14 Good2 (60 * k + 60 + 74) k (here f p3 w.now2 ws (record s3 { store = forgotten (function_at q f).objects s3.base first count s3.store }))
+      (here f p3 w.now2 ws s4) (then_do (label_for (converted u v) labels 0 None s4) last) (ap (here f p3 w.now2 ws) g.same)
+      (sim_after q 14 Good2 (60 * k + 60 + 74) k (60 * s4.clock + 60 + 74) s4.clock 0 0 (here f p3 w.now2 ws s4) (here f p3 w.now2 ws s4)
+      (then_do (label_for (converted u v) labels 0 None s4) last) (stays q (here f p3 w.now2 ws s4)) (omega (arith, c4)) (omega (arith, c4))
+      (sim_then q 14 14 (Found places end w.now2 ws s4) Good2 (60 * s4.clock + 15) 60 (60 * s4.clock + 60 + 74) s4.clock (here f p3 w.now2 ws s4)
       (label_for (converted u v) labels 0 None s4) last (omega arith) (omega arith)
-      (tests_do u v a places end hu (ranged (extent e) v h.known.value) labels places 0 None end p3 p4 h.now ws s4 s4 s4.clock refl hl ho
+      (tests_do u v a places end hu (ranged (extent e) v h.known.value) labels places 0 None end p3 p4 w.now2 ws s4 s4 s4.clock refl hl ho
       (λ j. ap (slice_get places) (let y : j ≡ 0 + j = omega arith in y)) refl i2)
       (λ label s5 z5 lt5 found.
       let s6 : machine.State = record s4 { clock = found.k } in
       let e6 : s5 ≡ s6 = found.same in
       let ck : s5.clock ≡ found.k = ap (λ y. y.clock) e6 in
-      sim_move q 14 Good2 (60 * s5.clock + 60) s5.clock z5 (here f found.to h.now ws s4) (last label s5) found.at
-      (subst (λ y. Sim q 14 (60 * y.clock + 60) y.clock (here f found.to h.now ws s4) Good2 (last label y)) (sym e6)
+      sim_move q 14 Good2 (60 * s5.clock + 60) s5.clock z5 (here f found.to w.now2 ws s4) (last label s5) found.at
+      (subst (λ y. Sim q 14 (60 * y.clock + 60) y.clock (here f found.to w.now2 ws s4) Good2 (last label y)) (sym e6)
       (sim_then q 14 14 (FlowGood p call q deep f result end end again s6 ws) Good2 (60 * found.k + 14) 60 (60 * found.k + 60) found.k
-      (here f found.to h.now ws s4) (rf label s6) after_switch (omega arith) (omega arith)
-      (df label found.to found.place s6 h.now ws (omega (arith, le, lt, lt2, lt3, lt5, c4, ck)) (fine_later (world p q f ws) s4 found.k g.fine))
+      (here f found.to w.now2 ws s4) (rf label s6) after_switch (omega arith) (omega arith)
+      (df label found.to found.place s6 w.now2 ws (omega (arith, le, lt, lt2, lt3, lt5, c4, ck)) (fine_later (world p q f ws) s4 found.k g.fine))
       (λ flow s7 z7 lt7 good7. leave_switch end again (60 * s7.clock + 60) out s ws flow s7 z7 (omega arith)
       (flow_since p call q deep f result end end again s s6 ws
       (after_on writes_all writes_all writes_all s s4 s6 (λ x y. y) (λ x y. y) into4 (after_later writes_all s4 found.k)) flow s7 z7 good7)))))))))))

@@ -30,6 +30,15 @@ use Rattle.lower_correct.specs.Initialisers.{Fills}
 abbrev pub is_within : ℕ → ℕ → ℕ → Bool
 is_within n k x = nat_le n x && nat_lt x (n + k)
 
+-- 6.2.4p6: the objects of a switch become indeterminate after its value, if it has any; its value then waits in a slot, since no temporary has a value after that
+abbrev pub has_objects : (count : ℕ) → Bool
+has_objects zero = false
+has_objects (suc k) = true
+
+abbrev pub forgets : (first count : ℕ) → Instruction
+forgets first zero = instruction.Nothing
+forgets first (suc k) = instruction.Forget first (suc k)
+
 -- the positions of the labels that a statement is
 abbrev pub label_places : Statement → ℕ → List ℕ
 label_places x pc = map (λ l. pc) (labels_at x)
@@ -94,11 +103,11 @@ module _ (code : List Instruction) where
       Stands (typed.branches e a b) out again back pc pc2 =
           (p1 p2 p3 other : ℕ) × One code instruction.Nothing pc p1 × Into code (size_of_place p f) e (If false other) 0 0 p1 p2 × Stands a out again back p2 p3
           × One code (instruction.Jump pc2) p3 other × Stands b out again back other pc2
-      -- its objects are forgotten after its value, which one of them cannot hold
+      -- its objects are forgotten after its value, which waits in none of them
       Stands (typed.switch u e first count all) out again back pc pc2 =
-          let o = waits_in e (is_within first count) false 0 0 in
+          let o = waits_in e (is_within first count) (has_objects count) 0 0 in
           (p1 p2 p3 p4 : ℕ) × (places : List ℕ) × One code instruction.Nothing pc p1 × Into code (size_of_place p f) e (mode_of o) 0 0 p1 p2
-          × One code (instruction.Forget first count) p2 p3 × Tests o (labels_of all) places pc2 p3 p4 × StandAt all places pc2 again back p4 pc2
+          × One code (forgets first count) p2 p3 × Tests o (labels_of all) places pc2 p3 p4 × StandAt all places pc2 again back p4 pc2
       Stands (typed.case v) out again back pc pc2 = One code instruction.Nothing pc pc2
       Stands typed.default out again back pc pc2 = One code instruction.Nothing pc pc2
       -- a loop's test is after its body
@@ -130,10 +139,10 @@ module _ (code : List Instruction) where
   Idles zero pc pc2 = pc ≡ pc2
   Idles (suc n) pc pc2 = (p1 : ℕ) × One code instruction.Nothing pc p1 × Idles n p1 pc2
 
-  -- from the end of the body to the Return after it; 5.1.2.2.3p1: the end of main's body returns 0
+  -- from the end of the body to the Return after it; 5.1.2.2.3p1: the end of main's body returns 0, 6.9.1p12: that of another nothing
   abbrev pub Closes : (is_main : Bool) → ℕ → ℕ → Type 0
   Closes true end back = One code (instruction.Move (target.Temporary 0) (operand.Constant 0)) end back
-  Closes false end back = end ≡ back
+  Closes false end back = One code (instruction.Forget 0 0) end back
 
 -- ---- functions
 
@@ -207,6 +216,7 @@ pub record IsFunctionFor (p : typed.Program) (q : Program) (is_main : Bool) (f :
   pub leaves : One g.code instruction.Return back (length g.code)
   pub objects : g.objects ≡ f.objects
   pub parameters : g.parameters ≡ map kind_of f.type.parameters
+  pub result : g.result ≡ f.type.result
   pub temporaries : g.temporaries ≡ most (temporaries_of q) g.code
   pub kept : g.kept ≡ most slots_of g.code
 

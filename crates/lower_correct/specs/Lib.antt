@@ -5,3 +5,4 @@ pub mod Code
 pub mod Initialisers
 pub mod Bodies
 pub mod Laws
+pub mod Words

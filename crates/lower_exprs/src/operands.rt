@@ -1,6 +1,6 @@
 //! Where values are.
 
-ghost use Rattle.std.specs.Prelude.{◌≡◌, map, ℕ, Bool, false};
+ghost use Rattle.std.specs.Prelude.{◌≡◌, map, ℕ, Bool};
 ghost use Rattle.typed_ast.specs.View.{value_of, argument_of, arguments_of};
 ghost use Rattle.lower_correct.specs.Bodies as bodies;
 ghost use Rattle.lower_correct.specs.Values as values;
@@ -150,11 +150,17 @@ pub(crate) fn waits_for_arguments(
     )
 }
 
-/// While the objects of a `switch` are forgotten.
-pub fn waits_for_objects(e: &Value, first: usize, count: usize) -> Operand
-    ensures { result ≡ values.waits_in (value_of e.now) (bodies.is_within first count) false 0 0 }
+fn has_objects(count: usize) -> bool
+    ensures { result ≡ bodies.has_objects count }
 {
-    waits(e, rests_within(e, first, count), false, 0, 0)
+    count > 0
+}
+
+/// While the objects of a `switch` are forgotten, and all temporaries with them.
+pub fn waits_for_objects(e: &Value, first: usize, count: usize) -> Operand
+    ensures { result ≡ values.waits_in (value_of e.now) (bodies.is_within first count) (bodies.has_objects count) 0 0 }
+{
+    waits(e, rests_within(e, first, count), has_objects(count), 0, 0)
 }
 
 /// Where nothing is evaluated after it.

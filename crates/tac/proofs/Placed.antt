@@ -1,5 +1,5 @@
 -- Parts of a switch.
-use Rattle.std.proofs.Common.{◌≡◌, ℕ, ◌<◌, ℤ, false, List, [], ◌++◌, map, length, Option, Some, None, refl, ap, sym, subst, arith}
+use Rattle.std.proofs.Common.{◌≡◌, ℕ, ◌<◌, ℤ, List, [], ◌++◌, map, length, Option, Some, None, refl, ap, sym, subst, arith}
 use Rattle.ctypes.specs.declared.types.IntType.{IntType}
 use Rattle.typing_spec.specs.Program as typed
 use Rattle.typing_spec.specs.Program.{Value, Statement, Statements}
@@ -14,7 +14,7 @@ use Rattle.tac_code.specs.Run.{word_for}
 use Rattle.lower_correct.specs.Values.{waits_in, mode_of}
 use Rattle.lower_correct.specs.Places.{size_of_place}
 use Rattle.lower_correct.specs.Code.{One}
-use Rattle.lower_correct.specs.Bodies.{is_within, label_places, StandAll, StandAt, Tests}
+use Rattle.lower_correct.specs.Bodies.{is_within, has_objects, forgets, label_places, StandAll, StandAt, Tests}
 use Rattle.lower_ops.specs.layer.Parts.{plus, shape_of, Wrote}
 use Rattle.lower_exprs.specs.layer.Sizes.{value_size}
 use Rattle.tac.specs.inside.Sizes.{tests_size, statement_size, statements_size}
@@ -79,14 +79,14 @@ placed_all p f all out again back {c0} {c1} y =
 -- ---- the whole
 
 pub switch_wrote : (p : typed.Program) (f : typed.Function) (u : IntType) (e : Value) (first count : ℕ) (all : Statements) (out again back body end : ℕ) {c0 c1 c2 c3 c4 c5 : List Instruction}
-    → (let o = waits_in e (is_within first count) false 0 0 in
+    → (let o = waits_in e (is_within first count) (has_objects count) 0 0 in
     body ≡ plus (length c0) (plus 1 (plus (value_size e (shape_of (mode_of o))) (plus 1 (tests_size (labels_of all)))))
     → end ≡ plus (length c0) (plus 1 (plus (value_size e (shape_of (mode_of o))) (plus 1 (plus (tests_size (labels_of all)) (statements_size p f all)))))
     → Wrote (λ w pc pc2. One w instruction.Nothing pc pc2) 1 c0 c1 → WroteValue (size_of_place p f) e (mode_of o) 0 0 c1 c2
-    → Wrote (λ w pc pc2. One w (instruction.Forget first count) pc pc2) 1 c2 c3 → WroteTests p f o all body end c3 c4 → WrotePlaced p f all end again back c4 c5
+    → Wrote (λ w pc pc2. One w (forgets first count) pc pc2) 1 c2 c3 → WroteTests p f o all body end c3 c4 → WrotePlaced p f all end again back c4 c5
     → WroteStatement p f (typed.switch u e first count all) out again back c0 c5)
 switch_wrote p f u e first count all out again back body end {c0} {c1} {c2} {c3} {c4} {c5} h1 h2 x0 x1 x2 x3 x4 =
-    let o = waits_in e (is_within first count) false 0 0 in
+    let o = waits_in e (is_within first count) (has_objects count) 0 0 in
     let nv = value_size e (shape_of (mode_of o)) in
     let nt = tests_size (labels_of all) in
     let ns = statements_size p f all in

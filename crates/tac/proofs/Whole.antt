@@ -13,7 +13,7 @@ use Rattle.lower_ops.specs.layer.Parts.{plus, Wrote}
 use Rattle.tac.specs.inside.Sizes.{statement_size}
 use Rattle.tac.specs.inside.Written.{WroteStatement}
 use Rattle.tac.specs.layer.Functions.{parameters_if, parameters_at, temporaries_with, IsBodyOf, IsFunctionWith, FunctionIsCode, FunctionsAreCode}
-use Rattle.tac.specs.inside.Functions.{closing_size, AreFunctionsOf}
+use Rattle.tac.specs.inside.Functions.{AreFunctionsOf}
 use Rattle.lower_ops.proofs.Parts.{as_wrote, begins_all, begins_on, reach_one}
 
 -- ---- the most of instructions
@@ -57,12 +57,12 @@ idles_all n m e {c0} {c1} x = subst (λ k. Wrote (λ w p q. Idles w (suc k) p q)
 -- ---- one function
 
 pub body_written : (p : typed.Program) (m : Bool) (f : typed.Function) (end back : ℕ) {c0 c1 c2 c3 c4 : List Instruction} → c0 ≡ []
-    → end ≡ plus (length c1) (statement_size p f f.body) → back ≡ plus end (closing_size m)
+    → end ≡ plus (length c1) (statement_size p f f.body) → back ≡ plus end 1
     → Wrote (λ w pc pc2. Idles w (suc (length f.type.parameters)) pc pc2) (suc (length f.type.parameters)) c0 c1 → WroteStatement p f f.body end end back c1 c2
-    → Wrote (λ w pc pc2. Closes w m pc pc2) (closing_size m) c2 c3 → Wrote (λ w pc pc2. One w instruction.Return pc pc2) 1 c3 c4 → IsBodyOf p m f c4
+    → Wrote (λ w pc pc2. Closes w m pc pc2) 1 c2 c3 → Wrote (λ w pc pc2. One w instruction.Return pc pc2) 1 c3 c4 → IsBodyOf p m f c4
 body_written p m f end back {c0} {c1} {c2} {c3} {c4} none h1 h2 x0 x1 x2 x3 =
     let at_end : end ≡ length c2 = reach_one end (length c1) (statement_size p f f.body) (length c2) h1 x1.grows x1.short in
-    let at_back : back ≡ length c3 = reach_one back (length c2) (closing_size m) (length c3) (h2 ∙ ap (λ k. plus k (closing_size m)) at_end) x2.grows x2.short in
+    let at_back : back ≡ length c3 = reach_one back (length c2) 1 (length c3) (h2 ∙ ap (λ k. plus k 1) at_end) x2.grows x2.short in
     let y1 = subst (λ k. WroteStatement p f f.body (length c2) (length c2) k c1 c2) at_back (subst (λ k. WroteStatement p f f.body k k back c1 c2) at_end x1) in
     let b3 = begins_on x3.begins (begins_all c4) in
     let b2 = begins_on x2.begins b3 in
@@ -158,6 +158,7 @@ function_is_code p q counts is_main f g x = record {
   leaves = x.code.leaves;
   objects = x.objects;
   parameters = x.parameters;
+  result = x.result;
   temporaries = x.temporaries ∙ same_most (temporaries_with (parameters_at p.functions)) (temporaries_of q) (same_temporaries q (parameters_at p.functions) counts) g.code;
   kept = x.kept;
 }

@@ -7,7 +7,6 @@ ghost use Rattle.tac_code.specs.Code as three_address;
 ghost use Rattle.lower_correct.specs.Bodies as relation;
 ghost use Rattle.lower_ops.specs.layer.Parts.{Wrote};
 ghost use Rattle.tac.specs.layer.Functions.{IsBodyOf, IsFunctionWith};
-ghost use Rattle.tac.specs.inside.Functions.{closing_size};
 
 use crate::block_sizes::statement_size;
 use crate::copies::copied_objects;
@@ -31,15 +30,9 @@ fn put_idles(code: &mut Code, parameters: &[ParameterType]) -> Result<(), AllocE
     Ok(())
 }
 
-fn closing_size(is_main: bool) -> usize
-    ensures { result ≡ closing_size is_main }
-{
-    if is_main { 1 } else { 0 }
-}
-
-/// The end of the body of `main` returns 0 (5.1.2.2.3p1).
+/// The end of the body of `main` returns 0 (5.1.2.2.3p1), that of another function nothing (6.9.1p12).
 fn put_closing(code: &mut Code, is_main: bool) -> Result<(), AllocError>
-    ensures { OnOk result (Wrote (λ w p q. relation.Closes w is_main p q) (closing_size is_main) code.old.list.items code.new.list.items) }
+    ensures { OnOk result (Wrote (λ w p q. relation.Closes w is_main p q) 1 code.old.list.items code.new.list.items) }
 {
     if is_main {
         put(
@@ -49,7 +42,9 @@ fn put_closing(code: &mut Code, is_main: bool) -> Result<(), AllocError>
                 source: Operand::Constant(0),
             },
         )?;
+        return Ok(());
     }
+    put(code, Instruction::Forget { first: 0, count: 0 })?;
     Ok(())
 }
 
@@ -59,14 +54,14 @@ fn put_body(scope: &Scope<'_>, code: &mut Code, is_main: bool) -> Result<(), All
 {
     put_idles(code, &scope.function.function_type.parameters)?;
     let end = ahead(code, statement_size(scope, &scope.function.body));
-    let back = plus(end, closing_size(is_main));
+    let back = plus(end, 1);
     put_statement(scope, code, &scope.function.body, end, end, back)?;
     put_closing(code, is_main)?;
     put(code, Instruction::Return)?;
     Ok(())
 }
 
-/// The instructions of a function's body, with one for `main`.
+/// How many instructions a function's code has.
 fn room_for(scope: &Scope<'_>) -> usize {
     let parameters = scope.function.function_type.parameters.len();
     plus(
@@ -126,6 +121,7 @@ pub fn lower_function(
         code,
         parameters: kinds(alloc, &function.function_type.parameters)?,
         objects: copied_objects(alloc, &function.objects)?,
+        result: function.function_type.result,
         temporaries,
         kept,
     })

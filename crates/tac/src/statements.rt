@@ -4,6 +4,7 @@ ghost use Rattle.std.specs.Prelude.{◌≡◌, map, ℕ, OnOk};
 ghost use Rattle.ctypes.specs.declared.types.IntType.{IntType};
 ghost use Rattle.typing_spec.specs.Program as typed;
 ghost use Rattle.typed_ast.specs.View.{value_of, option_value, statement_of, statements_of};
+ghost use Rattle.lower_correct.specs.Bodies as relation;
 ghost use Rattle.lower_ops.specs.layer.Parts as parts;
 ghost use Rattle.tac.specs.inside.Scopes.{program_in, function_in};
 ghost use Rattle.tac.specs.inside.Sizes as size;
@@ -182,7 +183,17 @@ fn before_body(
     )
 }
 
-/// Its objects are forgotten after its value, which one of them cannot hold.
+/// What makes the objects of a `switch` indeterminate, if it has any.
+fn forgets(first: usize, count: usize) -> Instruction
+    ensures { result ≡ relation.forgets first count }
+{
+    if count > 0 {
+        return Instruction::Forget { first, count };
+    }
+    Instruction::Nothing
+}
+
+/// Its objects are forgotten after its value, which waits in none of them.
 #[cycle(statement_code)]
 fn put_switch(
     scope: &Scope<'_>,
@@ -204,7 +215,7 @@ fn put_switch(
     let end = ahead(code, plus(1, plus(value, behind)));
     put(code, Instruction::Nothing)?;
     put_value(scope, code, e, mode_of(operand), all_free())?;
-    put(code, Instruction::Forget { first, count })?;
+    put(code, forgets(first, count))?;
     put_tests(scope, code, &operand, all, body, end)?;
     put_statements(scope, code, all, end, again, back)?;
     Ok(())

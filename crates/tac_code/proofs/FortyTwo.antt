@@ -1,5 +1,7 @@
 -- The contract of lowering can be met: it is here, for one program and every clock. int main(void) { return 42; }
 use Rattle.std.proofs.Common.{◌≡◌, ◌≤◌, ℕ, zero, suc, ◌+◌, ◌*◌, List, [], ◌∷◌, ℤ, refl, Option, Bool, true, false, ap, arith}
+use Rattle.srcset.specs.declared.refusal.Pos.{Pos}
+use Rattle.ctypes.specs.declared.operators.Undef.{Undef}
 use Rattle.typing_spec.specs.Program as typed
 use Rattle.csem.specs.Machine as machine
 use Rattle.csem.specs.Machine.{Goes, Stops, Ended, Undefined, TicksUsed, Ending}
@@ -62,5 +64,19 @@ goes_on input (suc (suc zero)) s e = (2, at_most 2, (next (next (start forty_two
 goes_on input (suc (suc (suc zero))) s e = (3, at_most 3, (next (next (next (start forty_two_code input))), refl, ap (λ r. (last_of r).history) e, ap (λ r. (last_of r).input) e), begins 3)
 goes_on input (suc (suc (suc (suc n)))) s e = absurd (cc (ap has_ended e))
 
+abbrev is_undefined : machine.Run (Option ℤ) → Bool
+is_undefined (Goes v s) = false
+is_undefined (Stops (Ended status) s) = false
+is_undefined (Stops (Undefined act at) s) = true
+is_undefined (Stops TicksUsed s) = false
+
+-- nothing in it is undefined
+never_undefined : (input : List ℕ) (n : ℕ) (act : Undef) (at : Pos) (s : machine.State) → cstep n forty_two input ≡ Stops (Undefined act at) s → ⊥
+never_undefined input zero act at s e = cc (ap is_undefined e)
+never_undefined input (suc zero) act at s e = cc (ap is_undefined e)
+never_undefined input (suc (suc zero)) act at s e = cc (ap is_undefined e)
+never_undefined input (suc (suc (suc zero))) act at s e = cc (ap is_undefined e)
+never_undefined input (suc (suc (suc (suc n)))) act at s e = cc (ap is_undefined e)
+
 pub behaves : (input : List ℕ) → Behaves forty_two forty_two_code input
-behaves input = record { ends = ends input; goes_on = goes_on input }
+behaves input = record { ends = ends input; goes_on = goes_on input; stops = λ n act at s e. absurd (never_undefined input n act at s e) }

@@ -13,8 +13,8 @@ use Rattle.tac_code.specs.declared.code.Target.TheVariants as target
 use Rattle.tac_code.specs.declared.code.Operand.TheVariants as operand
 use Rattle.tac_code.specs.declared.code.Instruction.{Instruction}
 use Rattle.tac_code.specs.declared.code.Instruction.TheVariants as instruction
-use Rattle.tac_code.specs.Code.{Program, Function, scalar_type}
-use Rattle.tac_code.specs.Run.{State, Call, Progress, Value, word, reference, running, ended, stuck, ◌>>=◌, where_true, open_calls, word_for, number_of, is_word_of, held_by, reference_in, word_of, operate, holds, own, own_type, value, word_at, goes_to, next, with_number, gives, gives_word, element_type, elements_of, element_behind, reference_to, loaded, stored, part, element, numbers_in, arrays_in, begun, entered, returned, got, put_byte, act, instruction_at, step, goes_on, run, start}
+use Rattle.tac_code.specs.Code.{Program, Function, function_at, scalar_type}
+use Rattle.tac_code.specs.Run.{words_in, result_in, State, Call, Progress, Value, word, reference, running, ended, stuck, ◌>>=◌, where_true, open_calls, word_for, number_of, is_word_of, held_by, reference_in, word_of, operate, holds, own, own_type, value, word_at, goes_to, next, with_number, gives, gives_word, element_type, elements_of, element_behind, reference_to, loaded, stored, part, element, numbers_in, arrays_in, begun, entered, returned, got, put_byte, act, instruction_at, step, goes_on, run, start}
 
 abbrev pub Adds : State → Progress → Type 0
 Adds s (running t) = (new : List Entry) × (t.history ≡ new ++ s.history) × (open_calls s ≡ active s.history → open_calls t ≡ active t.history)
@@ -70,7 +70,7 @@ element_follows p s t d r i =
 
 -- with a call its function is the innermost
 begun_follows : (s : State) (f : ℕ) (g : Function) (numbers : List Tree) (arrays : List Reference) → Follows s (begun s f g numbers arrays)
-begun_follows s f g numbers arrays = record { adds = (Entered f ∷ [], refl, λ e. ap (λ fs. f ∷ fs) e) }
+begun_follows s f g numbers arrays = record { adds = (Entered f (words_in g.parameters s.temporaries 0) ∷ [], refl, λ e. ap (λ fs. f ∷ fs) e) }
 
 entered_follows : (p : Program) (s : State) (f : ℕ) → Follows s (entered p s f)
 entered_follows p s f =
@@ -84,11 +84,11 @@ entered_follows p s f =
     with_numbers g = numbers_in g.parameters g.objects s.temporaries 0 >>= with_arrays g
 
 -- with its end it goes
-returned_follows : (s : State) (waiting : List Call) → s.waiting ≡ waiting → Follows s (returned s waiting)
-returned_follows s [] e =
-    bound s (word_at s (operand.Temporary 0)) (λ w. ended (w % 2 ^ 8) s.input (Left ∷ s.history)) (λ w. record { adds = (Left ∷ [], refl) })
-returned_follows s (c ∷ waiting) e =
-    record { adds = (Left ∷ [], refl, λ same. ap (λ cs. map (λ c. c.function) cs) (sym e) ∙ ap without_innermost same) }
+returned_follows : (s : State) (waiting : List Call) (result : Option ℕ) → s.waiting ≡ waiting → Follows s (returned s waiting result)
+returned_follows s [] result e =
+    bound s result (λ w. ended (w % 2 ^ 8) s.input (Left (Some w) ∷ s.history)) (λ w. record { adds = (Left (Some w) ∷ [], refl) })
+returned_follows s (c ∷ waiting) result e =
+    record { adds = (Left result ∷ [], refl, λ same. ap (λ cs. map (λ c. c.function) cs) (sym e) ∙ ap without_innermost same) }
 
 got_follows : (s : State) (input : List ℕ) → Follows s (got s input)
 got_follows s [] = record { adds = (Did GotEnd ∷ [], refl, λ e. e) }
@@ -132,7 +132,8 @@ act_follows p s (instruction.Call f) = entered_follows p s f
 act_follows p s instruction.PutByte = bound s (word_at s (operand.Temporary 0)) (put_byte s) (put_follows s)
 act_follows p s instruction.GetByte = got_follows s s.input
 act_follows p s instruction.Exit = bound s (word_at s (operand.Temporary 0)) (exits s) (exit_follows s)
-act_follows p s instruction.Return = returned_follows s s.waiting refl
+act_follows p s instruction.Return =
+    bound s (result_in (function_at p s.call.function).result (word_at s (operand.Temporary 0))) (returned s s.waiting) (λ result. returned_follows s s.waiting result refl)
 
 pub step_follows : (p : Program) (s : State) → Follows s (step p s)
 unfolding step

@@ -141,7 +141,7 @@ gives_back e = typed.return_value ty.Int e
 -- ---- parts of code
 
 abbrev pub coded : List Parameter → List ObjectType → List Instruction → Function
-coded parameters objects code = record { code = code; parameters = parameters; objects = objects; temporaries = 2; kept = 0 }
+coded parameters objects code = record { code = code; parameters = parameters; objects = objects; result = Some ty.Int; temporaries = 2; kept = 0 }
 
 abbrev pub code_of : List Function → Program
 code_of functions = record { functions = functions; literals = []; statics = []; main = 0 }
@@ -194,7 +194,7 @@ sum_code = code_of (coded [] (int ∷ int ∷ []) (
     makes to_x0 operation.Add x0 (the 1) ∷ makes to_x1 operation.Add x1 x0 ∷
     branch comparison.Less x0 (the 4) 3 ∷ move to_t0 x1 ∷ return ∷ []) ∷ [])
 
-sums : Agree sum sum_code [] 78 18 (ended 10 [] (Left ∷ Entered 0 ∷ []))
+sums : Agree sum sum_code [] 78 18 (ended 10 [] (Left (Some 10) ∷ Entered 0 [] ∷ []))
 unfolding step
 sums = (refl, refl, refl, refl, refl, refl)
 
@@ -215,7 +215,9 @@ factorial_code = code_of (
     makes to_t0 operation.Subtract x0 (the 1) ∷ call 1 ∷ makes to_t0 operation.Multiply x0 t0 ∷ return ∷ []) ∷ [])
 
 recursion : Agree factorial factorial_code [] 70 26
-    (ended 24 [] (Left ∷ Left ∷ Left ∷ Left ∷ Left ∷ Left ∷ Entered 1 ∷ Entered 1 ∷ Entered 1 ∷ Entered 1 ∷ Entered 1 ∷ Entered 0 ∷ []))
+    (ended 24 [] (
+    Left (Some 24) ∷ Left (Some 24) ∷ Left (Some 6) ∷ Left (Some 2) ∷ Left (Some 1) ∷ Left (Some 1) ∷
+    Entered 1 (Some 0 ∷ []) ∷ Entered 1 (Some 1 ∷ []) ∷ Entered 1 (Some 2 ∷ []) ∷ Entered 1 (Some 3 ∷ []) ∷ Entered 1 (Some 4 ∷ []) ∷ Entered 0 [] ∷ []))
 unfolding step
 recursion = (refl, refl, refl, refl, refl, refl)
 
@@ -238,7 +240,7 @@ skipped_code = code_of (
     move to_t0 (the 0) ∷ return ∷ move to_t0 (the 1) ∷ return ∷ []) ∷
     coded (parameter.Number ∷ []) (int ∷ []) (move to_t0 x0 ∷ put_byte ∷ move to_t0 x0 ∷ return ∷ []) ∷ [])
 
-short_circuit : Agree skipped skipped_code [] 20 11 (ended 1 [] (Left ∷ Left ∷ Did (Put 67) ∷ Entered 1 ∷ Entered 0 ∷ []))
+short_circuit : Agree skipped skipped_code [] 20 11 (ended 1 [] (Left (Some 1) ∷ Left (Some 67) ∷ Did (Put 67) ∷ Entered 1 (Some 67 ∷ []) ∷ Entered 0 [] ∷ []))
 unfolding step
 short_circuit = (refl, refl, refl, refl, refl, refl)
 
@@ -257,7 +259,7 @@ echo_code = code_of (coded [] (int ∷ []) (
     move to_t0 (the 0) ∷ return ∷ []) ∷ [])
 
 echoes : Agree echo echo_code (7 ∷ 9 ∷ []) 30 17
-    (ended 0 [] (Left ∷ Did GotEnd ∷ Did (Put 9) ∷ Did (Got 9) ∷ Did (Put 7) ∷ Did (Got 7) ∷ Entered 0 ∷ []))
+    (ended 0 [] (Left (Some 0) ∷ Did GotEnd ∷ Did (Put 9) ∷ Did (Got 9) ∷ Did (Put 7) ∷ Did (Got 7) ∷ Entered 0 [] ∷ []))
 unfolding step
 echoes = (refl, refl, refl, refl, refl, refl)
 
@@ -302,7 +304,7 @@ arrays_code = record {
   main = 0;
 }
 
-elements_and_references : Agree arrays arrays_code [] 36 21 (ended 147 [] (Left ∷ Left ∷ Entered 1 ∷ Entered 0 ∷ []))
+elements_and_references : Agree arrays arrays_code [] 36 21 (ended 147 [] (Left (Some 147) ∷ Left (Some (2 ^ 32 - 2)) ∷ Entered 1 (None ∷ Some 1 ∷ []) ∷ Entered 0 [] ∷ []))
 unfolding step
 elements_and_references = (refl, refl, refl, refl, refl, refl)
 
@@ -351,7 +353,7 @@ goes_on : (ending_of (cstep 9 endless []) ≡ TicksUsed) × (history_of (run end
 unfolding step
 goes_on = (refl, refl)
 
-two_bytes : history_of (run endless_code 12 (start endless_code [])) ≡ Some (Did (Put 65) ∷ Did (Put 65) ∷ Entered 0 ∷ [])
+two_bytes : history_of (run endless_code 12 (start endless_code [])) ≡ Some (Did (Put 65) ∷ Did (Put 65) ∷ Entered 0 [] ∷ [])
 unfolding step
 two_bytes = refl
 

@@ -9,11 +9,12 @@ use Rattle.tac_code.specs.declared.code.Parameter.{Parameter}
 use Rattle.tac_code.specs.declared.code.Function.{Function as Held}
 use Rattle.tac_code.specs.declared.code.TacProgram.{TacProgram}
 
--- its instructions, its parameters, its objects (the parameters that are numbers first), how many temporaries and slots it has
+-- its instructions, its parameters, its objects (the parameters that are numbers first), the type of its result if it has one, how many temporaries and slots it has
 pub record Function : Type 0 where
   pub code : List Instruction
   pub parameters : List Parameter
   pub objects : List ObjectType
+  pub result : Option IntType
   pub temporaries : ℕ
   pub kept : ℕ
 
@@ -29,6 +30,7 @@ function_of f = record {
   code = f.code.items;
   parameters = f.parameters.items;
   objects = map object_type_of f.objects.items;
+  result = f.result;
   temporaries = f.temporaries;
   kept = f.kept;
 }
@@ -43,7 +45,7 @@ program_of p = record {
 
 -- the function of a number
 abbrev pub or_no_function : Option Function → Function
-or_no_function None = record { code = []; parameters = []; objects = []; temporaries = 0; kept = 0 }
+or_no_function None = record { code = []; parameters = []; objects = []; result = None; temporaries = 0; kept = 0 }
 or_no_function (Some f) = f
 
 abbrev pub function_at : Program → ℕ → Function

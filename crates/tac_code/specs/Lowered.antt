@@ -1,12 +1,14 @@
 -- The relation of three-address code to a typed program that it simulates: the contract of lowering.
 use Rattle.std.specs.Prelude.{◌≡◌, ◌≤◌, ◌<◌, ℕ, ◌+◌, ◌*◌, ◌^◌, true, List, [], map, length, slice_get, Some}
+use Rattle.srcset.specs.declared.refusal.Pos.{Pos}
 use Rattle.ctypes.specs.declared.types.IntType.TheVariants as ty
+use Rattle.ctypes.specs.declared.operators.Undef.{Undef}
 use Rattle.tree.specs.Counts.{weight_of}
 use Rattle.typing_spec.specs.Types.{ObjectType, ParameterType, number, elements, size_of_object}
 use Rattle.typing_spec.specs.WellTyped.{is_typed}
 use Rattle.typing_spec.specs.Program as typed
 use Rattle.csem.specs.Machine as machine
-use Rattle.csem.specs.Machine.{Stops, Ended, TicksUsed}
+use Rattle.csem.specs.Machine.{Stops, Ended, Undefined, TicksUsed}
 use Rattle.csem.specs.Meaning.{cstep}
 use Rattle.tac_code.specs.Code.{Function, Program}
 use Rattle.tac_code.specs.Run.{State, Progress, running, ended, run, start}
@@ -32,7 +34,7 @@ kind_of (elements t) = parameter.Array
 abbrev pub CostsAtMost : Program → List ℕ → (m n : ℕ) → Type 0
 CostsAtMost q input m n = spent_in_all q m (start q input) ≤ 60 * n + 60
 
--- after m steps the run has exactly the history of the abstract machine when n ticks are used, and goes on
+-- after m steps the run has exactly the history of the abstract machine at this state, and goes on
 abbrev pub GoesOn : Program → List ℕ → (m : ℕ) → machine.State → Type 0
 GoesOn q input m s = (t : State) × (run_of q input m ≡ running t) × (t.history ≡ s.history) × (t.input ≡ s.input)
 
@@ -44,12 +46,16 @@ pub record Behaves (p : typed.Program) (q : Program) (input : List ℕ) : Type 0
       (m : ℕ) × (run_of q input m ≡ ended status s.input s.history) × CostsAtMost q input m n
   pub goes_on : (n : ℕ) (s : machine.State) → cstep n p input ≡ Stops TicksUsed s →
       (m : ℕ) × (n ≤ m) × GoesOn q input m s × CostsAtMost q input m n
+  -- where it meets undefined behaviour within n ticks, the code has done all that was done before, also within the last of these ticks
+  pub stops : (n : ℕ) (act : Undef) (at : Pos) (s : machine.State) → cstep n p input ≡ Stops (Undefined act at) s →
+      (m : ℕ) × GoesOn q input m s × CostsAtMost q input m n
 
 -- Function g is f's code: it has its objects, a call of it takes no more of the stack than f's weight and its span, and its code no
 -- more than 128 bytes a node and 1024.
 pub record IsCodeOf (f : typed.Function) (g : Function) : Type 0 where
   pub objects : g.objects ≡ f.objects
   pub parameters : g.parameters ≡ map kind_of f.type.parameters
+  pub result : g.result ≡ f.type.result
   pub within_weight : call_bytes g ≤ f.weight
   pub within_span : call_bytes g ≤ span f
   pub code : function_bytes g ≤ 128 * f.nodes + 1024

@@ -329,13 +329,19 @@ arrays_in [] temporaries k = Some []
 arrays_in (parameter.Number ∷ more) temporaries k = arrays_in more temporaries (suc k)
 arrays_in (parameter.Array ∷ more) temporaries k = and_then (reference_in (temporaries k)) (arrays_in more temporaries (suc k))
 
+-- what the history has of the arguments in temporary k and the later ones
+abbrev pub words_in : List Parameter → Values → ℕ → List (Option ℕ)
+words_in [] temporaries k = []
+words_in (parameter.Number ∷ more) temporaries k = word_in (temporaries k) ∷ words_in more temporaries (suc k)
+words_in (parameter.Array ∷ more) temporaries k = None ∷ words_in more temporaries (suc k)
+
 abbrev pub begun : State → ℕ → Function → List Tree → List Reference → Progress
 begun s f g numbers arrays = running (record s {
   call = record { function = f; at = 0; kept = unset; base = length s.store; arrays = arrays };
   temporaries = unset;
   waiting = record s.call { at = s.call.at + 1 } ∷ s.waiting;
   store = s.store ++ (numbers ++ map indeterminate (drop (length numbers) g.objects));
-  history = Entered f ∷ s.history;
+  history = Entered f (words_in g.parameters s.temporaries 0) ∷ s.history;
 })
 
 abbrev pub entered : Program → State → ℕ → Progress
@@ -348,15 +354,21 @@ entered p s f =
 abbrev pub result_alone : Option ℕ → Values
 result_alone w k = if k == 0 then option_map word w else None
 
+-- what a function with this type of result returns, if temporary 0 has this word or none
+abbrev pub result_in : Option IntType → Option ℕ → Option (Option ℕ)
+result_in None w = Some None
+result_in (Some t) None = Some None
+result_in (Some t) (Some w) = if is_word_of t w then Some (Some w) else None
+
 -- the objects of the call end (6.2.4p6); main's result is the status (5.1.2.2.3)
-abbrev pub returned : State → List Call → Progress
-returned s [] = word_at s (operand.Temporary 0) >>= λ w. ended (w % 2 ^ 8) s.input (Left ∷ s.history)
-returned s (c ∷ waiting) = running (record s {
+abbrev pub returned : State → List Call → (result : Option ℕ) → Progress
+returned s [] result = result >>= λ w. ended (w % 2 ^ 8) s.input (Left (Some w) ∷ s.history)
+returned s (c ∷ waiting) result = running (record s {
   call = c;
-  temporaries = result_alone (word_in (s.temporaries 0));
+  temporaries = result_alone result;
   waiting = waiting;
   store = take s.call.base s.store;
-  history = Left ∷ s.history;
+  history = Left result ∷ s.history;
 })
 
 -- ---- the built-in functions
@@ -382,7 +394,7 @@ act p s (instruction.Part d x y size) =
     reference_in (value s x) >>= λ r. word_at s y >>= λ i. part p s d (into r i) size
 act p s (instruction.Element t d x y) = reference_in (value s x) >>= λ r. word_at s y >>= λ i. element p s t d r i
 act p s (instruction.Forget n k) =
-    running (record (next s) { store = forgotten (function_at p s.call.function).objects s.call.base n k s.store })
+    running (record (next s) { temporaries = unset; store = forgotten (function_at p s.call.function).objects s.call.base n k s.store })
 act p s (instruction.Jump to) = running (goes_to s to)
 act p s (instruction.Branch c r x y to) =
     word_at s x >>= λ a. word_at s y >>= λ b. running (goes_to s (if holds c r a b then to else s.call.at + 1))
@@ -390,7 +402,7 @@ act p s (instruction.Call f) = entered p s f
 act p s instruction.PutByte = word_at s (operand.Temporary 0) >>= put_byte s
 act p s instruction.GetByte = got s s.input
 act p s instruction.Exit = word_at s (operand.Temporary 0) >>= λ w. ended (w % 2 ^ 8) s.input s.history
-act p s instruction.Return = returned s s.waiting
+act p s instruction.Return = result_in (function_at p s.call.function).result (word_at s (operand.Temporary 0)) >>= returned s s.waiting
 
 -- the instruction that comes next
 abbrev pub instruction_at : Program → State → Option Instruction
@@ -421,5 +433,5 @@ start p input = record {
   waiting = [];
   store = first_store p ++ map indeterminate (function_at p p.main).objects;
   input = input;
-  history = Entered p.main ∷ [];
+  history = Entered p.main [] ∷ [];
 }

@@ -132,7 +132,7 @@ pub enum Instruction {
         from: Operand,
         count: Operand,
     },
-    /// `count` objects of the call, from number `first` on, become indeterminate (6.2.4p6).
+    /// `count` objects of the call, from number `first` on, become indeterminate (6.2.4p6), and no temporary has a value.
     Forget {
         first: usize,
         count: usize,
@@ -168,6 +168,8 @@ pub struct Function {
     pub parameters: Vec<Parameter>,
     /// Its objects, the parameters that are numbers first.
     pub objects: Vec<ObjectType>,
+    /// The type of the number that it returns, if any.
+    pub result: Option<IntType>,
     /// How many temporaries and how many slots it has.
     pub temporaries: usize,
     pub kept: usize,

@@ -4,6 +4,7 @@ use crate::tac_names::{
     comparison_of, location_of, operand_of, operation_of, parameter_of, reading_of, target_of,
 };
 use crate::types::{int_type, next_letter, next_place};
+use ctypes::IntType;
 use std::alloc::Global;
 use tac_code::{Function, Instruction, Operand, Parameter, TacProgram, Target};
 use test_rows::{Answer, Fields, Words, bytes, decimal};
@@ -49,7 +50,7 @@ fn take_line(alloc: Global, program: &mut TacProgram, words: &mut Words<'_>) -> 
     }
 }
 
-/// `f TEMPORARIES KEPT PARAMETERS`, a letter for each parameter.
+/// `f TEMPORARIES KEPT PARAMETERS`, a letter for each parameter. Its result is an `int`, of which every word is a value.
 fn next_function(alloc: Global, words: &mut Words<'_>) -> Function {
     Function {
         code: Vec::new(alloc),
@@ -57,6 +58,7 @@ fn next_function(alloc: Global, words: &mut Words<'_>) -> Function {
         kept: next_place(words),
         parameters: parameters_of(alloc, words.word()),
         objects: Vec::new(alloc),
+        result: Some(IntType::Int),
     }
 }
 

@@ -34,6 +34,15 @@ number_once_more t old new r k new_k n o own e f g = (
       ∙ ap (λ j. bound old.level r j ns ts (map object_type_of (drop j own)) new.bindings) (sym g),
 )
 
+-- there is no such object
+pub number_missing : (t : IntType) (s : Scope) (r k new_k : ℕ) (n : Option ℕ) (own : List (held.ObjectType)) → length own ≤ k → new_k ≡ k + 1 → Again s s r r k new_k n (number t) own
+number_missing t s r k new_k n own h g = (
+  refl,
+  λ ns ts. ap (λ l. bound s.level r k (n ∷ ns) (number t ∷ ts) (map object_type_of l) s.bindings) (drop_all k own h)
+      ∙ ap (λ l. bound s.level r (k + 1) ns ts (map object_type_of l) s.bindings) (sym (drop_all (k + 1) own (omega (arith, h))))
+      ∙ ap (λ j. bound s.level r j ns ts (map object_type_of (drop j own)) s.bindings) (sym g),
+)
+
 pub reference_once_more : (own : List (held.ObjectType)) (old new : Scope) (r new_r k : ℕ) (n : Option ℕ) (t u : ObjectType) → u ≡ t → new ≡ with_bindings (named old.level r k n (a_reference u) old.bindings) old → new_r ≡ r + 1 →
     Again old new r new_r k k n (elements t) own
 reference_once_more own old new r new_r k n t u h f g = (
@@ -51,20 +60,24 @@ own_next own k o t h e f = ap (λ l. map object_type_of l) (next_of own k o h e)
 -- the names before index i are bound to their parameters
 pub record Left (s0 s : Scope) (ps : List Parameter) (types : List (held_parameter.ParameterType)) (own : List (held.ObjectType)) (i place r k : ℕ) : Type 0 where
   pub placed : place ≡ i
+  pub references : r ≤ i
+  pub numbers : k ≤ i
   pub changed : s ≡ with_bindings s.bindings s0
   pub so : bound s0.level r k (names_of (map parameter_of (drop i ps))) (map parameter_type_of (drop i types)) (map object_type_of (drop k own)) s.bindings ≡ bound s0.level 0 0 (names_of (map parameter_of ps)) (map parameter_type_of types) (map object_type_of own) s0.bindings
 
 pub begun : (s : Scope) (ps : List Parameter) (types : List (held_parameter.ParameterType)) (own : List (held.ObjectType)) → Left s s ps types own 0 0 0 0
-begun s ps types own = record { placed = refl; changed = refl; so = refl }
+begun s ps types own = record { placed = refl; references = omega arith; numbers = omega arith; changed = refl; so = refl }
 
 pub next : (s0 s new : Scope) (ps : List Parameter) (types : List (held_parameter.ParameterType)) (own : List (held.ObjectType)) (i place new_place r new_r k new_k : ℕ) (p : Parameter) (t : held_parameter.ParameterType) → i < length ps → p ≡ get_or ps i p → place < length types → t ≡ get_or types place t →
-    Again s new r new_r k new_k p.name (parameter_type_of t) own → new_place ≡ place + 1 → Left s0 s ps types own i place r k → Left s0 new ps types own (i + 1) new_place new_r new_k
-next s0 s new ps types own i place new_place r new_r k new_k p t h e f g a m inv =
+    Again s new r new_r k new_k p.name (parameter_type_of t) own → new_r ≤ r + 1 → new_k ≤ k + 1 → new_place ≡ place + 1 → Left s0 s ps types own i place r k → Left s0 new ps types own (i + 1) new_place new_r new_k
+next s0 s new ps types own i place new_place r new_r k new_k p t h e f g a few_r few_k m inv =
     let level : s.level ≡ s0.level = ap (λ x. x.level) inv.changed in
     let ts : drop i types ≡ t ∷ drop (i + 1) types = subst (λ j. drop j types ≡ t ∷ drop (j + 1) types) inv.placed (next_of types place t f g) in
     let ns = names_of (map parameter_of (drop (i + 1) ps)) in
     let us = map parameter_type_of (drop (i + 1) types) in record {
       placed = m ∙ ap (λ j. j + 1) inv.placed;
+      references = omega (arith, few_r, inv.references);
+      numbers = omega (arith, few_k, inv.numbers);
       changed = a.0 ∙ ap (λ x. with_bindings new.bindings x) inv.changed;
       so = sym (ap (λ l. bound s0.level r k (names_of (map parameter_of l)) (map parameter_type_of (drop i types)) (map object_type_of (drop k own)) s.bindings) (next_of ps i p h e)
           ∙ ap (λ l. bound s0.level r k (p.name ∷ ns) (map parameter_type_of l) (map object_type_of (drop k own)) s.bindings) ts
@@ -77,6 +90,19 @@ pub ended : (s0 s : Scope) (ps : List Parameter) (types : List (held_parameter.P
 ended s0 s ps types own i place r k h inv =
     inv.changed
     ∙ ap (λ l. with_bindings l s0) (ap (λ l. bound s0.level r k (names_of (map parameter_of l)) (map parameter_type_of (drop i types)) (map object_type_of (drop k own)) s.bindings) (sym (drop_all i ps h)) ∙ inv.so)
+
+no_types : (level r k : ℕ) (ns : List (Option ℕ)) (os : List ObjectType) (bs : List Binding) → bound level r k ns [] os bs ≡ bs
+no_types level r k [] os bs = refl
+no_types level r k (n ∷ ns) os bs = refl
+
+pub ended_early : (s0 s : Scope) (ps : List Parameter) (types : List (held_parameter.ParameterType)) (own : List (held.ObjectType)) (i place r k : ℕ) → length types ≤ place → Left s0 s ps types own i place r k →
+    s ≡ with_bindings (bound s0.level 0 0 (names_of (map parameter_of ps)) (map parameter_type_of types) (map object_type_of own) s0.bindings) s0
+ended_early s0 s ps types own i place r k h inv =
+    let ns = names_of (map parameter_of (drop i ps)) in
+    let os = map object_type_of (drop k own) in
+    inv.changed
+    ∙ ap (λ l. with_bindings l s0)
+    (sym (ap (λ l. bound s0.level r k ns (map parameter_type_of l) os s.bindings) (drop_all i types (subst (λ j. length types ≤ j) inv.placed h)) ∙ no_types s0.level r k ns os s.bindings) ∙ inv.so)
 
 -- ---- the bindings of parameters, and the parts of the scope that they leave unchanged
 
@@ -148,7 +174,7 @@ named_onto level r k (Some n) (a_reference t) xs bs = refl
 bound_onto : (level r k : ℕ) (ns : List (Option ℕ)) (ts : List ParameterType) (os : List ObjectType) (xs bs : List Binding) → bound level r k ns ts os (xs ++ bs) ≡ bound level r k ns ts os xs ++ bs
 bound_onto level r k [] ts os xs bs = refl
 bound_onto level r k (n ∷ ns) [] os xs bs = refl
-bound_onto level r k (n ∷ ns) (number t ∷ ts) [] xs bs = refl
+bound_onto level r k (n ∷ ns) (number t ∷ ts) [] xs bs = bound_onto level r (k + 1) ns ts [] xs bs
 bound_onto level r k (n ∷ ns) (number t ∷ ts) (o ∷ os) xs bs =
     ap (λ l. bound level r (k + 1) ns ts os l) (named_onto level r k n (a_number o) xs bs) ∙ bound_onto level r (k + 1) ns ts os (named level r k n (a_number o) xs) bs
 bound_onto level r k (n ∷ ns) (elements t ∷ ts) os xs bs =

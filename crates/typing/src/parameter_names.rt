@@ -1,7 +1,7 @@
 //! Binding of the names of parameters in the scope of a function's body (6.2.1p4).
 #![tactic(auto)]
 
-ghost use Rattle.std.specs.Prelude.{◌≡◌, ◌+◌, ◌∷◌, ℕ, List, drop, length, map, nat_lt, IfErr, IfOk, OnOk};
+ghost use Rattle.std.specs.Prelude.{◌≡◌, ◌<◌, ◌≤◌, ◌+◌, ◌-◌, ◌^◌, ◌∷◌, ℕ, List, drop, length, map, IfErr, IfOk, OnOk};
 ghost use Rattle.ctypes.specs.declared.types.IntType.{IntType};
 ghost use Rattle.typed_ast.specs.declared.types.ObjectType.{ObjectType};
 ghost use Rattle.typing_spec.specs.Types.{number, elements};
@@ -18,37 +18,13 @@ use tree::Parameter;
 use typed_ast::{DeclaredType, ObjectType, ParameterType, Storage};
 use typing_scopes::{Linkage, Meaning, Scope, State};
 
-/// Whether there is an object with this number.
-fn is_there(own: &[ObjectType], place: usize) -> bool
-    ensures { result ≡ nat_lt place (length own.now) }
-{
-    place < own.len()
-}
-
 /// A copy of the type of the object with this number.
 fn own_copy(alloc: Global, own: &[ObjectType], place: usize) -> Result<ObjectType, Refusal>
+    requires { place < length own.now }
     ensures ok { IfOk result (λ t. map object_type_of (drop place own.now) ≡ object_type_of t ∷ map object_type_of (drop (place + 1) own.now)) }
     ensures err { IfErr result (λ r. r ≡ Memory) }
 {
-    if is_there(own, place) {
-        copied(alloc, &own[place])
-    } else {
-        Err(Refusal::Memory)
-    }
-}
-
-/// One more.
-fn count_one(count: &mut usize) -> Result<(), Refusal>
-    ensures ok { OnOk result (count.new ≡ count.old + 1) }
-    ensures err { IfErr result (λ r. r ≡ Memory) }
-{
-    match count.checked_add(1) {
-        Some(next) => {
-            *count = next;
-            Ok(())
-        }
-        None => Err(Refusal::Memory),
-    }
+    copied(alloc, &own[place])
 }
 
 /// Binds a name, if there is one, to the object with this number.
@@ -92,7 +68,7 @@ fn name_reference(
     }
 }
 
-/// The next number.
+/// The next number, where there is an object with it.
 fn number_again(
     alloc: Global,
     scope: &mut Scope,
@@ -100,18 +76,23 @@ fn number_again(
     name: Option<usize>,
     own: &[ObjectType],
 ) -> Result<(), Refusal>
+    requires { numbers.old < 2 ^ 64 - 1 }
     ensures ok { (t : IntType) (r : ℕ) → OnOk result (Again scope.old scope.new r r numbers.old numbers.new name (number t) own.now) }
+    ensures few { numbers.new ≡ numbers.old + 1 }
     ensures err { IfErr result (λ r. r ≡ Memory) }
 {
-    let Ok(object) = own_copy(alloc, own, *numbers) else {
-        return Err(Refusal::Memory);
+    let place = *numbers;
+    *numbers = place + 1;
+    if place >= own.len() {
+        return Ok(());
+    }
+    let object = match own_copy(alloc, own, place) {
+        Ok(object) => object,
+        Err(refusal) => return Err(refusal),
     };
-    let Ok(()) = name_number(scope, name, *numbers, object) else {
-        return Err(Refusal::Memory);
-    };
-    match count_one(numbers) {
+    match name_number(scope, name, place, object) {
         Ok(()) => Ok(()),
-        Err(_) => Err(Refusal::Memory),
+        Err(refusal) => Err(refusal),
     }
 }
 
@@ -123,18 +104,20 @@ fn reference_again(
     name: Option<usize>,
     element: &ObjectType,
 ) -> Result<(), Refusal>
+    requires { references.old < 2 ^ 64 - 1 }
     ensures ok { (own : List ObjectType) (k : ℕ) → OnOk result (Again scope.old scope.new references.old references.new k k name (elements (object_type_of element.now)) own) }
+    ensures few { references.new ≡ references.old + 1 }
     ensures err { IfErr result (λ r. r ≡ Memory) }
 {
-    let Ok(element) = copied(alloc, element) else {
-        return Err(Refusal::Memory);
+    let place = *references;
+    *references = place + 1;
+    let element = match copied(alloc, element) {
+        Ok(element) => element,
+        Err(refusal) => return Err(refusal),
     };
-    let Ok(()) = name_reference(scope, name, *references, element) else {
-        return Err(Refusal::Memory);
-    };
-    match count_one(references) {
+    match name_reference(scope, name, place, element) {
         Ok(()) => Ok(()),
-        Err(_) => Err(Refusal::Memory),
+        Err(refusal) => Err(refusal),
     }
 }
 
@@ -148,7 +131,11 @@ fn parameter_again(
     ty: &ParameterType,
     own: &[ObjectType],
 ) -> Result<(), Refusal>
+    requires references { references.old < 2 ^ 64 - 1 }
+    requires numbers { numbers.old < 2 ^ 64 - 1 }
     ensures ok { OnOk result (Again scope.old scope.new references.old references.new numbers.old numbers.new name (parameter_type_of ty.now) own.now) }
+    ensures references { references.new ≤ references.old + 1 }
+    ensures numbers { numbers.new ≤ numbers.old + 1 }
     ensures err { IfErr result (λ r. r ≡ Memory) }
 {
     match ty {
@@ -175,7 +162,7 @@ pub(crate) fn parameters_again(
     let mut place = 0;
     for parameter in parameters {
         if place >= types.len() {
-            return Err(Refusal::Memory);
+            return Ok(());
         }
         let ty = &types[place];
         match parameter_again(

@@ -36,7 +36,7 @@ use Rattle.verify.specs.declared.work.Work.{Work}
 
 -- ---- the run of main's body
 
-only_at : (listed : List Pos) (fr : Frame) (w : Ways) (r : Run Flow) (value : Flow → Option ℤ) (caller : State) → Ends listed r (Leaves fr w) → UndefinedOnlyAt listed (ending_of (then_do (then_do r (λ flow s. Goes (value flow) (leave caller s))) end_with))
+only_at : (listed : List Pos) (fr : Frame) (w : Ways) (r : Run Flow) (value : Flow → Option ℤ) (caller : State) → Ends listed r (Leaves fr w) → UndefinedOnlyAt listed (ending_of (then_do (then_do r (λ flow s. Goes (value flow) (leave caller (value flow) s))) end_with))
 only_at listed fr w (Goes flow s) value caller h = tt
 only_at listed fr w (Stops (Ended n) s) value caller h = tt
 only_at listed fr w (Stops (Undefined act at) s) value caller h = h

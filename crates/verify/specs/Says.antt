@@ -1,4 +1,4 @@
--- What a verdict says of a program.
+-- What a verdict promises of a program.
 use Rattle.std.specs.Prelude.{◌≡◌, ◌++◌, ◌∷◌, [], ℕ, List, None, map, length, false}
 use Rattle.std.specs.declared.vec.Vec.{Vec}
 use Rattle.std.specs.declared.alloc.Global.{Global}
@@ -33,11 +33,11 @@ pub record FirstAre (f : FirstObjects) (store : Store) : Type 0 where
   pub are : ObjectsAre f.known.objects.items (shapes_in f.outer.items) store
   pub facts : FactsAre f.known.facts.items store
 
--- where t is object x and the last one, these facts say more of it
+-- if t is object x and the last one, these facts add to what is known of it
 pub record TreeFacts (t : Tree) (x : ℕ) (facts facts2 : List Fact) : Type 0 where
   pub is : (store : Store) → length store ≡ x → FactsAre facts store → FactsAre facts2 (store ++ t ∷ [])
 
--- so many objects without values
+-- this number of objects without values
 abbrev pub AreFresh : List AbsValue → Type 0
 AreFresh [] = Unit {0}
 AreFresh (k ∷ ks) = (k.initialised ≡ false) × AreFresh ks
@@ -51,7 +51,7 @@ pub record EntersMain (first : Known) (count : ℕ) (entry : Known) : Type 0 whe
   pub fresh : Fresh count own
   pub all : entry ≡ with_own first own
 
--- what was shown of calls so far is so
+-- what was shown of calls so far holds
 abbrev pub IsSoundWork : Program → Work → Type 0
 IsSoundWork p w = AreSound p w.listed.items (map summary_of w.summaries.items)
 
@@ -69,7 +69,7 @@ pub record OnlyReturns (w : Ways) : Type 0 where
   pub broken : w.broken ≡ None
   pub continued : w.continued ≡ None
 
--- one more object behind others
+-- one more object after others
 pub record Adds (before : FirstObjects) (t : Tree) (after : FirstObjects) : Type 0 where
   pub adds : (store : Store) → FirstAre before store → FirstAre after (store ++ t ∷ [])
 

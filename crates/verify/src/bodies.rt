@@ -148,7 +148,7 @@ fn objects_before(memory: &Memory, program: &Program) -> Result<FirstObjects, St
 
 /// Analyses the body of main.
 ///
-/// Errors: a place is not ruled out, nothing is known of a call, or the analysis does not follow.
+/// Errors: undefined behaviour is not ruled out at some place, nothing is known of a call, or the analysis is not possible.
 pub fn main_shown(memory: &Memory, program: &Program, work: &Work) -> Result<(), Stop>
     requires { IsSoundWork (program_of program.now) work.now }
     ensures { IfOk result (λ u. IsDefinedBut (program_of program.now) work.now.listed.items) }
@@ -171,7 +171,7 @@ fn end_value(is_main: bool) -> AbsValue
     }
 }
 
-/// What a body's ends come to.
+/// The states in which a body ends.
 #[derive(Drop)]
 pub struct BodyEnd {
     pub value: AbsValue,
@@ -191,7 +191,7 @@ fn joined_end(alloc: Global, program: &Program, f: usize, w: Left) -> Result<Bod
     Ok(BodyEnd { value, state })
 }
 
-/// The same, where each end is a `return`.
+/// The same, if each end is a `return`.
 fn returned_end(program: &Program, f: usize, w: Left) -> Result<BodyEnd, Stop>
     ensures { IfOk result (λ r. FunctionEnds (program_of program.now) f (ways_of w) r.value (state_of r.state)) }
 {
@@ -205,7 +205,7 @@ fn returned_end(program: &Program, f: usize, w: Left) -> Result<BodyEnd, Stop>
     })
 }
 
-/// Tests whether a body may be left otherwise than by a `return`.
+/// Tests whether a body may end other than by a `return`.
 fn falls(w: &Left) -> bool
     ensures { (result ≡ false) → OnlyReturns (ways_of w.now) }
 {
@@ -256,7 +256,7 @@ fn wanted_shown(
 
 /// Analyses the body of a function that is called.
 ///
-/// Errors: a place is not ruled out, nothing is known of a call, or the analysis does not follow.
+/// Errors: undefined behaviour is not ruled out at some place, nothing is known of a call, or the analysis is not possible.
 pub fn call_shown(
     memory: &Memory,
     program: &Program,

@@ -15,14 +15,14 @@ use verify_expressions::{FOLLOWED_ELEMENTS, Known, Stop};
 use verify_intervals::{greater, initialised, lesser};
 use verify_logic::{AbsValue, Fact, Interval};
 
-/// The lengths of objects, and what is known of them.
+/// The lengths of objects, and the facts known about them.
 #[derive(Drop)]
 pub struct FirstObjects {
     pub outer: Vec<Vec<u32>>,
     pub known: Known,
 }
 
-/// Of how many elements something is known one by one before the run.
+/// The number of elements for which single facts are kept before the run.
 const MOST_FIRST_FACTS: usize = 512;
 
 fn holds(i: Interval, v: i64) -> bool
@@ -31,7 +31,7 @@ fn holds(i: Interval, v: i64) -> bool
     i.low <= v && v <= i.high
 }
 
-/// The least interval that holds 0 and each of the values. It is a guess: nothing rests on it.
+/// The least interval that contains 0 and each of the values. It is a guess: nothing depends on it.
 fn guessed(values: &[i64]) -> Interval {
     let mut low = 0;
     let mut high = 0;
@@ -56,7 +56,7 @@ fn holds_each(i: Interval, values: &[i64]) -> bool
     true
 }
 
-/// An interval that holds 0 and each of the values.
+/// An interval that contains 0 and each of the values.
 fn interval_of(values: &[i64]) -> Option<Interval>
     ensures each { IfSome result (λ i. EachIn i values.now) }
     ensures zero { IfSome result (λ i. In i (pos 0)) }
@@ -67,7 +67,7 @@ fn interval_of(values: &[i64]) -> Option<Interval>
     if each && zero { Some(i) } else { None }
 }
 
-/// The least interval that holds each of the values. It is a guess: nothing rests on it.
+/// The least interval that contains each of the values. It is a guess: nothing depends on it.
 fn guessed_alone(values: &[i64]) -> Interval {
     let first = values.first().copied().unwrap_or(0);
     let mut low = first;
@@ -79,7 +79,7 @@ fn guessed_alone(values: &[i64]) -> Interval {
     Interval { low, high }
 }
 
-/// An interval that holds each of the values.
+/// An interval that contains each of the values.
 fn interval_alone(values: &[i64]) -> Option<Interval>
     ensures { IfSome result (λ i. EachIn i values.now) }
 {
@@ -104,7 +104,7 @@ fn are_enough(lengths: &[u32], count: usize) -> bool
     rows <= count as u64
 }
 
-/// What the elements of an object are that has a value for each.
+/// The facts about an object that has a value for each element.
 fn whole_value(object: &Static) -> Option<AbsValue>
     requires { elements_in (static_of object.now).type.lengths ≤ length object.now.values.items }
     ensures { IfSome result (λ k. TreeIs k (static_of object.now).type.lengths (static_object (static_of object.now))) }
@@ -116,7 +116,7 @@ fn whole_value(object: &Static) -> Option<AbsValue>
     Some(k)
 }
 
-/// What the elements of an object are whose last ones may be 0 (6.7.9p21).
+/// The facts about an object whose last elements may be 0 (6.7.9p21).
 fn padded_value(object: &Static) -> Option<AbsValue>
     ensures { IfSome result (λ k. TreeIs k (static_of object.now).type.lengths (static_object (static_of object.now))) }
 {
@@ -127,7 +127,7 @@ fn padded_value(object: &Static) -> Option<AbsValue>
     Some(k)
 }
 
-/// What the elements of an object with static storage are.
+/// The facts about an object with static storage.
 fn static_value(object: &Static) -> Option<AbsValue>
     ensures { IfSome result (λ k. TreeIs k (static_of object.now).type.lengths (static_object (static_of object.now))) }
 {
@@ -139,7 +139,7 @@ fn static_value(object: &Static) -> Option<AbsValue>
     }
 }
 
-/// The least interval from 0 on that holds each character. It is a guess: nothing rests on it.
+/// The least interval from 0 on that contains each character. It is a guess: nothing depends on it.
 fn guessed_text(text: &[u8]) -> Interval {
     let mut high = 0;
     for c in text {
@@ -164,7 +164,7 @@ fn holds_text(i: Interval, text: &[u8]) -> bool
     true
 }
 
-/// An interval that holds each character.
+/// An interval that contains each character.
 fn text_interval(text: &[u8]) -> Option<Interval>
     ensures { IfSome result (λ i. EachIn i (map (λ c. pos c) text.now)) }
 {
@@ -173,7 +173,7 @@ fn text_interval(text: &[u8]) -> Option<Interval>
     if each { Some(i) } else { None }
 }
 
-/// What the characters of a string literal are.
+/// The facts about the characters of a string literal.
 fn text_value(text: &[u8]) -> Option<AbsValue>
     ensures { IfSome result (λ k. TreeIs k (length text.now ∷ []) (literal_object text.now)) }
 {
@@ -264,7 +264,7 @@ fn with_text(facts: Vec<Fact>, x: usize, text: &[u8]) -> Result<Vec<Fact>, Stop>
     Ok(out)
 }
 
-/// The value of an element, which is 0 where none is given (6.7.9p21).
+/// The value of an element, which is 0 if none is given (6.7.9p21).
 fn value_or_zero(values: &[i64], j: usize) -> i64
     ensures { result ≡ first_or_zero (drop j values.now) }
 {
@@ -458,7 +458,7 @@ fn statics_of(alloc: Global, texts: &[Vec<u8>], program: &Program) -> Result<Fir
 
 /// The objects before the run.
 ///
-/// Errors: memory ran out, or the analysis does not follow.
+/// Errors: memory ran out, or the analysis is not possible.
 pub fn objects_at_start(alloc: Global, program: &Program) -> Result<FirstObjects, Stop>
     ensures { IfOk result (λ r. Begins (program_of program.now) (shapes_in r.outer.items) (known_of r.known)) }
 {

@@ -1,4 +1,4 @@
-//! Whether a program does anything undefined, on any input: a proved analysis of the typed program.
+//! Whether a program can meet undefined behaviour on any input: a proved analysis of the typed program.
 #![tactic(auto)]
 
 mod bodies;

@@ -14,27 +14,27 @@ use verify_expressions::{
     Alarm, Memory, Stop, Summary, Wanted, enter_body, met_elements, new_memory,
 };
 
-/// How many calls may be entered in one another.
+/// The greatest depth of nested calls that are analysed.
 const DEPTH: usize = 64;
 
-/// How many steps the analysis takes at most, where nothing else is asked: a statement and a comparison take one each time, and more where there are many objects.
+/// The default limit of analysis steps: a statement and a comparison take one each time, and more if there are many objects.
 pub const USUAL_EFFORT: u64 = 15_000_000;
 
-/// How many bodies are analysed at most.
+/// The greatest number of bodies that are analysed.
 const TURNS: u32 = 20_000;
 
-/// What was shown of a program. It is sound and not complete: no verdict says that a program is wrong.
+/// What was shown of a program. The analysis is sound and not complete: no verdict claims that a program is wrong.
 #[derive(Drop)]
 pub enum Verdict {
-    /// Nothing undefined is met, on any input.
+    /// No undefined behaviour is met, on any input.
     Defined,
-    /// Undefined behaviour is met at these places at most, on any input; for each, why it was not ruled out.
+    /// Undefined behaviour is met at most at these places, on any input; for each, why it was not ruled out.
     DefinedBut(Vec<Pos>, Vec<Alarm>),
-    /// The analysis does not follow, near this place.
+    /// The analysis is not possible, near this place.
     Unknown(Option<Pos>),
 }
 
-/// A verdict, or work that goes on.
+/// A verdict, or the work that is left.
 #[derive(Drop)]
 enum Turn {
     Done(Verdict),
@@ -47,7 +47,7 @@ fn are_none(places: &[Pos]) -> bool
     places.is_empty()
 }
 
-/// The verdict where all was followed.
+/// The verdict if the whole program was analysed.
 fn concluded(program: &Program, work: Work) -> Verdict
     requires { IsDefinedBut (program_of program.now) work.listed.items }
     ensures { Says (program_of program.now) result }
@@ -60,7 +60,7 @@ fn concluded(program: &Program, work: Work) -> Verdict
     }
 }
 
-/// Lists the place of an alarm.
+/// Records the place of an alarm.
 fn alarmed(program: &Program, work: Work, alarm: Alarm) -> Result<Work, AllocError>
     requires { IsSoundWork (program_of program.now) work }
     ensures { IfOk result (λ w. IsSoundWork (program_of program.now) w) }
@@ -81,7 +81,7 @@ fn alarmed(program: &Program, work: Work, alarm: Alarm) -> Result<Work, AllocErr
     })
 }
 
-/// Wants something of a call.
+/// Requests the analysis of a call.
 fn asked(program: &Program, work: Work, call: Wanted) -> Result<Work, AllocError>
     requires { IsSoundWork (program_of program.now) work }
     ensures { IfOk result (λ w. IsSoundWork (program_of program.now) w) }
@@ -98,7 +98,7 @@ fn asked(program: &Program, work: Work, call: Wanted) -> Result<Work, AllocError
     })
 }
 
-/// Adds what was shown of a call.
+/// Records what was shown of a call.
 fn learnt(program: &Program, work: Work, call: Wanted, end: BodyEnd) -> Result<Work, AllocError>
     requires sound { IsSoundWork (program_of program.now) work }
     requires new { Shows (program_of program.now) work call end }
@@ -124,7 +124,7 @@ fn learnt(program: &Program, work: Work, call: Wanted, end: BodyEnd) -> Result<W
     })
 }
 
-/// Goes on where an analysis stopped.
+/// Continues after an analysis stopped.
 fn stopped(program: &Program, work: Work, stop: Stop) -> Result<Turn, AllocError>
     requires { IsSoundWork (program_of program.now) work }
     ensures { IfOk result (λ t. SaysTurn (program_of program.now) t) }
@@ -179,7 +179,7 @@ fn call_turn(
     }
 }
 
-/// The work without the latest call of which something is wanted, and that call.
+/// The work without the latest requested call, and that call.
 #[derive(Drop)]
 struct Popped {
     work: Work,
@@ -225,7 +225,7 @@ fn nothing(alloc: Global, program: &Program) -> Work
     }
 }
 
-/// Analyses a program. A turn analyses one body: main's, or that of a function that is called with arguments of which nothing is known yet.
+/// Analyses a program. A turn analyses one body: that of main, or of a function that is called with arguments that were not analysed yet.
 /// Each place that is not ruled out is listed.
 fn analysed(memory: &Memory, program: &Program) -> Result<Verdict, AllocError>
     ensures { IfOk result (λ v. Says (program_of program.now) v) }
@@ -249,8 +249,8 @@ fn is_followed(verdict: &Verdict) -> bool {
     }
 }
 
-/// Analyses a program, in so many steps at most. If that is not followed to its end with single elements of arrays, in half of the steps, the
-/// analysis begins again without them.
+/// Analyses a program within this many steps. If the analysis with single elements of arrays does not finish within half of the steps, it
+/// begins again without them.
 ///
 /// Errors: memory ran out.
 pub fn verify(alloc: Global, program: &Program, effort: u64) -> Result<Verdict, AllocError>

@@ -1,9 +1,9 @@
-//! What an analysis has found so far.
+//! The findings of an analysis so far.
 
 use srcset::Pos;
 use verify_expressions::{Alarm, Summary, Wanted};
 
-/// The places that are listed, and why; what was shown of calls; and calls of which something is wanted, the latest last.
+/// The recorded places with their reasons; what was shown of calls; and the requested calls, the latest last.
 #[derive(Drop)]
 pub struct Work {
     pub listed: Vec<Pos>,

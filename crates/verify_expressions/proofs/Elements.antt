@@ -1,4 +1,4 @@
--- What is known of single elements, as the functions have it.
+-- Facts about single elements, as the functions have them.
 use Rattle.std.proofs.Common.{◌≡◌, ◌<◌, ◌+◌, ◌∙◌, ℕ, List, [], ◌∷◌, ◌++◌, length, take, get_or, refl, ap, sym, subst, Option, Some, true}
 use Rattle.std.specs.Prelude.{slice_get, slice_set}
 use Rattle.verify_logic.specs.declared.abstract_values.Interval.{Interval}
@@ -55,7 +55,7 @@ imply_begin xs ys = none_implied xs
 pub imply_next : (xs ys : List Fact) (n : ℕ) (d : Fact) (i : Interval) → n < length ys → Among xs (get_or ys n d).object (get_or ys n d).index i → Below i (get_or ys n d).interval → FactsImply xs (take n ys) → FactsImply xs (take (n + 1) ys)
 imply_next xs ys n d i lt a b h = implied_step xs ys n (get_or ys n d) d i lt refl a b h
 
--- ---- all that is known, by its parts
+-- ---- all facts, by their parts
 
 pub same_known : (a : Known) (xs xs2 : List AbsValue) (facts facts2 : List Fact) → xs2 ≡ xs → xs ≡ a.objects → facts2 ≡ facts → facts ≡ a.facts → record { objects = xs2; facts = facts2 } ≡ a
 same_known a xs xs2 facts facts2 ex ea ef eb =

@@ -237,7 +237,7 @@ compared_some fr at op t a b o x y i j all (Err e) ea ha hb bi bj l = tt
 compared_some fr at op t a b o x y i j all (Ok None) ea ha hb bi bj l = tt
 compared_some fr at op t a b o x y i j all (Ok (Some z)) ea ha hb bi bj l = compare_fits fr at op t a b o x y i j all (state_of z.on) (state_of z.off) ea ha hb bi bj l.0 l.1
 
--- ---- what is read
+-- ---- reads
 
 pub read_as : (fr : Frame) (t : IntType) (place : Place) (at : Pos) (o : Option Known) (x depth : ℕ) (sub : Option Interval) (o2 : Option Known) (k : AbsValue) (r : Interval) → at ≡ position_of place → Finds fr place o x (drop depth (shape_of fr x)) sub o2 →
     drop depth (shape_of fr x) ≡ [] → Reads o2 x sub k → (r ≡ k.interval) × MayRead fr at k → Evaluates fr (typed.read t place) o r o2

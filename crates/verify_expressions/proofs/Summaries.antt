@@ -36,7 +36,7 @@ enters_unset [] n t k le h = h
 enters_unset (i ∷ is) zero t k le h = absurd (let q : suc (length is) ≤ 0 = le in omega (arith, q))
 enters_unset (i ∷ is) (suc n) t k le h = enters_unset is n t k (let q : suc (length is) ≤ suc n = le in omega (arith, q)) h
 
--- the first n objects of a call begin so
+-- the first n objects of a call begin in this way
 abbrev pub EnteredTo : ℕ → List Interval → List held.ObjectType → List AbsValue → Type 0
 EnteredTo n is objects ks = Entered (take n is) (map object_type_of (take n objects)) (take n ks)
 

@@ -26,7 +26,7 @@ PassesAll fr arguments before is ps after = Passes fr (arguments_of (map argumen
 pub record PassesOne (fr : Frame) (given : Given) (before : Option Known) (is : List Interval) (ps : List ArrayArgument) (after : Option Known) : Type 0 where
   pub passes : (more : typed.Arguments) (js : List Interval) (qs : List ArrayArgument) (o : Option Known) → Passes fr more after js qs o → Passes fr (and_given given more) before (is ++ js) (ps ++ qs) o
 
--- what is known of an element of another object
+-- the fact about an element of another object
 abbrev pub Apart : Fact → ℕ → Type 0
 Apart f x = f.object ≡ x → ⊥
 
@@ -35,7 +35,7 @@ abbrev pub OneElement : List ℕ → Type 0
 OneElement [] = Unit {0}
 OneElement (n ∷ lengths) = (n ≡ 1) × OneElement lengths
 
--- so many subscripts lead to an element, and not of a string literal
+-- this number of subscripts leads to an element, and not of a string literal
 pub record VariableAt (fr : Frame) (x depth : ℕ) : Type 0 where
   pub element : drop depth (shape_of fr x) ≡ []
   pub above : length fr.program.literals ≤ x
@@ -46,7 +46,7 @@ pub record CallsAt (fr : Frame) (at : Pos) (f : ℕ) (used : Bool) (is : List In
 
 -- ---- calls by summaries
 
--- a scalar parameter to which such a number is passed
+-- a scalar parameter with such a numeric argument
 abbrev pub Gets : Interval → ObjectType → AbsValue → Type 0
 Gets i t k = (t.lengths ≡ []) × Entails (record { initialised = true; interval = i }) k
 
@@ -54,7 +54,7 @@ abbrev pub Enters : Option Interval → ObjectType → AbsValue → Type 0
 Enters None t k = k.initialised ≡ false
 Enters (Some i) t k = Gets i t k
 
--- object n of a call that passes these numbers
+-- object n of a call with these numeric arguments
 abbrev pub EntersAt : List Interval → ℕ → ObjectType → AbsValue → Type 0
 EntersAt is n t k = Enters (slice_get is n) t k
 
@@ -65,7 +65,7 @@ pub record Fits (fr : Frame) (f : ℕ) (ps : List ArrayArgument) (entry : Known)
   pub arrays : a.arrays ≡ ps
   pub entry_is : KnownEntails entry a.entry
 
--- a summary says what such a call gives
+-- the results of such a call by a summary
 pub record Summarised (fr : Frame) (at : Pos) (f : ℕ) (used : Bool) (ps : List ArrayArgument) (entry : Known) (i : Interval) (after : Option Known) : Type 0 where
   pub number : ℕ
   pub summary : Summary
@@ -76,6 +76,6 @@ pub record Summarised (fr : Frame) (at : Pos) (f : ℕ) (used : Bool) (ps : List
 
 -- ---- comparisons
 
--- what is known where a comparison is true, and where it is false
+-- the states if a comparison is true, and if it is false
 abbrev pub LearnsBoth : BinOp → Operand → Interval → Operand → Interval → (o on off : Option Known) → Type 0
 LearnsBoth op x i y j o on off = Learns op true x i y j o on × Learns op false x i y j o off

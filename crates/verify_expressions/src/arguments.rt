@@ -1,4 +1,4 @@
-//! What a call passes.
+//! The arguments of a call.
 
 ghost use Rattle.std.specs.Prelude.{◌≡◌, ◌∷◌, [], IfOk};
 ghost use Rattle.verify_expressions.specs.Views.{state_of};
@@ -8,7 +8,7 @@ use crate::stop::Stop;
 use std::alloc::Global;
 use verify_logic::{ArrayArgument, Interval};
 
-/// The intervals of the numbers that are passed, what the array parameters refer to, and what is known when all arguments are evaluated.
+/// The intervals of the numeric arguments, the referents of the array parameters, and the state after all arguments are evaluated.
 #[derive(Drop)]
 pub struct Passed {
     pub intervals: Vec<Interval>,

@@ -1,4 +1,4 @@
-//! Calls of functions (6.5.2.2, 6.9.1), by what was shown of their bodies. What a summary would have to say is guessed, and then tested.
+//! Calls of functions (6.5.2.2, 6.9.1), by summaries of their bodies. What a summary would have to state is guessed, and then tested.
 
 ghost use Rattle.std.specs.Prelude.{◌≡◌, ◌<◌, ◌≤◌, ◌+◌, ◌++◌, [], false, length, map, take, IfOk, IfSome, IsTrue, Some, slice_get};
 ghost use Rattle.typed_ast.specs.View.{function_of, object_type_of};
@@ -31,7 +31,7 @@ fn first_value(passed: &[Interval], n: usize) -> AbsValue {
     }
 }
 
-/// What the objects of a call are as it begins. It is a guess: nothing rests on it.
+/// The objects of a call as it begins. It is a guess: nothing depends on it.
 fn guessed_objects(
     alloc: Global,
     count: usize,
@@ -67,7 +67,7 @@ fn is_unset(k: AbsValue) -> bool
     !k.initialised
 }
 
-/// Tests whether object `n` of a call begins so: as the number that is passed, or without a value.
+/// Tests whether object `n` of a call begins in this way: as the numeric argument, or without a value.
 #[tactic(auto, using(crate::proofs::Summaries::enters_set, crate::proofs::Summaries::enters_unset))]
 fn enters(passed: &[Interval], n: usize, object: &ObjectType, k: AbsValue) -> bool
     ensures { IsTrue result → EntersAt passed.now n (object_type_of object.now) k }
@@ -86,7 +86,7 @@ fn are_as_many(passed: &[Interval], objects: &[ObjectType], own: &[AbsValue]) ->
     objects.len() == own.len() && passed.len() <= own.len()
 }
 
-/// Tests whether the objects of a call that passes these numbers begin so.
+/// Tests whether the objects of a call with these numeric arguments begin in this way.
 fn is_entered(passed: &[Interval], objects: &[ObjectType], own: &[AbsValue]) -> bool
     ensures { IsTrue result → Entered passed.now (map object_type_of objects.now) own.now }
 {
@@ -111,7 +111,7 @@ fn each_enters(passed: &[Interval], objects: &[ObjectType], own: &[AbsValue]) ->
     true
 }
 
-/// The objects of a call that passes these numbers, as it begins.
+/// The objects of a call with these numeric arguments, as it begins.
 fn entered(
     alloc: Global,
     objects: &[ObjectType],
@@ -139,7 +139,7 @@ fn appended(first: Vec<AbsValue>, rest: &[AbsValue]) -> Result<Vec<AbsValue>, St
     }
 }
 
-// ---- whether a summary fits
+// ---- whether a summary applies
 
 fn same(a: &[u32], b: &[u32]) -> bool
     ensures { IsTrue result → a.now ≡ b.now }
@@ -234,7 +234,7 @@ fn admits(a: &Summary, entry: &Known) -> bool
     known_entails(entry, &a.entry)
 }
 
-/// Tests whether the summary says what a call does that begins with these objects.
+/// Tests whether the summary describes a call that begins with these objects.
 fn fits(scope: &Scope<'_>, f: usize, a: &Summary, arrays: &[ArrayArgument], entry: &Known) -> bool
     ensures { IsTrue result → Fits (frame_of scope.now) f arrays.now (known_of entry.now) (summary_of a.now) }
 {
@@ -253,7 +253,7 @@ fn fits(scope: &Scope<'_>, f: usize, a: &Summary, arrays: &[ArrayArgument], entr
     admits(a, entry)
 }
 
-// ---- what a summary says
+// ---- the content of a summary
 
 /// The value of a call (6.9.1p12).
 fn value_at(scope: &Scope<'_>, at: Pos, used: bool, value: AbsValue) -> Result<Interval, Stop>
@@ -286,7 +286,7 @@ fn is_below(x: usize, n: usize) -> bool
     x < n
 }
 
-/// What is known of elements of the first `n` objects.
+/// The facts about elements of the first `n` objects.
 fn first_facts(alloc: Global, facts: &[Fact], n: usize) -> Result<Vec<Fact>, Stop>
     ensures { IfOk result (λ r. HoldBelow n facts.now r.items) }
 {
@@ -322,7 +322,7 @@ fn front(alloc: Global, known: &Known, n: usize) -> Result<AbsState, Stop>
     })
 }
 
-/// What is known of the first `n` objects.
+/// The facts about the first `n` objects.
 fn front_of(alloc: Global, left: &Option<Known>, n: usize) -> Result<AbsState, Stop>
     ensures { IfOk result (λ r. Cuts n (known_or_none left.now) (state_of r)) }
 {
@@ -332,7 +332,7 @@ fn front_of(alloc: Global, left: &Option<Known>, n: usize) -> Result<AbsState, S
     }
 }
 
-/// What is known behind a call of which this is known behind its body.
+/// The state after a call with this state after its body.
 fn behind(scope: &Scope<'_>, left: &Option<Known>) -> Result<AbsState, Stop>
     ensures { IfOk result (λ r. Cuts (length (shapes_of (frame_of scope.now))) (known_or_none left.now) (state_of r)) }
 {
@@ -365,7 +365,7 @@ fn by_summary(
     Ok(Evaluated { interval, state })
 }
 
-/// What summary `n` says of a call of function `f` that begins with these objects.
+/// What summary `n` states of a call of function `f` that begins with these objects.
 fn summarised(
     scope: &Scope<'_>,
     at: Pos,
@@ -383,7 +383,7 @@ fn summarised(
     }
 }
 
-/// Tests whether the same objects are known to have values. A summary that begins with less known tells less of the caller's objects too.
+/// Tests whether the same objects are known to have values. A summary that begins with fewer facts also gives fewer facts about the caller's objects.
 fn same_marks(xs: &[AbsValue], ys: &[AbsValue]) -> bool {
     if xs.len() != ys.len() {
         return false;
@@ -396,7 +396,7 @@ fn same_marks(xs: &[AbsValue], ys: &[AbsValue]) -> bool {
     true
 }
 
-/// Tests whether the summary is of function `f` and fits, as far as there is work left.
+/// Tests whether the summary is of function `f` and applies, as far as there is work left.
 fn is_found(
     scope: &Scope<'_>,
     f: usize,
@@ -411,7 +411,7 @@ fn is_found(
     goes_on && same_marks(&entry.objects, &a.entry.objects) && fits(scope, f, a, arrays, entry)
 }
 
-/// The summary by which the call was followed before, if it was and that fits.
+/// The summary that was used for the call before, if there is one and it applies.
 fn found_again(
     scope: &Scope<'_>,
     f: usize,
@@ -431,7 +431,7 @@ fn found_again(
     }
 }
 
-/// The first summary that fits, if there is one.
+/// The first summary that applies, if there is one.
 fn searched(scope: &Scope<'_>, f: usize, arrays: &[ArrayArgument], entry: &Known) -> Option<usize> {
     let goes_on = take_search(scope);
     if !goes_on {
@@ -445,7 +445,7 @@ fn searched(scope: &Scope<'_>, f: usize, arrays: &[ArrayArgument], entry: &Known
     None
 }
 
-/// A summary that fits, if there is one. It is a guess: nothing rests on it.
+/// A summary that applies, if there is one. It is a guess: nothing depends on it.
 ///
 /// Errors: memory ran out.
 fn fitting(
@@ -510,7 +510,7 @@ fn call_wanted(
     })
 }
 
-/// The call of which nothing is known yet, as a reason to stop.
+/// The call that was not analysed yet, as a reason to stop.
 fn wanted(scope: &Scope<'_>, f: usize, arrays: &[ArrayArgument], entry: &Known) -> Stop {
     match call_wanted(scope, f, arrays, entry) {
         Ok(call) => Stop::Wanted(call),
@@ -597,7 +597,7 @@ fn reached_called(
 
 /// A call of function `f`.
 ///
-/// Errors: nothing is known of such a call yet, its value may be used where it has none, or the analysis does not follow.
+/// Errors: such a call was not analysed yet, its value may be used if it has none, or the analysis is not possible.
 #[tactic(auto, using(crate::proofs::Summaries::none_calls))]
 pub fn function_called(
     scope: &Scope<'_>,

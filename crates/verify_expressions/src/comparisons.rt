@@ -1,4 +1,4 @@
-//! What a comparison tells of its operands (6.5.8, 6.5.9).
+//! What the result of a comparison implies for its operands (6.5.8, 6.5.9).
 
 ghost use Rattle.std.specs.Prelude.{◌≡◌, [], Some, IfOk, IfSome};
 ghost use Rattle.typing_spec.specs.Program as typed;
@@ -23,7 +23,7 @@ use typed_ast::{Place, Value};
 use verify_intervals::{all_of, initialised, is_empty, lies_in, narrowed, single, tell};
 use verify_logic::{Interval, Operand};
 
-/// An operand that is looked at, and the interval of its value.
+/// An operand that is refined, and the interval of its value.
 #[derive(Clone, Copy)]
 pub struct Looked {
     pub operand: Operand,
@@ -124,7 +124,7 @@ fn object_restricted(state: AbsState, x: usize, i: Interval) -> Option<AbsState>
     }
 }
 
-/// With an operand whose value lies in the interval.
+/// The state with an operand whose value is in the interval.
 fn restricted(state: AbsState, a: Operand, i: Interval) -> Option<AbsState>
     ensures { IfSome result (λ r. Restricts a i (state_of state) (state_of r)) }
 {
@@ -157,7 +157,7 @@ fn both_restricted(
     Some(all)
 }
 
-/// What a comparison tells by its truth.
+/// The implications of a comparison, by its truth value.
 fn learnt(state: AbsState, op: BinOp, truth: bool, x: Looked, y: Looked) -> Option<AbsState>
     ensures { IfSome result (λ r. Learns op truth x.operand x.interval y.operand y.interval (state_of state) (state_of r)) }
 {
@@ -176,7 +176,7 @@ fn learnt(state: AbsState, op: BinOp, truth: bool, x: Looked, y: Looked) -> Opti
     }
 }
 
-/// What a comparison tells where it is true, and where it is false.
+/// The states if a comparison is true, and if it is false.
 fn both_learnt(
     scope: &Scope<'_>,
     state: &AbsState,
@@ -201,7 +201,7 @@ fn both_learnt(
     Ok(Some(Tested { on, off }))
 }
 
-/// A comparison of two operands that are looked at, if it is one.
+/// A comparison of two operands that can be refined, if it is one.
 ///
 /// Errors: memory ran out.
 pub fn compared(

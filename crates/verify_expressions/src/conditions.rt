@@ -1,4 +1,4 @@
-//! What a value tells by whether it is zero.
+//! What a value implies by whether it is zero.
 
 ghost use Rattle.std.specs.Prelude.{IfOk};
 ghost use Rattle.verify_logic.specs.Places.{NonZero, Splits, Zero};
@@ -12,7 +12,7 @@ use std::alloc::Global;
 use verify_intervals::{is_nonzero, is_zero};
 use verify_logic::Interval;
 
-/// What is known behind a value that is not zero, and behind zero.
+/// The state after a value that is not zero, and after zero.
 #[derive(Drop)]
 pub struct Tested {
     pub on: AbsState,

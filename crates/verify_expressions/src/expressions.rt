@@ -1,4 +1,4 @@
-//! Expressions (6.5), a function for each kind. What one gives holds of every run that begins with what is known before it.
+//! Expressions (6.5), a function for each kind. The result of each holds of every run that begins in the state before it.
 
 ghost use Rattle.std.specs.Prelude.{◌≡◌, ◌≤◌, [], drop, length, map, IfOk, IsTrue, None};
 ghost use Rattle.typing_spec.specs.Program as typed;
@@ -29,19 +29,19 @@ use typed_ast::{Argument, Callee, Moment, Place, Storage, Value};
 use verify_intervals::{add_usize, conversion, hull, nothing, single, truths};
 use verify_logic::{ArrayArgument, Interval};
 
-/// The interval of a value, and what is known behind it.
+/// The interval of a value, and the state after it.
 #[derive(Drop)]
 pub struct Evaluated {
     pub interval: Interval,
     pub state: AbsState,
 }
 
-/// A place in object `object`, behind so many subscripts, and what is known when it is found.
+/// A place in object `object`, after this number of subscripts, and the state when it is found.
 #[derive(Drop)]
 pub struct Placed {
     pub object: usize,
     pub depth: usize,
-    /// Where the last subscript lies, if elements of the object are followed.
+    /// The interval of the last subscript, if elements of the object are tracked.
     pub subscript: Option<Interval>,
     pub state: AbsState,
 }
@@ -124,7 +124,7 @@ fn variable(scope: &Scope<'_>, state: AbsState, a: &Place) -> Result<Placed, Sto
     Ok(found)
 }
 
-/// An expression to which no run comes.
+/// An expression that no run reaches.
 fn never_evaluated(scope: &Scope<'_>, state: &AbsState, e: &Value) -> Evaluated
     requires { state_of state.now ≡ None }
     ensures { Evaluates (frame_of scope.now) (value_of e.now) (state_of state.now) result.interval (state_of result.state) }
@@ -548,7 +548,7 @@ fn one_tested(scope: &Scope<'_>, state: AbsState, a: &Value, b: &Value) -> Resul
     Ok(Tested { on, off: right.off })
 }
 
-/// A test to which no run comes.
+/// A test that no run reaches.
 fn never_tested(scope: &Scope<'_>, state: &AbsState, e: &Value) -> Tested
     requires { state_of state.now ≡ None }
     ensures { Tests (frame_of scope.now) (value_of e.now) (state_of state.now) (state_of result.on) (state_of result.off) }

@@ -1,4 +1,4 @@
-//! What is known of single elements of arrays of one row: looked up, compared, joined and changed.
+//! Facts about single elements of arrays of one row: looked up, compared, joined and changed.
 
 ghost use Rattle.std.specs.Prelude.{◌≡◌, ◌<ℤ◌, ◌++◌, ◌∷◌, [], Some, false, IfOk, IfSome, IsTrue, pos};
 ghost use Rattle.verify_logic.specs.States.{Among, Changes, ChangesOne, FactsImply, Forgets, In, ReadsAll};
@@ -9,16 +9,16 @@ use std::alloc::Global;
 use verify_intervals::{hull, lies_in, nothing};
 use verify_logic::{Fact, Interval};
 
-/// Of how many elements of an array something may be known, one by one.
+/// The number of elements of an array for which single facts may be kept.
 pub const FOLLOWED_ELEMENTS: u32 = 64;
 
-/// The subscript at which reading has passed the last of them.
+/// The first subscript after these elements.
 const PAST_FOLLOWED: u32 = FOLLOWED_ELEMENTS + 1;
 
-/// Of how many elements in all.
+/// The number of elements in all for which facts may be kept.
 const MOST_FACTS: usize = 1024;
 
-/// What is known of an element, and where that stands.
+/// The fact about an element, and its position.
 #[derive(Clone, Copy)]
 struct FoundFact {
     at: usize,
@@ -76,7 +76,7 @@ fn searched(facts: &[Fact], x: usize, index: u32) -> Option<FoundFact>
     None
 }
 
-/// What is known of element `index` of object `x`; it is looked for at place `near` first.
+/// The fact about element `index` of object `x`; position `near` is searched first.
 fn found(facts: &[Fact], x: usize, index: u32, near: usize) -> Option<FoundFact>
     ensures { IfSome result (λ r. Among facts.now x index r.interval) }
 {
@@ -90,7 +90,7 @@ fn behind(at: usize) -> usize {
     at.saturating_add(1)
 }
 
-/// What is known of elements where a run comes by one of two ways.
+/// The facts about elements if a run comes by one of two ways.
 ///
 /// Errors: memory ran out.
 pub fn joined_facts(alloc: Global, xs: &[Fact], ys: &[Fact]) -> Result<Vec<Fact>, Stop>
@@ -117,7 +117,7 @@ pub fn joined_facts(alloc: Global, xs: &[Fact], ys: &[Fact]) -> Result<Vec<Fact>
     Ok(out)
 }
 
-/// Tests whether the one says all that the other says.
+/// Tests whether one implies all that the other implies.
 pub fn facts_imply(xs: &[Fact], ys: &[Fact]) -> bool
     ensures { IsTrue result → FactsImply xs.now ys.now }
 {
@@ -170,7 +170,7 @@ fn begins_at(n: u32, j: Interval) -> bool
     i64::from(n) == j.low
 }
 
-/// The least subscript of an interval, where it is one of the first.
+/// The least subscript of an interval, if it is one of the first.
 fn least_index(j: Interval) -> Option<u32>
     ensures { IfSome result (λ n. j.low ≡ pos n) }
 {
@@ -197,7 +197,7 @@ fn may_be(index: u32, j: Interval) -> bool
     j.low <= v && v <= j.high
 }
 
-/// Tests whether the interval holds this number alone.
+/// Tests whether the interval contains only this number.
 fn is_only(index: u32, j: Interval) -> bool
     ensures { IsTrue result → (j.low ≡ pos index) × (j.high ≡ pos index) }
 {
@@ -205,7 +205,7 @@ fn is_only(index: u32, j: Interval) -> bool
     j.low == v && j.high == v
 }
 
-/// What is known of an element of object `x` behind a write to one whose subscript lies in `j`.
+/// The fact about an element of object `x` after a write to one whose subscript is in `j`.
 fn own_changed(f: Fact, x: usize, j: Interval, i: Interval) -> Fact
     requires { f.object ≡ x }
     ensures { ChangesOne x j i f result }
@@ -237,7 +237,7 @@ fn is_same(a: usize, b: usize) -> bool
     a == b
 }
 
-/// What is known of an element of any object then.
+/// The fact about an element of any object then.
 fn one_changed(f: Fact, x: usize, j: Interval, i: Interval) -> Fact
     ensures { ChangesOne x j i f result }
 {
@@ -277,12 +277,12 @@ fn with_fact(mut facts: Vec<Fact>, f: Fact) -> Result<Vec<Fact>, Stop>
     Ok(facts)
 }
 
-/// Tests whether one more may be kept, of which there is none. It is a guess: nothing rests on it.
+/// Tests whether one more fact may be kept, about an element without one. It is a guess: nothing depends on it.
 fn is_new(facts: &[Fact], x: usize, index: u32) -> bool {
     facts.len() < MOST_FACTS && found(facts, x, index, 0).is_none()
 }
 
-/// The facts behind a write of a value in `i` to the element of object `x` whose subscript is the low end of `j`, if that is the only one.
+/// The facts after a write of a value in `i` to the element of object `x` whose subscript is the low end of `j`, if that is the only one.
 fn new_known(
     facts: &[Fact],
     out: Vec<Fact>,
@@ -329,7 +329,7 @@ fn element_changed(
     Ok(all)
 }
 
-/// The facts behind a write of a value in `i` to an element of object `x`, whose subscript lies in `sub` where that is known.
+/// The facts after a write of a value in `i` to an element of object `x`, whose subscript is in `sub` if that is known.
 ///
 /// Errors: memory ran out.
 pub fn changed(
@@ -355,7 +355,7 @@ pub fn changed(
 
 // ---- elements are read
 
-/// The interval of all elements of object `x` whose subscripts lie in `j`, where each is known.
+/// The interval of all elements of object `x` whose subscripts are in `j`, if each is known.
 pub fn elements_read(facts: &[Fact], x: usize, j: Interval) -> Option<Interval>
     ensures { IfSome result (λ k. ReadsAll facts.now x j k) }
 {

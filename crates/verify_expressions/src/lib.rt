@@ -1,4 +1,4 @@
-//! The analysis of expressions: what they may give, and what is known of the objects behind them. Each answer is a triple that is
+//! The analysis of expressions: the values that they may have, and the state after them. Each answer is a triple that is
 //! proved of every run.
 #![tactic(auto)]
 

@@ -1,6 +1,6 @@
-//! What an analysis keeps while it goes on: how much work is left to it, what held at each turn of the loops that it met, and how it
-//! followed the calls of the bodies that it is in. It decides which guesses are tried and when to give up; no clause speaks of it, and
-//! nothing rests on it.
+//! What an analysis remembers while it goes on: how much work is left to it, the invariants of the loops that it met, and how it
+//! treated the calls of the bodies that it is in. It decides which guesses are tried and when to give up; no clause mentions it, and
+//! nothing depends on it.
 
 use crate::objects::{copied, imply, joined};
 use crate::scope::Scope;
@@ -10,21 +10,21 @@ use srcset::Pos;
 use std::alloc::Global;
 use std::cell::{Cell, RefCell};
 
-/// Of how many objects knowledge is copied for the price of one more step.
+/// The number of objects that are copied for the price of one more step.
 const OBJECTS_A_STEP: usize = 16;
 
-/// How many summaries are passed over for the price of a step.
+/// The number of summaries that are skipped for the price of a step.
 const SUMMARIES_A_STEP: usize = 32;
 
-/// How many steps may be taken before no loop is unrolled any more, or which part of all, if that is less.
+/// The number of steps after which no loop is unrolled any more, or the part of all steps, if that is less.
 const UNROLLING_STEPS: u64 = 2_000_000;
 
 const UNROLLING_PART: u64 = 8;
 
-/// Behind so many summaries no loop is unrolled: each turn may want more of them.
+/// After this number of summaries no loop is unrolled: each iteration may need more of them.
 const UNROLLING_SUMMARIES: usize = 256;
 
-/// A loop that was met, by its line and the loops around it: what was known before it, and what held at each turn.
+/// A loop that was met, by its line and the loops around it: the state before it, and its invariant.
 #[derive(Drop)]
 struct MetLoop {
     at: Pos,
@@ -33,8 +33,8 @@ struct MetLoop {
     kept: AbsState,
 }
 
-/// A call that was met: how many bodies are around its own, and the number of the summary by which it was followed. There is none if
-/// the analysis stopped there because it wanted one.
+/// A call that was met: the number of bodies around its own, and the number of the summary that was used for it. There is none if
+/// the analysis stopped there because it needed one.
 #[derive(Clone, Copy)]
 struct MetCall {
     bodies: usize,
@@ -45,27 +45,27 @@ struct MetCall {
 #[derive(Drop)]
 pub struct Memory {
     pub alloc: Global,
-    /// Whether single elements of arrays are followed.
+    /// Whether single elements of arrays are tracked.
     elements: bool,
-    /// Whether something was known of one.
+    /// Whether there was a fact about one.
     met: Cell<bool>,
     steps: Cell<u64>,
-    /// Single elements are followed while more steps than these are left.
+    /// Single elements are tracked while more steps than these are left.
     half: u64,
     /// Loops are unrolled while more steps than these are left.
     floor: u64,
     depth: Cell<u32>,
     loops: RefCell<Vec<MetLoop>>,
-    /// How many bodies are around the present one.
+    /// The number of bodies around the present one.
     bodies: Cell<usize>,
     /// The calls of the outermost body, then those of the one that it entered, and so on. A body is analysed anew each time that a
-    /// summary was found which it wanted, and then meets the same calls again.
+    /// summary was found which it needed, and then meets the same calls again.
     calls: RefCell<Vec<MetCall>>,
     /// Which of the calls comes next.
     next: Cell<usize>,
 }
 
-/// How many steps of so many are left when no loop is unrolled any more.
+/// Of this number of steps, how many are left when no loop is unrolled any more.
 fn floor_of(steps: u64) -> u64 {
     let part = steps / UNROLLING_PART;
     let taken = if part < UNROLLING_STEPS {
@@ -76,7 +76,7 @@ fn floor_of(steps: u64) -> u64 {
     steps.saturating_sub(taken)
 }
 
-/// A memory of nothing, with so many steps to go, half of which may be taken while single elements of arrays are followed, if they are.
+/// An empty memory with this number of steps, half of which may be taken while single elements of arrays are tracked, if they are.
 pub fn new_memory(alloc: Global, steps: u64, elements: bool) -> Memory {
     Memory {
         alloc,
@@ -93,17 +93,17 @@ pub fn new_memory(alloc: Global, steps: u64, elements: bool) -> Memory {
     }
 }
 
-/// Tests whether single elements of arrays are followed.
+/// Tests whether single elements of arrays are tracked.
 pub fn follows_elements(memory: &Memory) -> bool {
     memory.elements
 }
 
-/// Tests whether something was known of single elements.
+/// Tests whether there was a fact about single elements.
 pub fn met_elements(memory: &Memory) -> bool {
     memory.met.get()
 }
 
-/// How many calls of the outermost bodies were met, of so many.
+/// The number of calls of the outermost bodies that were met, of this number of bodies.
 fn count_outside(calls: &[MetCall], bodies: usize) -> usize {
     let mut count = 0;
     for n in 0..calls.len() {
@@ -114,8 +114,8 @@ fn count_outside(calls: &[MetCall], bodies: usize) -> usize {
     count
 }
 
-/// A body is entered, around which there are so many others: no loop is around it. What calls of it were met before is kept, and what
-/// calls of others within it is not.
+/// Enters a body with this number of others around it: no loop is around it. The calls of it that were met before are kept, and those
+/// of others within it are not.
 pub fn enter_body(memory: &Memory, bodies: usize) {
     memory.depth.set(0);
     memory.bodies.set(bodies);
@@ -130,7 +130,7 @@ pub fn enter_body(memory: &Memory, bodies: usize) {
     }
 }
 
-/// The summary of a call that was met: that which was wanted is the latest.
+/// The summary of a call that was met: the one that was needed is the latest.
 fn summary_of_call(calls: &[MetCall], n: usize, count: usize) -> Option<usize> {
     match calls.get(n) {
         None => None,
@@ -141,7 +141,7 @@ fn summary_of_call(calls: &[MetCall], n: usize, count: usize) -> Option<usize> {
     }
 }
 
-/// The summary by which the call that comes next was followed before, if it was.
+/// The summary that was used before for the next call, if there was one.
 pub fn expected_summary(scope: &Scope<'_>) -> Option<usize> {
     match scope.memory.calls.try_borrow() {
         Err(_) => None,
@@ -171,7 +171,7 @@ fn put_call(calls: &mut Vec<MetCall>, n: usize, new: MetCall) -> Result<(), Stop
     }
 }
 
-/// Keeps by which summary the call is followed that comes next, or that one is wanted.
+/// Records which summary is used for the next call, or that one is needed.
 ///
 /// Errors: memory ran out.
 pub fn pass_call(scope: &Scope<'_>, summary: Option<usize>) -> Result<(), Stop> {
@@ -187,17 +187,17 @@ pub fn pass_call(scope: &Scope<'_>, summary: Option<usize>) -> Result<(), Stop> 
     }
 }
 
-/// A loop is entered.
+/// Enters a loop.
 pub fn enter_loop(memory: &Memory) {
     memory.depth.set(memory.depth.get().saturating_add(1));
 }
 
-/// The loop is left.
+/// Leaves the loop.
 pub fn leave_loop(memory: &Memory) {
     memory.depth.set(memory.depth.get().saturating_sub(1));
 }
 
-/// Takes so many steps. Tells whether the work left is enough; if not, none is left.
+/// Takes this number of steps. Returns whether the work left is enough; if not, none is left.
 fn take(memory: &Memory, cost: u64) -> bool {
     let left = memory.steps.get();
     if left < cost {
@@ -212,14 +212,14 @@ fn cost_of(count: usize) -> u64 {
     1 + ((count / OBJECTS_A_STEP) as u64)
 }
 
-/// Takes the step of a comparison or a look at a summary, which costs more where there are many objects. Tells whether the work left is
+/// Takes the step of a comparison or of a look at a summary, which costs more with many objects. Returns whether the work left is
 /// enough.
 pub fn take_step(scope: &Scope<'_>) -> bool {
     let objects = scope.outer.len().saturating_add(scope.objects.len());
     take(scope.memory, cost_of(objects))
 }
 
-/// Tests whether there is work left to go on where so much is known of single elements: they take half of the steps at most.
+/// Tests whether there is work left to go on with this number of facts about single elements: they take at most half of the steps.
 fn may_go_on(memory: &Memory, facts: usize) -> bool {
     if facts == 0 {
         return true;
@@ -228,7 +228,7 @@ fn may_go_on(memory: &Memory, facts: usize) -> bool {
     !memory.elements || memory.half < memory.steps.get()
 }
 
-/// Takes the step of a statement, which costs more where much is known. Tells whether the work left is enough.
+/// Takes the step of a statement, which costs more with many facts. Returns whether the work left is enough.
 pub fn take_statement(scope: &Scope<'_>, state: &AbsState) -> bool {
     match &state.objects {
         None => take(scope.memory, 1),
@@ -239,7 +239,7 @@ pub fn take_statement(scope: &Scope<'_>, state: &AbsState) -> bool {
     }
 }
 
-/// Takes the steps of a search among all summaries. Tells whether the work left is enough.
+/// Takes the steps of a search among all summaries. Returns whether the work left is enough.
 pub fn take_search(scope: &Scope<'_>) -> bool {
     let cost = 1 + ((scope.summaries.len() / SUMMARIES_A_STEP) as u64);
     take(scope.memory, cost)
@@ -287,7 +287,7 @@ fn kept_in(
     }
 }
 
-/// What held at each turn of a loop, where it was met with this known before it.
+/// The invariant of a loop that was met with this state before it.
 ///
 /// Errors: memory ran out.
 pub fn recalled(scope: &Scope<'_>, at: Pos, state: &AbsState) -> Result<Option<AbsState>, Stop> {
@@ -317,7 +317,7 @@ fn begun_in(
     }
 }
 
-/// With what is guessed to hold at each turn of a loop the guesses begin: with what held where it was met with less known, if it was.
+/// The first guess of a loop's invariant: that of the loop when it was met with a wider state, if it was.
 ///
 /// Errors: memory ran out.
 pub fn first_guess(scope: &Scope<'_>, at: Pos, state: AbsState) -> Result<AbsState, Stop> {
@@ -342,7 +342,7 @@ fn put(loops: &mut Vec<MetLoop>, new: MetLoop) -> Result<(), Stop> {
     }
 }
 
-/// Keeps what holds at each turn of a loop.
+/// Records the invariant of a loop.
 ///
 /// Errors: memory ran out.
 pub fn remember(

@@ -1,4 +1,4 @@
-//! What is known of objects: looked up, changed and compared.
+//! The facts about objects: looked up, changed and compared.
 
 ghost use Rattle.std.specs.Prelude.{◌≡◌, ◌<◌, length, Some, IfOk, IfSome, IsTrue, slice_get, slice_set, vec_len};
 ghost use Rattle.verify_logic.specs.States.{Contents, EachEntails, Entails, Implies, KnownEntails, Reads, Replaces, Writes, shape_of};
@@ -27,7 +27,7 @@ pub fn copied_objects(alloc: Global, xs: &[AbsValue]) -> Result<Vec<AbsValue>, S
     }
 }
 
-/// Copies what is known.
+/// Copies the facts about an object.
 ///
 /// Errors: memory ran out.
 pub fn copied_known(alloc: Global, known: &Known) -> Result<Known, Stop>
@@ -103,7 +103,7 @@ fn joined_with(alloc: Global, a: Known, b: AbsState) -> Result<AbsState, Stop>
     }
 }
 
-/// What is known where a run comes by one of two ways.
+/// The state if a run comes by one of two ways.
 ///
 /// Errors: memory ran out.
 #[tactic(auto, using(verify_logic::proofs::Objects::implies_same, verify_logic::proofs::Objects::none_implies))]
@@ -130,7 +130,7 @@ fn each_entails(xs: &[AbsValue], ys: &[AbsValue]) -> bool
     true
 }
 
-/// Tests whether the one says all that the other says.
+/// Tests whether one implies all that the other implies.
 pub fn objects_entail(xs: &[AbsValue], ys: &[AbsValue]) -> bool
     ensures { IsTrue result → EachEntails xs.now ys.now }
 {
@@ -141,7 +141,7 @@ pub fn objects_entail(xs: &[AbsValue], ys: &[AbsValue]) -> bool
     }
 }
 
-/// Tests whether the one says all that the other says.
+/// Tests whether one implies all that the other implies.
 pub fn known_entails(a: &Known, b: &Known) -> bool
     ensures { IsTrue result → KnownEntails (known_of a.now) (known_of b.now) }
 {
@@ -162,7 +162,7 @@ fn some_imply(a: &Known, b: &AbsState) -> bool
     }
 }
 
-/// Tests whether the one says all that the other says.
+/// Tests whether one implies all that the other implies.
 #[tactic(auto, using(verify_logic::proofs::Objects::none_implies))]
 pub fn imply(a: &AbsState, b: &AbsState) -> bool
     ensures { IsTrue result → Implies (state_of a.now) (state_of b.now) }
@@ -173,7 +173,7 @@ pub fn imply(a: &AbsState, b: &AbsState) -> bool
     }
 }
 
-/// What is known of the elements of object `x`.
+/// The facts about the elements of object `x`.
 pub fn value_in(xs: &[AbsValue], x: usize) -> Option<AbsValue>
     ensures { IfSome result (λ k. slice_get xs.now x ≡ Some k) }
 {
@@ -189,7 +189,7 @@ fn content_in(known: &Known, x: usize) -> Option<AbsValue>
     Some(k)
 }
 
-/// What is known of the elements of object `x`.
+/// The facts about the elements of object `x`.
 #[tactic(auto, using(verify_logic::proofs::Objects::none_contents))]
 pub fn content_at(state: &AbsState, x: usize) -> Option<AbsValue>
     ensures { IfSome result (λ k. Contents (state_of state.now) x k) }
@@ -228,7 +228,7 @@ fn any_element(state: &AbsState, x: usize, sub: Option<Interval>) -> Option<AbsV
     Some(k)
 }
 
-/// What is known of an element of object `x`, whose subscript lies in `sub` where that is known.
+/// The fact about an element of object `x`, whose subscript is in `sub` if that is known.
 pub fn element_at(state: &AbsState, x: usize, sub: Option<Interval>) -> Option<AbsValue>
     ensures { IfSome result (λ k. Reads (state_of state.now) x sub k) }
 {
@@ -250,7 +250,7 @@ pub fn with_value(mut xs: Vec<AbsValue>, x: usize, k: AbsValue) -> Vec<AbsValue>
     xs
 }
 
-/// The values of the objects with another at a place, and nothing of its elements.
+/// The values of the objects with another at a place, without facts about its elements.
 fn replaced_in(alloc: Global, known: Known, x: usize, k: AbsValue) -> Result<AbsState, Stop>
     ensures { IfOk result (λ r. Replaces (Some (known_of known)) x k (state_of r)) }
 {
@@ -332,7 +332,7 @@ fn array_written(
     }
 }
 
-/// The state with a value in an element of object `x`, whose subscript lies in `sub` where that is known. Where there are others, each may
+/// The state with a value in an element of object `x`, whose subscript is in `sub` if that is known. If it may be one of several, each may
 /// also be what it was.
 ///
 /// Errors: memory ran out, or there is no such object.

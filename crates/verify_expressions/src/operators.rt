@@ -1,4 +1,4 @@
-//! Operators at their places: where undefined behaviour is not ruled out, the place is listed or the analysis stops.
+//! Operators at their places: if undefined behaviour is not ruled out, the place is recorded or the analysis stops.
 
 ghost use Rattle.std.specs.Prelude.{◌≡◌, ◌<◌, Contains, IfOk, IfSome, IsTrue, pos};
 ghost use Rattle.typing_spec.specs.Operators.{signed_type};
@@ -15,7 +15,7 @@ use tree::{PrefixOp, StepOp};
 use verify_intervals::{all_of, operation, sign, step};
 use verify_logic::{AbsValue, Interval};
 
-/// Tests whether undefined behaviour is admitted at the place.
+/// Tests whether undefined behaviour is allowed at the place.
 pub fn is_listed(scope: &Scope<'_>, at: Pos) -> bool
     ensures { IsTrue result → Contains scope.now.listed.now at }
 {
@@ -78,7 +78,7 @@ fn faulty(act: Undef, i: Interval, j: Interval) -> Interval {
 
 /// A binary operator (6.5.5 to 6.5.12).
 ///
-/// Errors: it may be undefined, and its place is not listed.
+/// Errors: it may be undefined, and its place is not recorded.
 pub fn operation_at(
     scope: &Scope<'_>,
     at: Pos,
@@ -105,7 +105,7 @@ pub fn operation_at(
 
 /// A sign (6.5.3.3).
 ///
-/// Errors: it may be undefined, and its place is not listed.
+/// Errors: it may be undefined, and its place is not recorded.
 pub fn sign_at(
     scope: &Scope<'_>,
     at: Pos,
@@ -140,9 +140,9 @@ fn signed_type(op: PrefixOp, ty: IntType) -> IntType
     }
 }
 
-/// One more, or one less (6.5.2.4, 6.5.3.1).
+/// An increment or a decrement (6.5.2.4, 6.5.3.1).
 ///
-/// Errors: it may be undefined, and its place is not listed.
+/// Errors: it may be undefined, and its place is not recorded.
 pub fn step_at(
     scope: &Scope<'_>,
     at: Pos,
@@ -167,7 +167,7 @@ pub fn step_at(
 
 /// A value is read (6.3.2.1).
 ///
-/// Errors: it may be indeterminate, and its place is not listed.
+/// Errors: it may be indeterminate, and its place is not recorded.
 pub fn read_at(scope: &Scope<'_>, at: Pos, k: AbsValue) -> Result<Interval, Stop>
     ensures { IfOk result (λ r. (r ≡ k.interval) × MayRead (frame_of scope.now) at k) }
 {
@@ -182,9 +182,9 @@ pub fn read_at(scope: &Scope<'_>, at: Pos, k: AbsValue) -> Result<Interval, Stop
     }
 }
 
-/// A subscript of an array of so many elements (6.5.2.1, 6.5.6p8).
+/// A subscript of an array of this number of elements (6.5.2.1, 6.5.6p8).
 ///
-/// Errors: it may lie outside, and its place is not listed.
+/// Errors: it may be outside, and its place is not recorded.
 pub fn subscript_at(scope: &Scope<'_>, at: Pos, i: Interval, n: u32) -> Result<(), Stop>
     ensures { IfOk result (λ u. Subscripts (frame_of scope.now) at i n) }
 {

@@ -11,7 +11,7 @@ use typed_ast::{Moment, Place};
 use verify_intervals::{conversion, single};
 use verify_logic::Interval;
 
-/// Where an element that is read stands.
+/// The position of an element that is read.
 pub fn position(a: &Place) -> Pos
     ensures { result ≡ position_of (place_of a.now) }
 {
@@ -31,7 +31,7 @@ pub fn value_stepped(moment: Moment, old: Interval, new: Interval) -> Interval
     }
 }
 
-/// The value of `?:`, which is 0 where that is void (6.5.15).
+/// The value of `?:`, which is 0 if that is void (6.5.15).
 pub fn choice_conversion(ty: Option<IntType>, i: Interval) -> Interval
     ensures { ConvertsOr ty i result }
 {
@@ -41,7 +41,7 @@ pub fn choice_conversion(ty: Option<IntType>, i: Interval) -> Interval
     }
 }
 
-/// What `rv_getbyte` gives.
+/// The values of `rv_getbyte`.
 pub fn got_byte() -> Interval
     ensures { result ≡ got }
 {

@@ -15,14 +15,14 @@ use typed_ast::{ObjectType, Storage};
 use verify_intervals::add_usize;
 use verify_logic::{ArrayArgument, Interval};
 
-/// How many string literals the program has.
+/// The number of string literals of the program.
 pub fn literal_count(scope: &Scope<'_>) -> usize
     ensures { result ≡ length (program_of scope.now.program.now).literals }
 {
     scope.program.literals.len()
 }
 
-/// The number in the store of the object that a name designates, where it is none of the array parameters.
+/// The number in the store of the object that a name designates, if it is no array parameter.
 pub fn object(scope: &Scope<'_>, what: Storage) -> Option<usize>
     ensures { IfSome result (λ x. Designates (frame_of scope.now) (storage_of what) x 0) }
 {
@@ -46,7 +46,7 @@ fn whole(scope: &Scope<'_>, what: Storage) -> Option<ArrayArgument>
     })
 }
 
-/// What array parameter `n` refers to.
+/// The referent of array parameter `n`.
 fn parameter(scope: &Scope<'_>, n: usize) -> Option<ArrayArgument>
     ensures { IfSome result (λ a. Designates (frame_of scope.now) (typed.parameter n) a.object a.depth) }
 {
@@ -56,7 +56,7 @@ fn parameter(scope: &Scope<'_>, n: usize) -> Option<ArrayArgument>
     }
 }
 
-/// What a name designates: an object, or the object or row to which an array parameter refers.
+/// The designation of a name: an object, or the object or row to which an array parameter refers.
 pub fn designated(scope: &Scope<'_>, what: Storage) -> Option<ArrayArgument>
     ensures { IfSome result (λ a. Designates (frame_of scope.now) (storage_of what) a.object a.depth) }
 {
@@ -68,7 +68,7 @@ pub fn designated(scope: &Scope<'_>, what: Storage) -> Option<ArrayArgument>
     }
 }
 
-/// The number of all objects, where it fits.
+/// The number of all objects, if it is representable.
 pub fn object_count(scope: &Scope<'_>) -> Option<usize>
     ensures { IfSome result (λ n. n ≡ length scope.now.outer.now + length scope.now.objects.now) }
 {
@@ -81,7 +81,7 @@ fn is_below(x: usize, n: usize) -> bool
     x < n
 }
 
-/// Tests whether there is an object `x`.
+/// Tests whether object `x` exists.
 pub fn is_object(scope: &Scope<'_>, x: usize) -> bool
     ensures { IsTrue result → x < length (shapes_of (frame_of scope.now)) }
 {
@@ -146,7 +146,7 @@ fn is_followed(lengths: &[u32]) -> bool
     lengths.len() == 1 && lengths[0] <= FOLLOWED_ELEMENTS
 }
 
-/// Where the subscript of an element of object `x` lies, if that is an array of one row whose elements are followed.
+/// The interval of the subscript of an element of object `x`, if that is an array of one row whose elements are tracked.
 pub fn followed_subscript(scope: &Scope<'_>, x: usize, i: Interval) -> Option<Interval>
     ensures { Subscribes result i (shape_of (frame_of scope.now) x) }
 {
@@ -159,7 +159,7 @@ pub fn followed_subscript(scope: &Scope<'_>, x: usize, i: Interval) -> Option<In
     }
 }
 
-/// Tests whether so many subscripts lead into object `x` to an element.
+/// Tests whether this number of subscripts leads to an element of object `x`.
 pub fn is_element(scope: &Scope<'_>, x: usize, depth: usize) -> bool
     ensures { IsTrue result → drop depth (shape_of (frame_of scope.now) x) ≡ [] }
 {
@@ -177,7 +177,7 @@ fn length_in(lengths: &[u32], depth: usize) -> Option<u32>
     }
 }
 
-/// The length of the array to which so many subscripts lead in object `x`.
+/// The length of the array to which this number of subscripts leads in object `x`.
 pub fn length_at(scope: &Scope<'_>, x: usize, depth: usize) -> Option<u32>
     ensures { IfSome result (λ n. drop depth (shape_of (frame_of scope.now) x) ≡ n ∷ drop (depth + 1) (shape_of (frame_of scope.now) x)) }
 {

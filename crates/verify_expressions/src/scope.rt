@@ -1,4 +1,4 @@
-//! In which call an expression stands.
+//! The call that an expression is in.
 
 use crate::memory::Memory;
 use crate::state::Known;
@@ -7,19 +7,19 @@ use std::alloc::Global;
 use typed_ast::{ObjectType, Program};
 use verify_logic::{AbsValue, ArrayArgument};
 
-/// What was shown of a function's body: entered so, it ends with such a value and leaves the objects so.
+/// What was shown of a function's body: entered with these objects, it ends with such a value and leaves such objects.
 #[derive(Drop)]
 pub struct Summary {
     /// The number of the function.
     pub function: usize,
     /// The lengths of each object that lives before the call.
     pub outer: Vec<Vec<u32>>,
-    /// What the array parameters refer to.
+    /// The referents of the array parameters.
     pub arrays: Vec<ArrayArgument>,
-    /// What is known of all objects as the call begins.
+    /// The facts about all objects as the call begins.
     pub entry: Known,
     pub value: AbsValue,
-    /// What is known of all objects as it ends.
+    /// The facts about all objects as it ends.
     pub left: Option<Known>,
 }
 
@@ -28,14 +28,14 @@ pub struct Summary {
 pub struct Scope<'a> {
     pub alloc: Global,
     pub program: &'a Program,
-    /// The places at which undefined behaviour is admitted.
+    /// The places at which undefined behaviour is allowed.
     pub listed: &'a [Pos],
     pub summaries: &'a [Summary],
     /// The lengths of each object that lived before the call.
     pub outer: &'a [Vec<u32>],
     /// The objects of the call.
     pub objects: &'a [ObjectType],
-    /// What the array parameters of the call refer to.
+    /// The referents of the call's array parameters.
     pub arrays: &'a [ArrayArgument],
     pub memory: &'a Memory,
 }

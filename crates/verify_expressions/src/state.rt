@@ -5,15 +5,15 @@ ghost use Rattle.verify_expressions.specs.Views.{state_of};
 
 use verify_logic::{AbsValue, Fact};
 
-/// What is known of each object by its number in the store, and of single elements of arrays of one row.
+/// The facts about each object by its number in the store, and about single elements of arrays of one row.
 #[derive(Drop)]
 pub struct Known {
     pub objects: Vec<AbsValue>,
-    /// At most one for each element. Leaving one out loses what is known of it, and nothing else.
+    /// At most one for each element. Leaving one out loses the fact about it, and nothing else.
     pub facts: Vec<Fact>,
 }
 
-/// What is known of all objects, or that no run comes here.
+/// The facts about all objects, or that no run comes here.
 #[derive(Drop)]
 pub struct AbsState {
     pub objects: Option<Known>,

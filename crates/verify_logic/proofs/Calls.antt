@@ -81,11 +81,11 @@ enter_covers fr f g passed s known ks is ps a e h = record {
 
 -- ---- the objects of the call end
 
-pub leave_reaches : (fr : Frame) (ps : List ArrayArgument) (objects : List ObjectType) (o after : Option Known) (known : Known) (caller s : State) → Cuts (length (shapes_of fr)) o after → Reaches fr (Some known) caller → CoversState (shapes_of fr) ps objects o s →
-    Reaches fr after (leave caller s)
-leave_reaches fr ps objects None after known caller s q h k = absurd k
-leave_reaches fr ps objects (Some left) None known caller s q h k = absurd q
-leave_reaches fr ps objects (Some left) (Some first) known caller s q h k =
+pub leave_reaches : (fr : Frame) (ps : List ArrayArgument) (objects : List ObjectType) (o after : Option Known) (known : Known) (value : Option ℤ) (caller s : State) → Cuts (length (shapes_of fr)) o after → Reaches fr (Some known) caller → CoversState (shapes_of fr) ps objects o s →
+    Reaches fr after (leave caller value s)
+leave_reaches fr ps objects None after known value caller s q h k = absurd k
+leave_reaches fr ps objects (Some left) None known value caller s q h k = absurd q
+leave_reaches fr ps objects (Some left) (Some first) known value caller s q h k =
     let O : List AbsValue → Type 0 = λ xs. ObjectsAre xs (shapes_of fr) (take (length (shapes_of fr)) s.store) in
     let P : ℕ → Type 0 = λ n. ObjectsAre first.objects (shapes_of fr) (take n s.store) in
     let F : ℕ → Type 0 = λ n. FactsAre first.facts (take n s.store) in
@@ -132,8 +132,8 @@ summary_rule fr f g is ps known ks n a after eg en ea ef eo ep le left_is = reco
         subst P (sym eg) (leaving s c (nat_eq f fr.program.main) (body_of fr.program (calling fr.program d) g s1) (subst R eo (subst Q ef done)))
       where
         leaving : (s : State) → Reaches fr (Some known) s → (b : Bool) (r : Run Flow) → Ends fr.listed (then_do r (λ flow s2. Goes (value_left b flow) s2)) (λ v s2. ValueIs a.value v × CoversState (shapes_of fr) a.arrays g.objects a.left s2) →
-            Ends fr.listed (then_do r (λ flow s2. Goes (value_left b flow) (leave s s2))) (λ v s2. ValueIs a.value v × Reaches fr after s2)
-        leaving s c b (Goes flow s2) q = (q.0, leave_reaches fr a.arrays g.objects a.left after known s s2 left_is c q.1)
+            Ends fr.listed (then_do r (λ flow s2. Goes (value_left b flow) (leave s (value_left b flow) s2))) (λ v s2. ValueIs a.value v × Reaches fr after s2)
+        leaving s c b (Goes flow s2) q = (q.0, leave_reaches fr a.arrays g.objects a.left after known (value_left b flow) s s2 left_is c q.1)
         leaving s c b (Stops (Ended k) s2) q = tt
         leaving s c b (Stops (Undefined act place) s2) q = q
         leaving s c b (Stops TicksUsed s2) q = tt

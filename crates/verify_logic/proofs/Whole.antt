@@ -29,7 +29,7 @@ only_at listed (Stops (Ended n) s) h = tt
 only_at listed (Stops (Undefined act at) s) h = h
 only_at listed (Stops TicksUsed s) h = tt
 
-leaving : (listed : List Pos) (r : Run Flow) (value : Flow → Option ℤ) (caller : State) (post : Option ℤ → State → Type 0) → Ends listed (then_do r (λ flow s. Goes (value flow) s)) post → Ends listed (then_do r (λ flow s. Goes (value flow) (leave caller s))) Anything
+leaving : (listed : List Pos) (r : Run Flow) (value : Flow → Option ℤ) (caller : State) (post : Option ℤ → State → Type 0) → Ends listed (then_do r (λ flow s. Goes (value flow) s)) post → Ends listed (then_do r (λ flow s. Goes (value flow) (leave caller (value flow) s))) Anything
 leaving listed (Goes flow s) value caller post h = tt
 leaving listed (Stops (Ended n) s) value caller post h = tt
 leaving listed (Stops (Undefined act at) s) value caller post h = h

@@ -1,5 +1,5 @@
 -- Parts of a run within which the calls that are active stay the same, and no sum of their weights is greater than allowed.
-use Rattle.std.proofs.Common.{◌≡◌, ℕ, zero, suc, ◌+◌, ◌≤◌, List, [], ◌∷◌, ◌++◌, Bool, true, false, sym, ap, subst, arith}
+use Rattle.std.proofs.Common.{◌≡◌, ℕ, zero, suc, ◌+◌, ◌≤◌, List, [], ◌∷◌, ◌++◌, Option, Bool, true, false, sym, ap, subst, arith}
 use Rattle.csem_events.specs.Events.{Event}
 use Rattle.csem.specs.History.{Entry, Did, Entered, Left, active, without_innermost, sum_of, greatest_sum}
 use Rattle.csem.specs.Machine.{State, Ending, Run, Goes, Stops, then_do, choose, tick_of, tick, ticks}
@@ -42,13 +42,13 @@ did_has k e h m = record { are_active = m.are_active; within = omega (arith, sum
 abbrev pub inside : Limits → ℕ → Limits
 inside k f = record k { stack = f ∷ k.stack }
 
-pub entered_has : (k : Limits) (f : ℕ) (h : List Entry) → k.weight f + sum_of k.weight k.stack ≤ k.most → Has k h → Has (inside k f) (Entered f ∷ h)
-entered_has k f h fits m =
+pub entered_has : (k : Limits) (f : ℕ) (arguments : List (Option ℕ)) (h : List Entry) → k.weight f + sum_of k.weight k.stack ≤ k.most → Has k h → Has (inside k f) (Entered f arguments ∷ h)
+entered_has k f arguments h fits m =
     let e : sum_of k.weight (active h) ≡ sum_of k.weight k.stack = ap (sum_of k.weight) m.are_active in
     record { are_active = ap (λ fs. f ∷ fs) m.are_active; within = omega (arith, fits, e, m.within) }
 
-pub left_has : (k : Limits) (f : ℕ) (h : List Entry) → Has (inside k f) h → Has k (Left ∷ h)
-left_has k f h m = record {
+pub left_has : (k : Limits) (f : ℕ) (result : Option ℕ) (h : List Entry) → Has (inside k f) h → Has k (Left result ∷ h)
+left_has k f result h m = record {
   are_active = ap without_innermost m.are_active;
   within = omega (arith, sum_without k.weight (active h), sum_within k.weight h, m.within);
 }

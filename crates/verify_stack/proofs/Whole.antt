@@ -1,12 +1,12 @@
 -- By usages of functions that meet their inequalities, a run takes no more than the usage of main.
 use Rattle.std.proofs.Common.{◌≡◌, ℕ, zero, suc, ◌+◌, ◌-◌, ◌≤◌, List, [], ◌∷◌, Option, Some, None, Result, Ok, Err, Bool, refl, ap, ◌∙◌, subst, length, map, arith}
-use Rattle.std.specs.Prelude.{slice_get, nat_eq, IfOk}
+use Rattle.std.specs.Prelude.{option_map, slice_get, nat_eq, IfOk}
 use Rattle.typing_spec.specs.Program.{Function, Program}
 use Rattle.csem.specs.History.{Entry, active, weight_or_none, weight_in, sum_of, greatest_sum}
 use Rattle.csem.specs.Machine.{State, Run, Goes, Stops, Ended, TicksUsed, then_do, ticks}
 use Rattle.csem.specs.Expressions.{Passed}
 use Rattle.csem.specs.Statements.{Flow}
-use Rattle.csem.specs.Meaning.{enter, leave, value_left, body_of, call_defined, calling, start, status_of, end_with, cstep, last_of}
+use Rattle.csem.specs.Meaning.{enter, leave, word_of, words_of, value_left, body_of, call_defined, calling, start, status_of, end_with, cstep, last_of}
 use Rattle.verify_stack.specs.Calls.{statement_calls}
 use Rattle.verify_stack.specs.Usages.{FitsIn, EachFits, Covers, CoversIfSaid, EachCovers, AreUsages}
 use Rattle.verify_stack.specs.declared.bounds.Bound.{Bound}
@@ -33,8 +33,8 @@ stays_last k (Stops e s) m = m
 
 -- a call ends
 then_left : (k : Limits) (f : ℕ) (is_main : Bool) (caller : State) (r : Run Flow) → Stays (inside k f) r
-    → Stays k (then_do r (λ flow s. Goes (value_left is_main flow) (leave caller s)))
-then_left k f is_main caller (Goes flow s) m = left_has k f s.history m
+    → Stays k (then_do r (λ flow s. Goes (value_left is_main flow) (leave caller (value_left is_main flow) s)))
+then_left k f is_main caller (Goes flow s) m = left_has k f (option_map word_of (value_left is_main flow)) s.history m
 then_left k f is_main caller (Stops e s) m = m
 
 module _ (p : Program) (sizes : List ℕ) (usages : List (Option ℕ)) (are : AreUsages p sizes usages) (most : ℕ) where
@@ -80,7 +80,7 @@ module _ (p : Program) (sizes : List ℕ) (usages : List (Option ℕ)) (are : Ar
       record {
         keeps = λ s m.
             then_left (limits stack) f (nat_eq f p.main) s (body_of p (calling p d) g (enter f g passed s))
-            ((body_keeps d ih stack f usage found.0 g found.1 c fits).keeps (enter f g passed s) (entered_has (limits stack) f s.history room m));
+            ((body_keeps d ih stack f usage found.0 g found.1 c fits).keeps (enter f g passed s) (entered_has (limits stack) f (words_of passed) s.history room m));
       }
 
   calls_keep : (d : ℕ) → CallsKeep d

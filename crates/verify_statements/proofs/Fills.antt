@@ -1,4 +1,4 @@
--- First values of objects of a block, once each part is shown.
+-- First values of objects of a block, from the results for each part.
 use Rattle.std.proofs.Common.{◌≡◌, ◌≤◌, ◌<◌, ◌+◌, ◌-◌, ◌++◌, ℕ, zero, suc, ℤ, pos, List, [], ◌∷◌, map, length, refl, sym, ap, subst, ◌∙◌, arith, add-one}
 use Rattle.std.specs.Prelude.{Option, Some, None, Bool, true, slice_get, ◌*◌}
 use Rattle.ctypes.specs.declared.types.IntType.{IntType}
@@ -32,7 +32,7 @@ use Rattle.verify_statements.specs.Fills.{Takes, full, Filled, Fills, FirstParts
 use Rattle.verify_statements.proofs.Work.{work_initialiser, work_initialisers}
 use Rattle.verify_statements.proofs.Quiet.{Stays, Same, evaluate_stays}
 
--- ---- stores with a tree put into them
+-- ---- stores with a tree inserted
 
 change_twice : (row : Row) (i : ℕ) (f g h : Tree → Tree) → ((t : Tree) → g (f t) ≡ h t) → change_part (change_part row i f) i g ≡ change_part row i h
 change_twice no_parts i f g h e = refl
@@ -43,7 +43,7 @@ change_in_twice : (t : Tree) (i : ℕ) (f g h : Tree → Tree) → ((t : Tree) �
 change_in_twice (Element v) i f g h e = refl
 change_in_twice (Array row) i f g h e = ap (λ row. Array row) (change_twice row i f g h e)
 
--- a part of what was put
+-- a part of what was inserted
 put_into : (path : List ℕ) (i : ℕ) (u new t : Tree) → put_at (path ++ i ∷ []) new (put_at path u t) ≡ put_at path (change_in u i (put_at [] new)) t
 put_into [] i u new t = refl
 put_into (k ∷ path) i u new t = change_in_twice t k (put_at path u) (put_at (path ++ i ∷ []) new) (put_at path (change_in u i (put_at [] new))) (λ t. put_into path i u new t)
@@ -57,7 +57,7 @@ in_store [] x path path2 u new v e = refl
 in_store (t ∷ store) zero path path2 u new v e = ap (λ t. t ∷ store) (e t)
 in_store (t ∷ store) (suc x) path path2 u new v e = ap (λ rest. t ∷ rest) (in_store store x path path2 u new v e)
 
--- what is there is put there
+-- what is there is inserted there
 change_same : (row : Row) (i : ℕ) (t : Tree) (f : Tree → Tree) → part_of row i ≡ Some t → f t ≡ t → change_part row i f ≡ row
 change_same no_parts i t f e d = refl
 change_same (and_part u row) zero t f e d = let q : u ≡ t = cc e in let P : Tree → Type 0 = λ v. f v ≡ v in ap (λ v. and_part v row) (subst P (sym q) d)
@@ -123,7 +123,7 @@ zero_is j m (n ∷ lengths) = (parts_repeated n (filled (Some (pos 0)) lengths),
 wider : (i j : Interval) → Below i j → (lengths : List ℕ) (t : Tree) → TreeIs (full i) lengths t → TreeIs (full j) lengths t
 wider i j b lengths t h = tree_entails (full i) (full j) lengths (entails_rule (full i) (full j) (λ e. absurd (cc e)) b) t h
 
--- ---- a part of an object of which nothing is said
+-- ---- a part of an object of which nothing is known
 
 pub part_put : (fr : Frame) (o : Option Known) (x : ℕ) (k : AbsValue) (j : Interval) (rest : List ℕ) (r : Reference) (new : Tree) (s : State) → Takes o x k → Entails (full j) k → Refers fr x rest r → Reaches fr o s → TreeIs (full j) rest new →
     Reaches fr o (record s { store = put s.store r new })
@@ -224,7 +224,7 @@ module _ (fr : Frame) (x : ℕ) (o : Option Known) (k : AbsValue) (h : Takes o x
         zeros_fill n m i inner j2 r before row s2 f z e g c2.0 (c2.1 ∙ es) ep (first_more (TreeIs (full j) inner) (TreeIs (full j2) inner) (wider j j2 b inner) row i hp));
   }
 
-  -- where there is one for each
+  -- if there is one for each
   pub all_filled : (t : IntType) (n : ℕ) (inner : List ℕ) (j : Interval) → FillsAll fr typed.no_initialisers t x n n inner o j j
   all_filled t n inner j = record {
     runs = λ d m r before row s e g c es ep hp.
@@ -262,7 +262,7 @@ module _ (fr : Frame) (x : ℕ) (o : Option Known) (k : AbsValue) (h : Takes o x
           weaker fr.listed (initialise_all fr.program (calling fr.program d) all t n 0 inner r s) (λ u s2. Reaches fr o s2 × FilledRow j n inner s.store s2.store r) (λ u s2. Reaches fr o s2 × Filled j (n ∷ inner) s.store s2.store r)
           (ha.runs d n r s.store at.0 s (omega arith) g c at.2 at.1 tt) (λ u s2 q. (q.0, record { tree = Array q.1.row; is = (q.1.long, q.1.each); put_there = q.1.put_there }))
 
-  -- ---- texts (6.7.9p14)
+  -- ---- strings (6.7.9p14)
 
   characters_fill : (t : IntType) (n m i : ℕ) (text : List ℕ) (j : Interval) (r : Reference) (before : Store) (row : Row) (s : State) → Entails (full j) k → In j (pos 0) → ((v : ℤ) → In j (converted t v)) → i + m ≡ n → Refers fr x (n ∷ []) r → Reaches fr o s →
       s.store ≡ put before r (Array row) → parts row ≡ n → FirstParts (TreeIs (full j) []) i row → Reaches fr o (characters t m i text r s) × FilledRow j n [] before (characters t m i text r s).store r

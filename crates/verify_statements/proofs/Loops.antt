@@ -1,4 +1,4 @@
--- Loops, once each part is shown.
+-- Loops, from the results for each part.
 use Rattle.std.proofs.Common.{◌≡◌, ℕ, zero, suc, ℤ, subst}
 use Rattle.std.specs.Prelude.{Option, Some, None}
 use Rattle.typing_spec.specs.Program as typed
@@ -34,7 +34,7 @@ while_as fr e a o w h = record {
       (λ m. h.runs d m (record s { clock = m }) c);
 }
 
--- left by the first turn
+-- left by the first iteration
 abbrev pub first_ways : Ways → Ways
 first_ways w = record { normal = w.broken; broken = None; continued = None; returned = w.returned; value = w.value }
 
@@ -77,7 +77,7 @@ for_as fr declared start test step a o before o2 w hd jb jc jr hs h = record {
     falls Continued s q = jc.is fr s q
     falls (Returned v) s q = jr.is fr s q.1
 
--- ---- turns that are followed one by one
+-- ---- iterations that are analysed one by one
 
 module _ (fr : Frame) (test step : Option Value) (a : Statement) (o on off : Option Known) (w : Ways) (behind next : Option Known) (all : Ways) (ht : TestsOr fr test o on off) (ha : Executes fr a on w) (normal : Implies w.normal behind)
     (continued : Implies w.continued behind) (hs : EvaluatesOr fr step behind next) (broken : Implies w.broken all.normal) (ends : Implies off all.normal)
@@ -106,7 +106,7 @@ module _ (fr : Frame) (test step : Option Value) (a : Statement) (o on off : Opt
 loops_from : (fr : Frame) (test step : Option Value) (a : Statement) (o o2 : Option Known) (w : Ways) → Implies o o2 → Loops fr test step a o2 w → Loops fr test step a o w
 loops_from fr test step a o o2 w f h = record { runs = λ d n s c. h.runs d n s (f.is fr s c) }
 
--- left by the end of one turn
+-- left by the end of one iteration
 abbrev pub turn_ways : Option Known → Ways → Ways
 turn_ways out w = record { normal = None; broken = out; continued = None; returned = w.returned; value = w.value }
 

@@ -1,4 +1,4 @@
--- Expressions that change nothing leave the state as it is, but for the clock.
+-- Expressions without side effects leave the state as it is, except for the clock.
 use Rattle.std.proofs.Common.{◌≡◌, ℕ, zero, suc, ℤ, pos, negsuc, refl, ◌∙◌}
 use Rattle.std.specs.Prelude.{Bool, true, false, ◌&&◌, Option, Some, None, Result, Ok, Err, nat_lt}
 use Rattle.srcset.specs.declared.refusal.Pos.{Pos}

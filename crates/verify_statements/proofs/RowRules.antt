@@ -1,4 +1,4 @@
--- First values of arrays of one row, once each element is shown.
+-- First values of arrays of one row, from the results for each element.
 use Rattle.std.proofs.Common.{◌≡◌, ◌≤◌, ◌<◌, ◌+◌, ◌-◌, ◌++◌, ℕ, zero, suc, ℤ, pos, List, [], ◌∷◌, map, length, refl, sym, ap, subst, ◌∙◌, arith, add-one}
 use Rattle.std.proofs.lemmas.Int.{ints}
 use Rattle.std.specs.Prelude.{◌-ℤ◌, Option, Some, None, true, slice_get, slice_set, ◌*◌}
@@ -107,7 +107,7 @@ pub last_begins : (fr : Frame) (xs : List held.Initialiser) (x n i : ℕ) (o o2 
 last_begins fr [] x n i o o2 e h = none_begin fr x n i o o2 h
 last_begins fr (a ∷ xs) x n i o o2 e h = absurd (cc e)
 
--- ---- texts (6.7.9p14)
+-- ---- strings (6.7.9p14)
 
 pub spells_end : (fr : Frame) (t : IntType) (text : List ℕ) (x n i : ℕ) (o : Option Known) → n ≤ i → RowSpells fr t text x n i o o
 spells_end fr t text x n i o le = record { is = λ m r s e row c. at r m s e c }

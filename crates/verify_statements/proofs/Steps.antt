@@ -48,7 +48,7 @@ defined_as fr n x u e o o2 i o3 r o4 k w ew ex t es one h cv wr =
     let Q : List ℕ → Type 0 = λ l. Initialises fr (typed.one_value u e) (t.0).element x l o2 o4 in
     subst P (sym ew) (define_rule fr n x t.0 (typed.one_value u e) o o2 o4 k ex t.1 one (subst Q z (one_value_rule fr u e (t.0).element x o2 i o3 r o4 h cv wr)))
 
--- ---- one statement behind others
+-- ---- one statement after others
 
 pub begun_some : (fr : Frame) (first count : ℕ) (all : Statements) (o o2 : Option Known) (r : Result Left Stop) → Renews fr first count o o2 → IfOk r (λ l. ExecutesAll fr all o2 (ways_of l)) →
     IfOk r (λ l. Executes fr (typed.block first count all) o (ways_of l))
@@ -121,7 +121,7 @@ tested_or_some fr e x o r q h = let P : Option held_value.Value → Type 0 = λ 
 pub never_executes : (fr : Frame) (a : Statement) (o : Option Known) (w : Ways) → o ≡ None → Executes fr a o w
 never_executes fr a o w q = let P : Option Known → Type 0 = λ o. Executes fr a o w in subst P (sym q) (record { runs = λ d s c. absurd c })
 
--- a loop that was met before
+-- a loop that was analysed before
 
 pub loops_some : (fr : Frame) (test step : Option Value) (a : Statement) (o2 o : Option Known) (q : Option Left) (l : Left) → q ≡ Some l → o2 ≡ o → IfSome q (λ r. Loops fr test step a o2 (ways_of r)) → Loops fr test step a o (ways_of l)
 loops_some fr test step a o2 o q l eq eo h =

@@ -1,4 +1,4 @@
--- A switch, once each part is shown.
+-- A switch, from the results for each part.
 use Rattle.std.proofs.Common.{◌≡◌, ◌<◌, ◌∙◌, ◌++◌, ℕ, zero, suc, ℤ, List, [], ◌∷◌, map, length, get_or, refl, sym, subst, arith}
 use Rattle.std.specs.Prelude.{Option, Some, None, Bool, true, false}
 use Rattle.ctypes.specs.declared.types.IntType.{IntType}

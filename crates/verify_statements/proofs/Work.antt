@@ -1,4 +1,4 @@
--- A measure of statements, so that analysing one ends.
+-- A measure of statements, which shows that their analysis ends.
 use Rattle.std.specs.Prelude.{ℕ, ◌+◌}
 use Rattle.typing_spec.specs.Program as typed
 use Rattle.typing_spec.specs.Program.{Initialiser, Initialisers, Statement, Statements}

@@ -10,7 +10,7 @@ use Rattle.verify_logic.specs.declared.abstract_values.Interval.{Interval}
 use Rattle.verify_logic.specs.declared.abstract_values.AbsValue.{AbsValue}
 use Rattle.verify_logic.specs.States.{Known, Frame, EachPart, TreeIs, Reaches, Ends, Refers, Contents, Replaces}
 
--- where nothing is said of object x but that its elements are such values
+-- if the only fact about object x is that its elements are such values
 pub record Takes (o : Option Known) (x : ℕ) (k : AbsValue) : Type 0 where
   pub contents : Contents o x k
   pub replaces : Replaces o x k o
@@ -40,16 +40,16 @@ pub record FilledRow (j : Interval) (n : ℕ) (inner : List ℕ) (before after :
   pub each : EachPart (TreeIs (full j) inner) row
   pub put_there : after ≡ put before r (Array row)
 
--- where the first i of n elements or rows have their values in the interval, these initialisers give the others theirs
+-- if the first i of n elements or rows have their values in the interval, these initialisers give the others theirs
 pub record FillsAll (fr : Frame) (all : Initialisers) (t : IntType) (x n i : ℕ) (inner : List ℕ) (o : Option Known) (j j2 : Interval) : Type 0 where
   pub runs : (d m : ℕ) (r : Reference) (before : Store) (row : Row) (s : State) → i + m ≡ n → Refers fr x (n ∷ inner) r → Reaches fr o s → s.store ≡ put before r (Array row) → parts row ≡ n → FirstParts (TreeIs (full j) inner) i row →
       Ends fr.listed (initialise_all fr.program (calling fr.program d) all t m i inner r s) (λ u s2. Reaches fr o s2 × FilledRow j2 n inner before s2.store r)
 
--- where no initialiser is left
+-- if no initialiser is left
 pub record FillsEnd (fr : Frame) (t : IntType) (x n i : ℕ) (inner : List ℕ) (o : Option Known) (j j2 : Interval) : Type 0 where
   pub rest : FillsAll fr no_initialisers t x n i inner o j j2
 
--- where none of them has its values yet
+-- if none of them has its values yet
 pub record FillsFrom (fr : Frame) (given : Initialisers) (t : IntType) (x n : ℕ) (inner : List ℕ) (o : Option Known) (j : Interval) : Type 0 where
   pub first : Interval
   pub all : FillsAll fr given t x n 0 inner o first j

@@ -1,4 +1,4 @@
--- Expressions that change nothing.
+-- Expressions without side effects.
 use Rattle.std.specs.Prelude.{Bool, true, false, ◌&&◌}
 use Rattle.typing_spec.specs.Program as typed
 use Rattle.typing_spec.specs.Program.{Value, Place}

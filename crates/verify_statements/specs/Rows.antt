@@ -33,6 +33,6 @@ pub record RowSpells (fr : Frame) (t : IntType) (text : List ℕ) (x n i : ℕ) 
 pub record RowFills (fr : Frame) (a : Initialiser) (t : IntType) (x n : ℕ) (o o2 : Option Known) : Type 0 where
   pub runs : (d : ℕ) (r : Reference) (s : State) → IsRow fr x n r → Reaches fr o s → Ends fr.listed (initialise fr.program (calling fr.program d) a t (n ∷ []) r s) (λ u s2. Reaches fr o2 s2)
 
--- what is known may be said so of an array of n elements
+-- the state of an array of n elements may be described in this way
 pub record RowBecomes (fr : Frame) (x n : ℕ) (o o2 : Option Known) : Type 0 where
   pub is : (s : State) → shape_of fr x ≡ n ∷ [] → Reaches fr o s → Reaches fr o2 s

@@ -43,7 +43,7 @@ is_label typed.continue = false
 is_label typed.return_nothing = false
 is_label (typed.return_value t e) = false
 
--- this statement of a switch may be jumped to with what is known before them, or follows what was executed so far
+-- this statement of a switch may be jumped to from the state before them, or follows what was executed so far
 pub record EntersOne (fr : Frame) (entry : Option Known) (so_far : Ways) (a : Statement) (w : Ways) : Type 0 where
   pub leads : (more : Statements) (out : Ways) → Enters fr entry w more out → Enters fr entry so_far (typed.and_statement a more) out
 

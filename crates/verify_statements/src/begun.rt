@@ -1,4 +1,4 @@
-//! Objects of a block begin, and get their first values (6.2.4p6, 6.7.9).
+//! Objects of a block are created, and get their first values (6.2.4p6, 6.7.9).
 
 ghost use Rattle.std.specs.Prelude.{◌≡◌, ◌∷◌, [], length, map, IfOk, IsTrue, Some, slice_get};
 ghost use Rattle.typing_spec.specs.Types as types;
@@ -46,7 +46,7 @@ fn renewed(scope: &Scope<'_>, state: AbsState, n: usize) -> Result<AbsState, Sto
     Ok(state2)
 }
 
-/// So do `count` objects from number `first` on.
+/// The same for `count` objects from number `first` on.
 pub fn all_renewed(
     scope: &Scope<'_>,
     state: AbsState,
@@ -106,7 +106,7 @@ fn defined_by(
     Ok(only(state3))
 }
 
-/// Object `n` of the call gets a first value, of which the interval holds all elements.
+/// Object `n` of the call gets a first value; the interval contains all its elements.
 fn array_begun(
     scope: &Scope<'_>,
     state: AbsState,
@@ -173,7 +173,7 @@ fn object_defined(
     }
 }
 
-/// A list, a text or a value in braces for the object (6.7.9p14, p17).
+/// A list, a string or a value in braces for the object (6.7.9p14, p17).
 fn array_defined(
     scope: &Scope<'_>,
     state: AbsState,

@@ -1,4 +1,4 @@
-//! Side effects of expressions (5.1.2.3p2): which have none.
+//! Side effects of expressions (5.1.2.3p2): the expressions that have none.
 
 ghost use Rattle.std.specs.Prelude.{◌≡◌, ◌&&◌};
 ghost use Rattle.typed_ast.specs.View.{place_of, value_of};

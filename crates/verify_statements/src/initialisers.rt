@@ -1,4 +1,4 @@
-//! First values of arrays of a block (6.7.9). While an array gets them nothing is said of it; behind them each element has one.
+//! First values of arrays of a block (6.7.9). While an array gets them nothing is known of it; after them each element has one.
 
 ghost use Rattle.std.specs.Prelude.{◌≡◌, ◌∷◌, [], map, pos, IfOk, IsTrue};
 ghost use Rattle.typing_spec.specs.Program as typed;
@@ -15,7 +15,7 @@ use verify_expressions::{AbsState, Scope, Stop, content_at, copied, evaluate, im
 use verify_intervals::{all_of, conversion, entails, hull, initialised, nothing, single};
 use verify_logic::{AbsValue, Interval};
 
-/// An object that gets its first value: what is known then, the object, what may be in it, and the type of its elements.
+/// An object that gets its first value: the state then, the object, the interval of its values, and the type of its elements.
 #[derive(Clone, Copy)]
 pub struct Filling<'a> {
     pub state: &'a AbsState,
@@ -24,7 +24,7 @@ pub struct Filling<'a> {
     pub element: IntType,
 }
 
-/// What anything is.
+/// The interval of all values.
 pub fn anything() -> AbsValue {
     AbsValue {
         initialised: false,
@@ -35,7 +35,7 @@ pub fn anything() -> AbsValue {
     }
 }
 
-/// Tests that the state says nothing of object `x` but this.
+/// Tests that the state has no other fact about object `x`.
 fn taking(alloc: Global, wide: AbsState, x: usize, k: AbsValue) -> Result<AbsState, Stop>
     ensures same { IfOk result (λ r. state_of r ≡ state_of wide) }
     ensures takes { IfOk result (λ r. Takes (state_of r) x k) }
@@ -56,7 +56,7 @@ fn taking(alloc: Global, wide: AbsState, x: usize, k: AbsValue) -> Result<AbsSta
     Ok(wide)
 }
 
-/// The state that says nothing of object `x` but this.
+/// The state that has no other fact about object `x`.
 ///
 /// Errors: memory ran out, or there is no such object.
 pub fn opened(alloc: Global, state: &AbsState, x: usize, k: AbsValue) -> Result<AbsState, Stop>
@@ -92,7 +92,7 @@ fn fits(j: Interval, k: AbsValue) -> bool
     entails(whole, k)
 }
 
-/// One value, by an expression that changes nothing.
+/// One value, by an expression without side effects.
 fn one_filled(
     scope: &Scope<'_>,
     filling: &Filling<'_>,
@@ -150,7 +150,7 @@ fn text_filled(
     Ok(j)
 }
 
-/// The elements or rows that no initialiser is for: they are zero.
+/// The elements or rows without an initialiser: they are zero.
 fn rest_filled(
     scope: &Scope<'_>,
     filling: &Filling<'_>,
@@ -236,7 +236,7 @@ fn braces_filled(
 
 /// The interval of the values that an object, row or element of these lengths gets.
 ///
-/// Errors: memory ran out, something undefined is not ruled out, or the analysis does not follow, as where an initialiser assigns or calls.
+/// Errors: memory ran out, undefined behaviour is not ruled out, or the analysis is not possible, for example if an initialiser assigns or calls.
 #[cycle(fill)]
 pub fn filled(
     scope: &Scope<'_>,

@@ -91,7 +91,7 @@ pub fn defaulted(scope: &Scope<'_>, state: AbsState) -> Result<Left, Stop>
     Ok(only(state))
 }
 
-/// What is known behind a switch: where no label is `default`, also what was known before its statements.
+/// The state after a switch: if no label is `default`, also the state before its statements.
 ///
 /// Errors: memory ran out.
 pub fn behind_switch(

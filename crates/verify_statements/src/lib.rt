@@ -1,4 +1,4 @@
-//! The analysis of statements: how each may be left, and what is known then. Loops are shown by an invariant that is guessed and then
+//! The analysis of statements: how each may be left, and the state then. An invariant of a loop is guessed and then
 //! tested.
 #![tactic(auto)]
 

@@ -1,4 +1,4 @@
-//! First values of short arrays of one row, element by element (6.7.9p14, p17, p21). What each element gets is known behind them, and an
+//! First values of short arrays of one row, element by element (6.7.9p14, p17, p21). After them the value of each element is known, and an
 //! initialiser may assign and call.
 
 ghost use Rattle.std.specs.Prelude.{◌≡◌, ◌-ℤ◌, ◌∷◌, [], map, pos, IfOk, IfSome, IsTrue, Some};
@@ -18,7 +18,7 @@ use verify_expressions::{
 use verify_intervals::{conversion, initialised, single};
 use verify_logic::Interval;
 
-/// How much may be known of single elements where an array is filled so.
+/// The limit on facts about single elements when an array is filled in this way.
 const ROOM: usize = 512;
 
 fn single_index(n: u32) -> Interval
@@ -47,7 +47,7 @@ fn element_begun(
     Ok(state2)
 }
 
-/// What element `index` gets.
+/// The value that element `index` gets.
 fn element_listed(
     scope: &Scope<'_>,
     state: AbsState,
@@ -112,7 +112,7 @@ fn row_begun(
     Ok(last)
 }
 
-/// An element gets a character of a text, or 0 past its end.
+/// An element gets a character of a string, or 0 past its end.
 fn character_begun(
     scope: &Scope<'_>,
     state: AbsState,
@@ -134,7 +134,7 @@ fn single_byte(c: u8) -> Interval
     Interval { low: v, high: v }
 }
 
-/// The elements become the characters of a text, and the others 0.
+/// The elements become the characters of a string, and the others 0.
 fn row_spelled(
     scope: &Scope<'_>,
     state: AbsState,
@@ -198,7 +198,7 @@ fn spelled(
 
 /// Object `x`, an array of `n` elements, gets a first value.
 ///
-/// Errors: memory ran out, something undefined is not ruled out, a call is not known yet, or the analysis does not follow.
+/// Errors: memory ran out, undefined behaviour is not ruled out, a call was not analysed yet, or the analysis is not possible.
 pub fn row_filled(
     scope: &Scope<'_>,
     state: AbsState,
@@ -217,7 +217,7 @@ pub fn row_filled(
     }
 }
 
-// ---- which arrays are filled so
+// ---- which arrays are filled in this way
 
 fn is_one(i: &Initialiser) -> bool {
     match i {
@@ -264,7 +264,7 @@ fn are_simple(all: &[Initialiser]) -> bool {
     true
 }
 
-/// Tests whether the first value assigns to nothing and calls nothing, and so may be taken as a whole.
+/// Tests whether the first value has no side effects, and so may be taken as a whole.
 fn is_simple(i: &Initialiser) -> bool {
     match i {
         Initialiser::One(_, _) => true,
@@ -274,7 +274,7 @@ fn is_simple(i: &Initialiser) -> bool {
     }
 }
 
-/// Tests whether there is room for what is known of so many elements more.
+/// Tests whether there is room for facts about this many further elements.
 fn has_room(state: &AbsState) -> bool {
     match &state.objects {
         None => true,
@@ -291,7 +291,7 @@ fn row_length(lengths: &[u32]) -> Option<u32>
     if more.is_empty() { Some(*n) } else { None }
 }
 
-/// The length of a short array of one row with such a first value, if that is followed element by element.
+/// The length of a short array of one row with such a first value, if that is analysed element by element.
 pub fn short_row(
     scope: &Scope<'_>,
     state: &AbsState,
@@ -345,7 +345,7 @@ fn known_completed(scope: &Scope<'_>, known: Known, x: usize, n: u32) -> AbsStat
     }
 }
 
-/// The state in which each element of object `x`, an array of `n`, has a value, if that is known of each alone.
+/// The state in which each element of object `x`, an array of `n`, has a value, if single facts show that.
 pub fn completed(scope: &Scope<'_>, state: AbsState, x: usize, n: u32) -> AbsState
     ensures { RowBecomes (frame_of scope.now) x n (state_of state) (state_of result) }
 {

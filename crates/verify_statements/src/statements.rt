@@ -22,10 +22,10 @@ use verify_expressions::{
 };
 use verify_intervals::{conversion, initialised, uninitialised};
 
-/// How many guesses of a loop's invariant are tried.
+/// The number of guesses of a loop's invariant that are tried.
 const GUESSES: u32 = 24;
 
-/// How many turns of a loop are followed one by one.
+/// The number of iterations of a loop that are analysed one by one.
 const UNROLLED_TURNS: u32 = 1024;
 
 fn empty(scope: &Scope<'_>, state: AbsState) -> Result<Left, Stop>
@@ -100,7 +100,7 @@ fn evaluated_behind(scope: &Scope<'_>, state: AbsState, e: &Value) -> Result<Abs
     Ok(v.state)
 }
 
-/// An expression that may be left out.
+/// An expression that may be missing.
 fn evaluated_or(scope: &Scope<'_>, state: AbsState, e: &Option<Value>) -> Result<AbsState, Stop>
     ensures { IfOk result (λ r. EvaluatesOr (frame_of scope.now) (option_value e.now) (state_of state) (state_of r)) }
 {
@@ -117,7 +117,7 @@ fn tested_behind(scope: &Scope<'_>, state: AbsState, e: &Value) -> Result<Tested
     Ok(t)
 }
 
-/// A test that may be left out, and then goes on (6.8.5.3p2).
+/// A test that may be missing, and then holds (6.8.5.3p2).
 fn tested_or(scope: &Scope<'_>, state: AbsState, e: &Option<Value>) -> Result<Tested, Stop>
     ensures { IfOk result (λ r. TestsOr (frame_of scope.now) (option_value e.now) (state_of state) (state_of r.on) (state_of r.off)) }
 {
@@ -130,7 +130,7 @@ fn tested_or(scope: &Scope<'_>, state: AbsState, e: &Option<Value>) -> Result<Te
     }
 }
 
-/// A statement to which no run comes.
+/// A statement that no run reaches.
 fn never_executed(scope: &Scope<'_>, state: &AbsState, a: &Statement) -> Left
     requires { state_of state.now ≡ None }
     ensures { Executes (frame_of scope.now) (statement_of a.now) (state_of state.now) (ways_of result) }
@@ -140,7 +140,7 @@ fn never_executed(scope: &Scope<'_>, state: &AbsState, a: &Statement) -> Left
 
 /// A statement.
 ///
-/// Errors: something undefined is not ruled out, a call is not known yet, or the analysis does not follow.
+/// Errors: undefined behaviour is not ruled out, a call was not analysed yet, or the analysis is not possible.
 #[cycle(execute)]
 pub fn statement(scope: &Scope<'_>, state: AbsState, a: &Statement) -> Result<Left, Stop>
     ensures { IfOk result (λ r. Executes (frame_of scope.now) (statement_of a.now) (state_of state) (ways_of r)) }
@@ -199,7 +199,7 @@ fn block(
     statements(scope, state2, all)
 }
 
-/// One statement behind others.
+/// One statement after others.
 #[cycle(execute)]
 fn followed(scope: &Scope<'_>, so_far: Left, a: &Statement) -> Result<Left, Stop>
     ensures { IfOk result (λ r. Follows (frame_of scope.now) (ways_of so_far) (statement_of a.now) (ways_of r)) }
@@ -215,7 +215,7 @@ fn followed(scope: &Scope<'_>, so_far: Left, a: &Statement) -> Result<Left, Stop
     joined_ways(scope.alloc, before, next)
 }
 
-/// Statements, one behind the other.
+/// Statements in sequence.
 #[cycle(execute)]
 fn statements(scope: &Scope<'_>, state: AbsState, all: &[Statement]) -> Result<Left, Stop>
     ensures { IfOk result (λ r. ExecutesAll (frame_of scope.now) (statements_of (map statement_of all.now)) (state_of state) (ways_of r)) }
@@ -270,7 +270,7 @@ fn branches(
 
 // ---- switch (6.8.4.2)
 
-/// A label of a switch: it may be jumped to with what is known before the statements of the switch.
+/// A label of a switch: it may be jumped to in the state before the statements of the switch.
 #[cycle(execute)]
 fn labelled(scope: &Scope<'_>, so_far: Left, entry: &AbsState, a: &Statement) -> Result<Left, Stop>
     ensures { IfOk result (λ r. EntersLabel (frame_of scope.now) (state_of entry.now) (ways_of so_far) (statement_of a.now) (ways_of r)) }
@@ -288,7 +288,7 @@ fn labelled(scope: &Scope<'_>, so_far: Left, entry: &AbsState, a: &Statement) ->
     Ok(next)
 }
 
-/// A statement of a switch, behind others.
+/// A statement of a switch, after others.
 #[cycle(execute)]
 fn entered(scope: &Scope<'_>, so_far: Left, entry: &AbsState, a: &Statement) -> Result<Left, Stop>
     ensures { IfOk result (λ r. EntersOne (frame_of scope.now) (state_of entry.now) (ways_of so_far) (statement_of a.now) (ways_of r)) }
@@ -303,7 +303,7 @@ fn entered(scope: &Scope<'_>, so_far: Left, entry: &AbsState, a: &Statement) -> 
     }
 }
 
-/// The statements of a switch, before which this is known.
+/// The statements of a switch, before which this is the state.
 #[cycle(execute)]
 fn cases(scope: &Scope<'_>, entry: &AbsState, all: &[Statement]) -> Result<Left, Stop>
     ensures { IfOk result (λ r. EntersAll (frame_of scope.now) (state_of entry.now) (statements_of (map statement_of all.now)) (ways_of r)) }
@@ -351,16 +351,16 @@ fn switched(
     })
 }
 
-// ---- what holds at each turn of a loop. It is guessed, and nothing rests on it
+// ---- the invariant of a loop. It is guessed, and nothing depends on the guess
 
-/// What controls a loop.
+/// The controlling expression of a loop.
 #[derive(Clone, Copy)]
 enum Control<'a> {
     Test(&'a Value),
     For(&'a ForControl),
 }
 
-/// A loop: where it stands, and what each turn does.
+/// A loop: its place, and the effect of each iteration.
 #[derive(Clone, Copy)]
 struct Turning<'a> {
     at: Pos,
@@ -393,7 +393,7 @@ fn body(scope: &Scope<'_>, state: AbsState, a: &Statement) -> Result<Left, Stop>
     Ok(left)
 }
 
-/// What one turn of a loop that begins so leaves for the next.
+/// The state that one iteration from this state leaves for the next.
 #[cycle(execute)]
 fn turned(scope: &Scope<'_>, state: AbsState, turning: &Turning<'_>) -> Result<AbsState, Stop> {
     let tested = tested_by(scope, state, turning.control)?;
@@ -402,7 +402,7 @@ fn turned(scope: &Scope<'_>, state: AbsState, turning: &Turning<'_>) -> Result<A
     stepped_by(scope, behind, turning.control)
 }
 
-/// What begins the loop and what a turn leaves, where that holds at each turn; else the wider guess.
+/// The state before the loop and the state after an iteration, joined, if the guess holds at each iteration; else a wider guess.
 #[cycle(execute)]
 fn narrowed(
     scope: &Scope<'_>,
@@ -424,7 +424,7 @@ fn narrowed(
     }
 }
 
-/// A state that may hold at each turn.
+/// A candidate for the invariant.
 #[cycle(execute)]
 fn guessed(scope: &Scope<'_>, state: AbsState, turning: &Turning<'_>) -> Result<AbsState, Stop> {
     let first = copied(scope.alloc, &state)?;
@@ -443,7 +443,7 @@ fn guessed(scope: &Scope<'_>, state: AbsState, turning: &Turning<'_>) -> Result<
 
 // ---- loops that begin with their test (6.8.5.1)
 
-/// A loop at each of whose turns this holds; none where that is not so.
+/// A loop with this invariant; none if it is not inductive.
 #[cycle(execute)]
 fn checked(
     scope: &Scope<'_>,
@@ -479,7 +479,7 @@ fn checked(
     }))
 }
 
-/// A loop that was met before with this known before it.
+/// A loop that was analysed before from this state.
 #[cycle(execute)]
 fn looped_again(
     scope: &Scope<'_>,
@@ -497,7 +497,7 @@ fn looped_again(
     }
 }
 
-/// A loop of which nothing is remembered, or with less known before it.
+/// A loop that was not analysed before, or with a wider state.
 #[cycle(execute)]
 fn looped_anew<'a>(
     scope: &Scope<'_>,
@@ -541,7 +541,7 @@ fn looped(
     }
 }
 
-/// A turn that was followed: how the loop was left so far, its next turn begins where that is normal; and whether there was one.
+/// An iteration that was analysed: how the loop was left so far, with the state of the next iteration as normal; and whether there was one.
 #[derive(Drop)]
 struct TurnEnd {
     left: Left,
@@ -553,7 +553,7 @@ fn is_open(tested: &Tested) -> bool {
     is_reached(&tested.on) && is_reached(&tested.off)
 }
 
-/// How a loop was left so far of which no turn was followed.
+/// How a loop was left so far of which no iteration was analysed.
 fn not_left(state: AbsState) -> Left
     ensures { (ways_of result).normal ≡ state_of state }
 {
@@ -566,7 +566,7 @@ fn not_left(state: AbsState) -> Left
     }
 }
 
-/// The next turn of a loop, where its test has one outcome.
+/// The next iteration of a loop, if its test has one outcome.
 #[cycle(execute)]
 fn unrolled_turn(scope: &Scope<'_>, so_far: Left, e: &Value, a: &Statement) -> Result<TurnEnd, Stop>
     ensures { IfOk result (λ r. Turns (frame_of scope.now) (Some (value_of e.now)) None (statement_of a.now) (ways_of so_far) (ways_of r.left)) }
@@ -604,7 +604,7 @@ fn unrolled_turn(scope: &Scope<'_>, so_far: Left, e: &Value, a: &Statement) -> R
     })
 }
 
-/// The first turns of a loop, as long as its test has one outcome.
+/// The first iterations of a loop, as long as its test has one outcome.
 #[cycle(execute)]
 fn unrolled(scope: &Scope<'_>, state: AbsState, e: &Value, a: &Statement) -> Result<Left, Stop>
     ensures { IfOk result (λ r. Leads (frame_of scope.now) (Some (value_of e.now)) None (statement_of a.now) (state_of state) (ways_of r)) }
@@ -625,7 +625,7 @@ fn unrolled(scope: &Scope<'_>, state: AbsState, e: &Value, a: &Statement) -> Res
     Ok(so_far)
 }
 
-/// A loop, its first turns one by one.
+/// A loop, its first iterations one by one.
 #[cycle(execute)]
 fn looped_on(
     scope: &Scope<'_>,
@@ -767,7 +767,7 @@ fn looped_for_anew<'a>(
     }
 }
 
-/// The turns of a `for`.
+/// The iterations of a `for`.
 #[cycle(execute)]
 fn looped_for(
     scope: &Scope<'_>,

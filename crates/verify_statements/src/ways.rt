@@ -10,7 +10,7 @@ use verify_expressions::{AbsState, Stop, joined};
 use verify_intervals::{either, initialised, nothing};
 use verify_logic::AbsValue;
 
-/// What is known behind a statement, by how it is left, and of the value that a `return` in it gives.
+/// The state after a statement, by how it is left, and the value that a `return` in it gives.
 #[derive(Drop)]
 pub struct Left {
     pub normal: AbsState,
@@ -20,12 +20,12 @@ pub struct Left {
     pub value: AbsValue,
 }
 
-/// The value where there is no `return`.
+/// The value if there is no `return`.
 pub fn no_return() -> AbsValue {
     initialised(nothing())
 }
 
-/// Left normally alone.
+/// Left only normally.
 pub fn only(normal: AbsState) -> Left
     ensures { ways_of result ≡ only_normal result.value (state_of normal) }
 {
@@ -38,7 +38,7 @@ pub fn only(normal: AbsState) -> Left
     }
 }
 
-/// What is known where a statement is left in one of two ways.
+/// The state if a statement is left in one of two ways.
 ///
 /// Errors: memory ran out.
 pub fn joined_ways(alloc: Global, a: Left, b: Left) -> Result<Left, Stop>

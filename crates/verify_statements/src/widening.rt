@@ -1,11 +1,11 @@
-//! Guesses of what holds at each turn of a loop. Nothing rests on them: a guess is tested before it is used.
+//! Guesses of the invariant of a loop. Nothing depends on them: a guess is tested before it is used.
 
 use ctypes::IntType;
 use verify_expressions::{AbsState, Known, Scope, Stop, copied, joined, literal_count};
 use verify_intervals::initialised;
 use verify_logic::{AbsValue, Fact, Interval};
 
-/// Where bounds move that keep growing, beside the lengths of arrays, if the type of the object is not known or they are past its values: the
+/// Where bounds that keep growing are moved to, besides the lengths of arrays, if the type of the object is not known or they are past its values: the
 /// bounds of the types, and 0 and 1 between them.
 const STEPS: [i64; 12] = [
     -2147483648,
@@ -22,7 +22,7 @@ const STEPS: [i64; 12] = [
     4294967295,
 ];
 
-/// For how many turns the lengths of arrays are bounds too: where arrays have many lengths, a bound that went from one to the next would be
+/// The number of iterations in which the lengths of arrays are bounds too: with arrays of many lengths, a bound that went from one to the next would be
 /// moved more often than guesses are tried.
 const NEAR_TURNS: u32 = 10;
 
@@ -49,7 +49,7 @@ fn closer(v: i64, step: i64, best: i64) -> i64 {
     if v <= step && step < best { step } else { best }
 }
 
-/// The closer of a bound and the last subscripts and the lengths of arrays.
+/// The closer of a bound and the last subscripts and lengths of arrays.
 fn length_ceiling(v: i64, lengths: &[u32], best: i64) -> i64 {
     let mut found = best;
     for n in lengths {
@@ -78,7 +78,7 @@ fn element_type(scope: &Scope<'_>, x: usize) -> Option<IntType> {
     }
 }
 
-/// The next bound below: of the type of object `x`, behind 0 and -1.
+/// The next bound below: of the type of object `x`, after 0 and -1.
 fn least(scope: &Scope<'_>, x: usize, v: i64) -> i64 {
     match element_type(scope, x) {
         None => floor(v),
@@ -90,7 +90,7 @@ fn least(scope: &Scope<'_>, x: usize, v: i64) -> i64 {
     }
 }
 
-/// The next bound above: of the type of object `x`, behind 0 and 1.
+/// The next bound above: of the type of object `x`, after 0 and 1.
 fn greatest(scope: &Scope<'_>, x: usize, v: i64) -> i64 {
     match element_type(scope, x) {
         None => type_ceiling(v),
@@ -102,7 +102,7 @@ fn greatest(scope: &Scope<'_>, x: usize, v: i64) -> i64 {
     }
 }
 
-/// The next bound above: of a type, or among the lengths of arrays as long as these are `near`. String literals are no such arrays: a
+/// The next bound above: of a type, or among the lengths of arrays as long as these are `near`. String literals do not count: a
 /// program has many of them, and their lengths bound little.
 fn ceiling(scope: &Scope<'_>, x: usize, v: i64, near: bool) -> i64 {
     let mut found = greatest(scope, x, v);
@@ -155,7 +155,7 @@ fn each_wider(
     Ok(out)
 }
 
-/// The fact of the same element, which most often stands at the same place.
+/// The fact about the same element, which is most often at the same position.
 fn same_fact(olds: &[Fact], new: Fact, near: usize) -> Option<Interval> {
     for n in near..olds.len() {
         if olds[n].object == new.object && olds[n].index == new.index {
@@ -221,7 +221,7 @@ fn moved(scope: &Scope<'_>, old: &AbsState, new: AbsState, near: bool) -> Result
     }
 }
 
-/// The values of both states, those bounds that differ from the first moved out to the next step, from the third turn on.
+/// The values of both states, with those bounds that differ from the first moved out to the next step, from the third iteration on.
 ///
 /// Errors: memory ran out.
 pub fn widened(

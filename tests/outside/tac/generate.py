@@ -183,6 +183,7 @@ class Maker:
         if free:
             number = self.chance.choice(free)
             self.code.append('forget %d 1' % number)
+            self.lose()
             self.code.append('convert %s o%d %s' % (self.scalars[number], number, self.constant()))
 
     def element(self):

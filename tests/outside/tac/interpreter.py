@@ -295,6 +295,7 @@ class Run:
             for number in range(int(words[0]), int(words[0]) + int(words[1])):
                 kind, lengths = call.function.objects[number]
                 self.store[call.base + number] = (kind, indeterminate(lengths))
+            self.temporaries = {}
         elif name == 'move':
             self.give(words[0], self.value(words[1]))
         elif name == 'convert':

@@ -1,5 +1,5 @@
 -- The state of a run between two steps, and how it stops, over a port whose input contracts can see.
-use Rattle.std.specs.Prelude.{◌≡◌, ◌≤◌, ◌<◌, ◌⊎◌, ℕ, zero, suc, ◌+◌, ◌*◌, List, [], ◌∷◌, ◌++◌, length, Bool, true, false, Option, Some, None, Result, Ok, Err, ⊤, slice_get}
+use Rattle.std.specs.Prelude.{◌≡◌, ◌≤◌, ◌<◌, ◌⊎◌, ℕ, zero, suc, ◌+◌, ◌*◌, List, [], ◌∷◌, ◌++◌, length, Bool, true, false, Option, Some, None, Result, Ok, Err, ⊤, option_map, slice_get}
 use Rattle.std.specs.Bool.{OnTrue}
 use Rattle.std.specs.Io.KnownBytes.{Appends}
 use Rattle.csem_events.specs.Events.{Event, Put, written, taken}
@@ -9,7 +9,8 @@ use Rattle.csem.specs.History.{Entry, Entered, Left, trace_of}
 use Rattle.csem.specs.Machine as machine
 use Rattle.csem.specs.Machine.{Ending, State, Stops, Goes}
 use Rattle.csem.specs.Store.{Store, first_store}
-use Rattle.csem.specs.Meaning.{last_of}
+use Rattle.csem.specs.Expressions.{Passed}
+use Rattle.csem.specs.Meaning.{word_of, words_of, value_left, last_of}
 use Rattle.interp_store.specs.declared.stop.Stop.{Stop}
 use Rattle.interp_store.specs.declared.stop.Stop.TheVariants as stop
 use Rattle.interp_store.specs.declared.scene.Scene.{Scene}
@@ -43,26 +44,35 @@ is_flow (on.a_place r) = false
 is_flow (on.a_flow flow) = true
 is_flow on.initialised = false
 
-abbrev pub left_where : Bool → Bool → List Entry → List Entry
-left_where false ends h = h
-left_where true false h = h
-left_where true true h = Left ∷ h
+-- the word that a call returns whose body is left in this way
+abbrev pub word_left : (is_main : Bool) → on.Found → Option ℕ
+word_left is_main (on.a_flow flow) = option_map word_of (value_left is_main flow)
+word_left is_main _ = None
+
+abbrev pub result_left : on.Frame → on.Found → Option ℕ
+result_left (on.returns back is_main count base arrays) x = word_left is_main x
+result_left _ x = None
+
+abbrev pub left_where : Bool → Bool → (result : Option ℕ) → List Entry → List Entry
+left_where false ends result h = h
+left_where true false result h = h
+left_where true true result h = Left result ∷ h
 
 -- a call ends if its frame gets the flow that it waited for
 abbrev pub history_left : on.Frame → on.Found → List Entry → List Entry
-history_left f x h = left_where (is_flow x) (is_return f) h
+history_left f x h = left_where (is_flow x) (is_return f) (result_left f x) h
 
-abbrev pub entered_where : Option typed.Function → ℕ → List Entry → List Entry
-entered_where None f h = h
-entered_where (Some g) f h = Entered f ∷ h
+abbrev pub entered_where : Option typed.Function → ℕ → List Passed → List Entry → List Entry
+entered_where None f passed h = h
+entered_where (Some g) f passed h = Entered f (words_of passed) ∷ h
 
 -- a call begins if its function has a definition
-abbrev pub history_called : typed.Program → typed.Callee → List Entry → List Entry
-history_called p (typed.function f) h = entered_where (slice_get p.functions f) f h
-history_called p typed.get_byte h = h
-history_called p typed.put_byte h = h
-history_called p typed.exit h = h
-history_called p (typed.missing name) h = h
+abbrev pub history_called : typed.Program → typed.Callee → List Passed → List Entry → List Entry
+history_called p (typed.function f) passed h = entered_where (slice_get p.functions f) f passed h
+history_called p typed.get_byte passed h = h
+history_called p typed.put_byte passed h = h
+history_called p typed.exit passed h = h
+history_called p (typed.missing name) passed h = h
 
 -- ---- what was reported to an observer
 

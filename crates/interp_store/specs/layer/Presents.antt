@@ -1,5 +1,5 @@
 -- The remainder of a run: the next step, and the frames that wait for it.
-use Rattle.std.specs.Prelude.{◌≡◌, ℕ, suc, ◌-◌, ℤ, pos, List, [], ◌∷◌, ◌++◌, take, Option, Some, None, Bool, slice_get}
+use Rattle.std.specs.Prelude.{◌≡◌, ℕ, suc, ◌-◌, ℤ, pos, List, [], ◌∷◌, ◌++◌, take, Option, Some, None, Bool, option_map, slice_get}
 use Rattle.srcset.specs.declared.refusal.Pos.{Pos}
 use Rattle.ctypes.specs.Types.{truth, of_truth, converted}
 use Rattle.typing_spec.specs.Types.{ObjectType}
@@ -10,7 +10,7 @@ use Rattle.csem.specs.History.{Left}
 use Rattle.csem.specs.Machine.{State, Run, Goes, Stops, then_do, choose, tick, ticks, computed_at, subscripted, read, write, stored}
 use Rattle.csem.specs.Expressions.{Passed, Number, Referred, Calling, call_value, call_of, step_operation, step_value, converted_or_none, find, evaluate, pass, evaluate_or}
 use Rattle.csem.specs.Statements.{Flow, Normal, Returned, zeros, characters, text_or_none, initialise, initialise_all, all_renewed, next_after, after_body, after_switch, turns, label_for, labels_of, execute, execute_all, execute_from}
-use Rattle.csem.specs.Meaning.{value_left, call_defined, calling, end_with}
+use Rattle.csem.specs.Meaning.{word_of, value_left, call_defined, calling, end_with}
 use Rattle.interp_store.specs.layer.Frames as on
 use Rattle.interp_store.specs.layer.Frames.{Found, a_value, a_place, a_flow, initialised, Late, puts_text, puts_zeros, enters_body, Node, Step, enters, leaves, calls, Back, to_caller, to_end, Frame, Moved, moves, halts}
 
@@ -22,9 +22,14 @@ given as_found (Stops e s) = Stops e s
 abbrev pub done : Unit {0} → Found
 done u = initialised
 
--- the caller continues with its own objects
-abbrev pub back_at : ℕ → ℕ → List Reference → State → State
-back_at count base arrays s = record s { store = take count s.store; base = base; arrays = arrays; history = Left ∷ s.history }
+-- the call has returned this result, and the caller continues with its own objects
+abbrev pub back_at : ℕ → ℕ → List Reference → (result : Option ℤ) → State → State
+back_at count base arrays result s = record s {
+  store = take count s.store;
+  base = base;
+  arrays = arrays;
+  history = Left (option_map word_of result) ∷ s.history;
+}
 
 module _ (p : Program) (call : Calling) where
   -- the turns of a loop; its ticks suffice for them
@@ -120,7 +125,7 @@ module _ (p : Program) (call : Calling) where
   with_value other v s = Goes (a_value v) s
 
   abbrev pub with_flow : Frame → Flow → State → Run Found
-  with_flow (on.returns back is_main count base arrays) flow s = goes_back back (value_left is_main flow) (back_at count base arrays s)
+  with_flow (on.returns back is_main count base arrays) flow s = goes_back back (value_left is_main flow) (back_at count base arrays (value_left is_main flow) s)
   with_flow (on.rest objects more) flow s = given a_flow (next_after flow s (execute_all p call objects more))
   with_flow on.in_switch flow s = given a_flow (after_switch flow s)
   with_flow (on.turn objects test a step) flow s = given a_flow (after_body flow s (stepped objects test a step))

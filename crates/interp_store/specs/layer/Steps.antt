@@ -206,7 +206,7 @@ module _ (p : Program) where
   went_back to_end v s = halts (Ended (status_of v)) s
 
   abbrev pub left_by_flow : Frame → Flow → State → Moved
-  left_by_flow (on.returns back is_main count base arrays) flow s = went_back back (value_left is_main flow) (back_at count base arrays s)
+  left_by_flow (on.returns back is_main count base arrays) flow s = went_back back (value_left is_main flow) (back_at count base arrays (value_left is_main flow) s)
   left_by_flow (on.rest objects more) flow s = started_after objects more flow s
   left_by_flow on.in_switch flow s = at_once a_flow (after_switch flow s)
   left_by_flow (on.turn objects test a step) flow s = turned_on objects test a step flow s

@@ -1,13 +1,8 @@
 -- Functions as they are written, before the program that they are part of exists: a given number of them.
-use Rattle.std.specs.Prelude.{◌≡◌, ℕ, Bool, true, false, List, length, Some, slice_get, nat_eq}
+use Rattle.std.specs.Prelude.{◌≡◌, ℕ, List, length, Some, slice_get, nat_eq}
 use Rattle.typing_spec.specs.Program as typed
 use Rattle.tac_code.specs.Code.{Function}
 use Rattle.tac.specs.layer.Functions.{IsFunctionWith}
-
--- how many instructions the end of a body takes
-abbrev pub closing_size : Bool → ℕ
-closing_size true = 1
-closing_size false = 0
 
 -- these are the first `number` of the functions of a program
 pub record AreFunctionsOf (p : typed.Program) (number : ℕ) (all : List Function) : Type 0 where

@@ -1,10 +1,10 @@
 -- How many instructions the code of statements has.
-use Rattle.std.specs.Prelude.{ℕ, false, ℤ, List, [], ◌∷◌, Option, Some, None, slice_get}
+use Rattle.std.specs.Prelude.{ℕ, ℤ, List, [], ◌∷◌, Option, Some, None, slice_get}
 use Rattle.typing_spec.specs.Program as typed
 use Rattle.typing_spec.specs.Program.{Value, Statement, Statements}
 use Rattle.csem.specs.Statements.{labels_of}
 use Rattle.lower_correct.specs.Values.{keeps}
-use Rattle.lower_correct.specs.Bodies.{is_within}
+use Rattle.lower_correct.specs.Bodies.{is_within, has_objects}
 use Rattle.lower_ops.specs.declared.modes.Shape.TheVariants as shape
 use Rattle.lower_ops.specs.layer.Parts.{plus}
 use Rattle.lower_ops.specs.layer.FormSizes.{converts_size}
@@ -37,7 +37,7 @@ module _ (p : typed.Program) (f : typed.Function) where
     statement_size (typed.branches e a b) =
         plus 1 (plus (value_size e shape.Jump) (plus (statement_size a) (plus 1 (statement_size b))))
     statement_size (typed.switch u e first count all) =
-        plus 1 (plus (value_size e (wait_shape e (is_within first count) false)) (plus 1 (plus (tests_size (labels_of all)) (statements_size all))))
+        plus 1 (plus (value_size e (wait_shape e (is_within first count) (has_objects count))) (plus 1 (plus (tests_size (labels_of all)) (statements_size all))))
     statement_size (typed.case v) = 1
     statement_size typed.default = 1
     statement_size (typed.while e a) = plus 1 (plus (statement_size a) (value_size e shape.Jump))

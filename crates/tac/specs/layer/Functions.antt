@@ -48,6 +48,7 @@ pub record IsFunctionWith (p : typed.Program) (is_main : Bool) (f : typed.Functi
   pub code : IsBodyOf p is_main f g.code
   pub objects : g.objects ≡ f.objects
   pub parameters : g.parameters ≡ map kind_of f.type.parameters
+  pub result : g.result ≡ f.type.result
   pub temporaries : g.temporaries ≡ most (temporaries_with (parameters_at p.functions)) g.code
   pub kept : g.kept ≡ most slots_of g.code
 

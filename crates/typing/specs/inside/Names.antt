@@ -18,7 +18,7 @@ named level r k (Some n) (a_reference t) bs = record { name = n; level = level; 
 abbrev pub bound : ℕ → ℕ → ℕ → List (Option ℕ) → List ParameterType → List ObjectType → List Binding → List Binding
 bound level r k [] ts os bs = bs
 bound level r k (n ∷ ns) [] os bs = bs
-bound level r k (n ∷ ns) (number t ∷ ts) [] bs = bs
+bound level r k (n ∷ ns) (number t ∷ ts) [] bs = bound level r (k + 1) ns ts [] bs
 bound level r k (n ∷ ns) (number t ∷ ts) (o ∷ os) bs = bound level r (k + 1) ns ts os (named level r k n (a_number o) bs)
 bound level r k (n ∷ ns) (elements t ∷ ts) os bs = bound level (r + 1) k ns ts os (named level r k n (a_reference t) bs)
 

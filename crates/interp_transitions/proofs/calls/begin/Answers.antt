@@ -3,6 +3,7 @@ use Rattle.std.specs.Prelude.{Some, nat_eq}
 use Rattle.std.proofs.lemmas.List.{length-map}
 use Rattle.typed_ast.specs.View.{function_of, object_type_of, parameter_type_of, program_of}
 use Rattle.csem.specs.History.{Entered}
+use Rattle.csem.specs.Meaning.{words_of}
 use Rattle.interp_store.specs.View.{reference_of}
 use Rattle.interp_store.specs.layer.Steps.{entered_call}
 use Rattle.interp_store.specs.layer.Views.{back_of, passed_of}
@@ -19,7 +20,7 @@ returns-clause-acts c = λ o.
     let g = function_of c.args.g.now in
     let passed = map passed_of c.args.passed.now in
     let s = state_in m.scene o in
-    let o2 : Outside = record o { history = Entered f ∷ o.history } in
+    let o2 : Outside = record o { history = Entered f (words_of passed) ∷ o.history } in
     let caller = c.in-Ok.caller in
     let many : c.len.result ≡ length c.args.g.now.function_type.parameters.items = search rules in
     agrees_as (entered_call p (back_of c.args.back) (Some g) f passed s) _ (frames_of m) (frames_of c.wait.new.self) c.wait.result (state_in c.wait.new.self.scene o2)

@@ -1,9 +1,9 @@
-use Rattle.std.proofs.Common.{◌≡◌, false, ap, map, length, ◌∙◌}
+use Rattle.std.proofs.Common.{◌≡◌, ap, map, length, ◌∙◌}
 use Rattle.typed_ast.specs.View.{value_of, option_value, statement_of, statements_of}
 use Rattle.lower_ops.specs.declared.modes.Shape.TheVariants as shape
 use Rattle.csem.specs.Statements.{labels_of}
 use Rattle.lower_correct.specs.Values.{waits_in, mode_of}
-use Rattle.lower_correct.specs.Bodies.{is_within}
+use Rattle.lower_correct.specs.Bodies.{is_within, has_objects}
 use Rattle.lower_ops.specs.layer.Parts.{plus, shape_of}
 use Rattle.lower_exprs.specs.layer.Sizes.{value_size}
 use Rattle.tac.specs.inside.Scopes.{program_in, function_in}
@@ -164,7 +164,7 @@ put_switch-returns t c =
     let l = length c.args.code.now.list.items in
     let e = value_of c.args.e.now in
     let all = statements_of (map statement_of c.args.all.now) in
-    let o = waits_in e (is_within c.args.first c.args.count) false 0 0 in
+    let o = waits_in e (is_within c.args.first c.args.count) (has_objects c.args.count) 0 0 in
     let nv = value_size e (shape_of (mode_of o)) in
     let nt = tests_size (labels_of all) in
     let ns = statements_size (program_in c.args.scope.now) (function_in c.args.scope.now) all in
@@ -176,7 +176,7 @@ put_switch-returns t c =
     λ u out. switch_wrote (program_in c.args.scope.now) (function_in c.args.scope.now) u e c.args.first c.args.count all out c.args.again c.args.back c.ahead-body.result c.ahead-end.result eb ee
     c.in_ok-put.ensures
     (rw (c.all_free.ensures.temporary, c.all_free.ensures.slot, c.mode_of.ensures, c.waits_for_objects-operand.ensures) at c.in_ok-put_value.ensures)
-    c.in_ok-put-2.ensures (rw c.waits_for_objects-operand.ensures at c.in_ok-put_tests.ensures) c.in_ok-put_statements.ensures
+    (rw c.forgets.ensures at c.in_ok-put-2.ensures) (rw c.waits_for_objects-operand.ensures at c.in_ok-put_tests.ensures) c.in_ok-put_statements.ensures
 
 pub put_statement-returns-in_ok-put_switch-in-Switch : goal.put_statement-returns-in_ok-put_switch-in-Switch
 put_statement-returns-in_ok-put_switch-in-Switch t c =

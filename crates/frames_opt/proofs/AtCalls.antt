@@ -1,0 +1,135 @@
+-- A program that was made simpler calls and returns only where the program does, with the same in its temporaries.
+use Rattle.std.proofs.Common.{◌≡◌, ◌⊎◌, ⊎_elim, ℕ, zero, suc, ◌+◌, List, [], ◌∷◌, length, drop, Option, Some, None, true, refl, sym, ap, ◌∙◌, subst, arith}
+use Rattle.std.specs.Prelude.{slice_get}
+use Rattle.frames_code.specs.declared.code.Instruction.{Instruction}
+use Rattle.frames_code.specs.declared.code.Instruction.TheVariants as instruction
+use Rattle.frames_code.specs.Code.{Program}
+use Rattle.frames_code.specs.Costs.{next_of}
+use Rattle.frames_code.specs.Run.{Value, Values, State, Progress, running, run, start, function_at}
+use Rattle.frames_opt.specs.declared.facts.Known.{Known}
+use Rattle.frames_opt.specs.Simplified.{HasItsValues, IsAtCall}
+use Rattle.frames_opt.specs.inside.Facts.{known_of}
+use Rattle.frames_opt.specs.inside.Rules.{simpler_operand, simpler}
+use Rattle.frames_opt.specs.inside.Unread.{reads}
+use Rattle.frames_opt.proofs.Alike.{same_some, over, Agree, same_where_read}
+use Rattle.frames_opt.proofs.Positions.{compute_form, element_form}
+use Rattle.frames_opt.proofs.Runs.{Dropped, Position, IsSimpler, rest, Reached, reached}
+
+-- it calls, or returns
+abbrev Leaves : Instruction → Type 0
+Leaves instruction.Nothing = ⊥
+Leaves (instruction.Move d x) = ⊥
+Leaves (instruction.Compute o d x y) = ⊥
+Leaves (instruction.Convert c d x) = ⊥
+Leaves (instruction.Load w d l) = ⊥
+Leaves (instruction.Store w x l) = ⊥
+Leaves (instruction.Address d l) = ⊥
+Leaves (instruction.Element d x y size) = ⊥
+Leaves (instruction.Jump to) = ⊥
+Leaves (instruction.Branch t x y to) = ⊥
+Leaves (instruction.Call f) = Unit {0}
+Leaves instruction.PutByte = ⊥
+Leaves instruction.GetByte = ⊥
+Leaves instruction.Exit = ⊥
+Leaves instruction.Return = Unit {0}
+
+abbrev Stays : Instruction → Type 0
+Stays x = Leaves x → ⊥
+
+-- no other instruction becomes one of these
+stays : (area : ℕ) (facts : List Known) (x : Instruction) → Leaves (simpler area facts x) → simpler area facts x ≡ x
+stays area facts instruction.Nothing h = absurd h
+stays area facts (instruction.Move d x) h = absurd h
+stays area facts (instruction.Compute o d x y) h = absurd (compute_form Stays o d (λ o2 x2 y2 no. no) (simpler_operand facts x) (simpler_operand facts y) h)
+stays area facts (instruction.Convert c d x) h = absurd h
+stays area facts (instruction.Load w d l) h = absurd h
+stays area facts (instruction.Store w x l) h = absurd h
+stays area facts (instruction.Address d l) h = absurd h
+stays area facts (instruction.Element d x y size) h = absurd (element_form Stays d x size (λ y2 no. no) (λ o no. no) (λ o no. no) area (known_of facts x) (simpler_operand facts y) h)
+stays area facts (instruction.Jump to) h = absurd h
+stays area facts (instruction.Branch t x y to) h = absurd h
+stays area facts (instruction.Call f) h = refl
+stays area facts instruction.PutByte h = absurd h
+stays area facts instruction.GetByte h = absurd h
+stays area facts instruction.Exit h = absurd h
+stays area facts instruction.Return h = refl
+
+reads_all : (x : Instruction) → Leaves x → (k : ℕ) → reads k x ≡ true
+reads_all instruction.Nothing h k = absurd h
+reads_all (instruction.Move d x) h k = absurd h
+reads_all (instruction.Compute o d x y) h k = absurd h
+reads_all (instruction.Convert c d x) h k = absurd h
+reads_all (instruction.Load w d l) h k = absurd h
+reads_all (instruction.Store w x l) h k = absurd h
+reads_all (instruction.Address d l) h k = absurd h
+reads_all (instruction.Element d x y size) h k = absurd h
+reads_all (instruction.Jump to) h k = absurd h
+reads_all (instruction.Branch t x y to) h k = absurd h
+reads_all (instruction.Call f) h k = refl
+reads_all instruction.PutByte h k = absurd h
+reads_all instruction.GetByte h k = absurd h
+reads_all instruction.Exit h k = absurd h
+reads_all instruction.Return h k = refl
+
+none_too : (xs ys : List Instruction) (i : ℕ) → length ys ≡ length xs → slice_get xs i ≡ None → slice_get ys i ≡ None
+none_too xs [] i count e = refl
+none_too [] (y ∷ ys) i count e = absurd (omega (arith, count))
+none_too (x ∷ xs) (y ∷ ys) zero count e = absurd (let z : ⊥ = cc in z)
+none_too (x ∷ xs) (y ∷ ys) (suc i) count e = none_too xs ys i (omega (arith, count)) e
+
+module _ (p q : Program) (kn : ℕ → ℕ → List Known) (middle : ℕ → List Instruction) (simple : IsSimpler p q kn middle) (s : State) (u a : Values) (agree : Agree (rest p q kn middle simple s) s u a) where
+  abbrev k : ℕ
+  k = s.frame.function
+
+  abbrev i : ℕ
+  i = s.frame.at
+
+  module _ (x : Instruction) (is : slice_get (function_at p k).code i ≡ Some x) where
+    abbrev c : Position (function_at p k).area (kn k) (middle k) (function_at q k).code i x
+    c = simple.each k i x is
+
+    half_is : Leaves c.done → c.done ≡ c.half
+    half_is leaves = ⊎_elim (λ e. e) (λ d. absurd (subst Leaves d.is leaves)) c.out
+
+    simplified : (half : Instruction) → half ≡ simpler (function_at p k).area (kn k i) x → Leaves half → half ≡ x
+    simplified half e leaves = e ∙ stays (function_at p k).area (kn k i) x (subst Leaves e leaves)
+
+    first_is : Leaves c.half → c.half ≡ x
+    first_is leaves = ⊎_elim (λ e. e) (λ e. simplified c.half e leaves) c.by
+
+    whole : Leaves c.done → c.done ≡ x
+    whole leaves = half_is leaves ∙ first_is (subst Leaves (half_is leaves) leaves)
+
+    values : Leaves c.done → HasItsValues s (over u a s)
+    values leaves j v e =
+        let before : Agree (c.half ∷ drop (i + 1) (middle k)) s u a = subst (λ ys. Agree ys s u a) c.half_is agree in
+        let all : reads j c.half ≡ true = reads_all c.half (subst Leaves (half_is leaves) leaves) j in
+        same_where_read c.half (drop (i + 1) (middle k)) s u a before j all ∙ e
+
+    -- the next instruction of the second is y
+    met : (y : Instruction) → Leaves y → next_of q (over u a s) ≡ Some y → (next_of p s ≡ Some y) × HasItsValues s (over u a s)
+    met y leaves e =
+        let same : c.done ≡ y = same_some c.done y (sym c.done_is ∙ e) in
+        let here : Leaves c.done = subst Leaves (sym same) leaves in
+        (is ∙ ap Some (sym (whole here) ∙ same), values here)
+
+  on : (o : Option Instruction) → slice_get (function_at p k).code i ≡ o → (y : Instruction) → Leaves y → next_of q (over u a s) ≡ Some y → (next_of p s ≡ Some y) × HasItsValues s (over u a s)
+  on None e y leaves h =
+      let none : slice_get (function_at q k).code i ≡ None = none_too (function_at p k).code (function_at q k).code i (simple.count k) e in
+      let no : None ≡ Some y = sym none ∙ h in
+      absurd (let z : ⊥ = cc in z)
+  on (Some x) e y leaves h = met x e y leaves h
+
+  pub at_call : IsAtCall p q s (over u a s)
+  at_call = record {
+    calls = λ g e. on (slice_get (function_at p k).code i) refl (instruction.Call g) tt e;
+    returns = λ e. on (slice_get (function_at p k).code i) refl instruction.Return tt e;
+  }
+
+same_running : (s t : State) → running s ≡ running t → s ≡ t
+same_running s t e = cc
+
+pub at_calls : (p q : Program) (kn : ℕ → ℕ → List Known) (middle : ℕ → List Instruction) → IsSimpler p q kn middle → (n : ℕ) (input : List ℕ) (s t : State) → run p n (start p input) ≡ running s → run q n (start q input) ≡ running t → IsAtCall p q s t
+at_calls p q kn middle simple n input s t e h =
+    let r = reached p q kn middle simple n input s e in
+    subst (IsAtCall p q s) (same_running (over r.others r.given s) t (sym r.is ∙ h)) (at_call p q kn middle simple s r.others r.given r.agree)
