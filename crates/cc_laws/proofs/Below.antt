@@ -395,13 +395,13 @@ module _ (p : Program) (parts : Parts) (q : IsImageOf p parts) (input : List ℕ
       abbrev AllFine : ℕ → Type 0
       AllFine j = (n : ℕ) → n < j → IsFine F2 low (own_light n)
 
-      at_most : (x : Instruction) (j : ℕ) → next_of p s ≡ Some x → j ≤ most_next p s → j ≤ step_cost p fn (shortened s.frame.at x)
+      at_most : (x : Instruction) (j : ℕ) → next_of p s ≡ Some x → j ≤ most_next p s → j ≤ step_cost p fn (shortened fn.code s.frame.at x)
       at_most x j e le = subst (λ o. j ≤ most_if p fn s.frame.at o) e le
 
       level_fine : (x : Instruction) (j : ℕ) → IsLevel x → next_of p s ≡ Some x → j ≤ most_next p s → a.r 2 ≤ low → AllFine j
       level_fine x j l e le sp =
-          let y = shortened s.frame.at x in
-          let ly = level_shortened s.frame.at x l in
+          let y = shortened fn.code s.frame.at x in
+          let ly = level_shortened fn.code s.frame.at x l in
           let cost = level_cost p fn y ly in
           level F2 G2.env G2.data_at a.r here a.b s.input s.trace fn (first_of p s.frame.function) y low j (address G2 s.frame.function (s.frame.at + 1)) ly sp (ready2.stands s.frame.function s.frame.at x e) (omega (arith, at_most x j e le, cost))
 

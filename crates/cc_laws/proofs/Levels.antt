@@ -23,7 +23,7 @@ use Rattle.frames_code.specs.Code.{Function, frame_bytes}
 use Rattle.select_exec.specs.Light.{Fixed, Light, Go, Done, Fell, reg, with_reg, sum32, act, light_step, light_run}
 use Rattle.select_exec.proofs.Steps.{run_plus}
 use Rattle.select_exec.proofs.Placing.{stands_parts}
-use Rattle.select.specs.Selected.{source_of, home_of, fetch, made_in, register_of, address_of, combine, narrow, reach, scale, put_byte, change_sp, saves, restores, keep_return, take_return, entry, leave, exit, byte_home, items_of, shortened, is_same, add_to}
+use Rattle.select.specs.Selected.{source_of, home_of, fetch, made_in, register_of, address_of, combine, narrow, reach, scale, put_byte, change_sp, saves, restores, keep_return, take_return, entry, leave, exit, byte_home, items_of, shortened, is_same, skips_nothing, add_to}
 use Rattle.select_correct.specs.Costs.{row, item_count, opening_cost}
 use Rattle.select_correct.proofs.Lengths.{rows_are_lengths}
 use Rattle.cc_laws.proofs.Quiet.{Words, words, IsQuiet, IsBare, AreQuiet, quiet_both, five, six, ten, eleven, twelve, seventeen, fetch_quiet, keep_quiet, move_quiet, home_off, combine_quiet, narrow_quiet, reach_quiet, reference_quiet, scale_quiet, saving_quiet, restoring_quiet, byte_quiet, change_bare}
@@ -52,22 +52,22 @@ level_either : (t : Bool) (x : Instruction) → IsLevel x → IsLevel (if t then
 level_either true x q = tt
 level_either false x q = q
 
-pub level_shortened : (k : ℕ) (x : Instruction) → IsLevel x → IsLevel (shortened k x)
-level_shortened k instruction.Nothing q = tt
-level_shortened k (instruction.Move d x) q = level_either (is_same d x) (instruction.Move d x) tt
-level_shortened k (instruction.Compute o d x y) q = tt
-level_shortened k (instruction.Convert c d x) q = tt
-level_shortened k (instruction.Load w d l) q = tt
-level_shortened k (instruction.Store w x l) q = tt
-level_shortened k (instruction.Address d l) q = tt
-level_shortened k (instruction.Element d x y n) q = tt
-level_shortened k (instruction.Jump to) q = level_either (to == k + 1) (instruction.Jump to) tt
-level_shortened k (instruction.Branch t x y to) q = tt
-level_shortened k (instruction.Call g) q = absurd q
-level_shortened k instruction.PutByte q = tt
-level_shortened k instruction.GetByte q = tt
-level_shortened k instruction.Exit q = tt
-level_shortened k instruction.Return q = absurd q
+pub level_shortened : (code : List Instruction) (k : ℕ) (x : Instruction) → IsLevel x → IsLevel (shortened code k x)
+level_shortened code k instruction.Nothing q = tt
+level_shortened code k (instruction.Move d x) q = level_either (is_same d x) (instruction.Move d x) tt
+level_shortened code k (instruction.Compute o d x y) q = tt
+level_shortened code k (instruction.Convert c d x) q = tt
+level_shortened code k (instruction.Load w d l) q = tt
+level_shortened code k (instruction.Store w x l) q = tt
+level_shortened code k (instruction.Address d l) q = tt
+level_shortened code k (instruction.Element d x y n) q = tt
+level_shortened code k (instruction.Jump to) q = level_either (skips_nothing code k to) (instruction.Jump to) tt
+level_shortened code k (instruction.Branch t x y to) q = tt
+level_shortened code k (instruction.Call g) q = absurd q
+level_shortened code k instruction.PutByte q = tt
+level_shortened code k instruction.GetByte q = tt
+level_shortened code k instruction.Exit q = tt
+level_shortened code k instruction.Return q = absurd q
 
 -- an instruction that changes no frame, a call, or a return
 pub level_or_not : (R : Instruction → Type 0) → ((x : Instruction) → IsLevel x → R x) → ((g : ℕ) → R (instruction.Call g)) → R instruction.Return → (x : Instruction) → R x

@@ -312,7 +312,7 @@ module _ (f : Function) (first : ℕ) where
 
   code_free : (k : ℕ) (xs : List Instruction) → FreesAll (code_items f first k xs)
   code_free k [] = (tt, tt)
-  code_free k (x ∷ xs) = (tt, both (items_of f first (shortened k x)) _ (items_free (shortened k x)) (code_free (k + 1) xs))
+  code_free k (x ∷ xs) = (tt, both (items_of f first (shortened f.code k x)) _ (items_free (shortened f.code k x)) (code_free (k + 1) xs))
 
 functions_free : (k first : ℕ) (fs : List Function) → FreesAll (functions_items k first fs)
 functions_free k first [] = tt

@@ -220,9 +220,9 @@ code_short : (f : Function) (first k : ℕ) (xs : List Instruction) → longest 
 code_short f first k [] = omega arith
 code_short f first k (x ∷ xs) =
     let sum : sum_by (instruction_bytes f) (x ∷ xs) ≡ instruction_bytes f x + sum_by (instruction_bytes f) xs = sum_by-cons (instruction_bytes f) x xs in
-    let here = more (items_of f first (shortened k x)) (instruction_bytes f (shortened k x)) (instruction_bytes f x) (shortened_bytes f k x) (items_short f first (shortened k x)) in
-    let rest = both (item.Mark (first + k) ∷ []) (items_of f first (shortened k x) ++ code_items f first (k + 1) xs) 0 _ (omega arith)
-    (both (items_of f first (shortened k x)) (code_items f first (k + 1) xs) (instruction_bytes f x) _ here (code_short f first (k + 1) xs)) in
+    let here = more (items_of f first (shortened f.code k x)) (instruction_bytes f (shortened f.code k x)) (instruction_bytes f x) (shortened_bytes f f.code k x) (items_short f first (shortened f.code k x)) in
+    let rest = both (item.Mark (first + k) ∷ []) (items_of f first (shortened f.code k x) ++ code_items f first (k + 1) xs) 0 _ (omega arith)
+    (both (items_of f first (shortened f.code k x)) (code_items f first (k + 1) xs) (instruction_bytes f x) _ here (code_short f first (k + 1) xs)) in
     more (code_items f first k (x ∷ xs)) (0 + (instruction_bytes f x + sum_by (instruction_bytes f) xs)) _ (omega (arith, sum)) rest
 
 pub code_is_short : CodeIsShort

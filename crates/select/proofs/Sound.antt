@@ -356,11 +356,11 @@ module _ (n : ℕ) where
         said (λ l. l ≡ first + k) (Span (first + k) (first + length f.code + 1)) (Mark (first + k) ∷ []) (λ l a. (omega (arith, a), omega (arith, a, e))) (λ l a. omega (arith, a.0, a.1, e)) (marked (first + k) (omega (arith, lt, e)))
     code_marks k (x ∷ xs) e each =
         let rest = code_marks (k + 1) xs (omega (arith, e)) (λ j y g. each (suc j) y g) in
-        let later = behind (Span (first + (k + 1)) (first + length f.code + 1)) (items_of f first (shortened k x)) (code_items f first (k + 1) xs) (items_un n f fits.small first m le lt (shortened k x) (shortened_fits m f k x (each 0 x refl))) rest in
+        let later = behind (Span (first + (k + 1)) (first + length f.code + 1)) (items_of f first (shortened f.code k x)) (code_items f first (k + 1) xs) (items_un n f fits.small first m le lt (shortened f.code k x) (shortened_fits m f f.code k x (each 0 x refl))) rest in
         said (λ l. (l ≡ first + k) ⊎ Span (first + (k + 1)) (first + length f.code + 1) l) (Span (first + k) (first + length f.code + 1)) (code_items f first k (x ∷ xs))
         (λ l a. ⊎_elim (λ y. (omega (arith, y), omega (arith, y, e))) (λ y. (omega (arith, y.0), y.1)) a)
         (λ l a. ⊎_elim (λ y. inl (omega (arith, y, a.0))) (λ y. inr (omega (arith, y), a.1)) (cases_lt l (first + k + 1)))
-        (joined (λ l. l ≡ first + k) (Span (first + (k + 1)) (first + length f.code + 1)) (Mark (first + k) ∷ []) (items_of f first (shortened k x) ++ code_items f first (k + 1) xs) (marked (first + k) (omega (arith, lt, e))) later (λ l a b. omega (arith, a, b.0)))
+        (joined (λ l. l ≡ first + k) (Span (first + (k + 1)) (first + length f.code + 1)) (Mark (first + k) ∷ []) (items_of f first (shortened f.code k x) ++ code_items f first (k + 1) xs) (marked (first + k) (omega (arith, lt, e))) later (λ l a b. omega (arith, a, b.0)))
 
     function_marks : (k : ℕ) → k < first → Marks n (λ l. (l ≡ k) ⊎ Span first (first + length f.code + 1) l) (function_items k first f)
     function_marks k below =

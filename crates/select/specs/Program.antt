@@ -12,7 +12,7 @@ use Rattle.select.specs.Selected.{entry, exit, items_of, shortened}
 -- the items of a function's instructions from number k on, each after its mark; the function's end has a mark too
 abbrev pub code_items : Function → ℕ → ℕ → List Instruction → List Item
 code_items f first k [] = item.Mark (first + k) ∷ []
-code_items f first k (x ∷ xs) = item.Mark (first + k) ∷ (items_of f first (shortened k x) ++ code_items f first (k + 1) xs)
+code_items f first k (x ∷ xs) = item.Mark (first + k) ∷ (items_of f first (shortened f.code k x) ++ code_items f first (k + 1) xs)
 
 -- function number k
 abbrev pub function_items : ℕ → ℕ → Function → List Item

@@ -1,5 +1,5 @@
 -- The items of each flat instruction.
-use Rattle.std.specs.Prelude.{ℕ, zero, suc, ◌+◌, ◌*◌, ◌-◌, ◌/◌, ◌%◌, ◌^◌, ◌==◌, ◌&&◌, nat_lt, nat_le, if◌then◌else◌, List, [], ◌∷◌, ◌++◌, Option, Some, None, Bool, true, false}
+use Rattle.std.specs.Prelude.{ℕ, zero, suc, ◌+◌, ◌*◌, ◌-◌, ◌/◌, ◌%◌, ◌^◌, ◌==◌, ◌&&◌, nat_lt, nat_le, if◌then◌else◌, List, [], ◌∷◌, ◌++◌, slice_get, Option, Some, None, Bool, true, false}
 use Rattle.std.specs.Int.{w32, trailing_zeros}
 use Rattle.std.specs.List.{list_any}
 use Rattle.rv32.specs.declared.instr.Instr.{Instr}
@@ -387,23 +387,53 @@ is_same (target.Cell c) x = false
 abbrev pub shortened_move : Target → Operand → Instruction
 shortened_move d x = if is_same d x then instruction.Nothing else instruction.Move d x
 
-abbrev pub shortened_jump : ℕ → ℕ → Instruction
-shortened_jump k to = if to == k + 1 then instruction.Nothing else instruction.Jump to
+abbrev pub is_nothing : Instruction → Bool
+is_nothing instruction.Nothing = true
+is_nothing (instruction.Move d x) = is_same d x
+is_nothing (instruction.Compute o d x y) = false
+is_nothing (instruction.Convert c d x) = false
+is_nothing (instruction.Load w d l) = false
+is_nothing (instruction.Store w x l) = false
+is_nothing (instruction.Address d l) = false
+is_nothing (instruction.Element d x y size) = false
+is_nothing (instruction.Jump to) = false
+is_nothing (instruction.Branch t x y to) = false
+is_nothing (instruction.Call g) = false
+is_nothing instruction.PutByte = false
+is_nothing instruction.GetByte = false
+is_nothing instruction.Exit = false
+is_nothing instruction.Return = false
 
--- instruction number k, or Nothing where it only goes on to the next one
-abbrev pub shortened : ℕ → Instruction → Instruction
-shortened k instruction.Nothing = instruction.Nothing
-shortened k (instruction.Move d x) = shortened_move d x
-shortened k (instruction.Compute o d x y) = instruction.Compute o d x y
-shortened k (instruction.Convert c d x) = instruction.Convert c d x
-shortened k (instruction.Load w d l) = instruction.Load w d l
-shortened k (instruction.Store w x l) = instruction.Store w x l
-shortened k (instruction.Address d l) = instruction.Address d l
-shortened k (instruction.Element d x y size) = instruction.Element d x y size
-shortened k (instruction.Jump to) = shortened_jump k to
-shortened k (instruction.Branch t x y to) = instruction.Branch t x y to
-shortened k (instruction.Call g) = instruction.Call g
-shortened k instruction.PutByte = instruction.PutByte
-shortened k instruction.GetByte = instruction.GetByte
-shortened k instruction.Exit = instruction.Exit
-shortened k instruction.Return = instruction.Return
+abbrev pub is_nothing_if : Option Instruction → Bool
+is_nothing_if None = false
+is_nothing_if (Some x) = is_nothing x
+
+-- so many instructions from number k on need no code
+abbrev pub are_nothing : List Instruction → ℕ → ℕ → Bool
+are_nothing code k zero = true
+are_nothing code k (suc n) = is_nothing_if (slice_get code k) && are_nothing code (k + 1) n
+
+-- from instruction number k forward, over none that needs code
+abbrev pub skips_nothing : List Instruction → ℕ → ℕ → Bool
+skips_nothing code k to = nat_lt k to && are_nothing code (k + 1) (to - (k + 1))
+
+abbrev pub shortened_jump : List Instruction → ℕ → ℕ → Instruction
+shortened_jump code k to = if skips_nothing code k to then instruction.Nothing else instruction.Jump to
+
+-- instruction number k of a function's code, or Nothing where it only goes on to the next one that needs code
+abbrev pub shortened : List Instruction → ℕ → Instruction → Instruction
+shortened code k instruction.Nothing = instruction.Nothing
+shortened code k (instruction.Move d x) = shortened_move d x
+shortened code k (instruction.Compute o d x y) = instruction.Compute o d x y
+shortened code k (instruction.Convert c d x) = instruction.Convert c d x
+shortened code k (instruction.Load w d l) = instruction.Load w d l
+shortened code k (instruction.Store w x l) = instruction.Store w x l
+shortened code k (instruction.Address d l) = instruction.Address d l
+shortened code k (instruction.Element d x y size) = instruction.Element d x y size
+shortened code k (instruction.Jump to) = shortened_jump code k to
+shortened code k (instruction.Branch t x y to) = instruction.Branch t x y to
+shortened code k (instruction.Call g) = instruction.Call g
+shortened code k instruction.PutByte = instruction.PutByte
+shortened code k instruction.GetByte = instruction.GetByte
+shortened code k instruction.Exit = instruction.Exit
+shortened code k instruction.Return = instruction.Return

@@ -162,7 +162,7 @@ fn put_code(
             function,
             calls,
             first,
-            shortened(number, *instruction),
+            shortened(&function.code, number, *instruction),
         )?;
         number += 1;
     }

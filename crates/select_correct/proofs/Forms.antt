@@ -1,6 +1,7 @@
 -- The machine follows flat code: the forms that read operands and set a target, and those that only go on elsewhere.
-use Rattle.std.proofs.Common.{◌≡◌, ℕ, zero, suc, ◌+◌, ◌%◌, ◌^◌, ◌<◌, ◌≤◌, List, [], ◌∷◌, ◌++◌, length, Option, Some, None, Bool, true, false, refl, sym, ap, ◌∙◌, arith}
+use Rattle.std.proofs.Common.{◌≡◌, ℕ, zero, suc, ◌+◌, ◌-◌, ◌%◌, ◌^◌, ◌<◌, ◌≤◌, List, [], ◌∷◌, ◌++◌, length, Option, Some, None, Bool, true, false, refl, sym, ap, ◌∙◌, subst, arith}
 use Rattle.std.specs.Prelude.{if◌then◌else◌, slice_get, ◌==◌, nat_lt}
+use Rattle.std.proofs.lemmas.Bool.{and_parts, ltb-true}
 use Rattle.std.proofs.lemmas.Bool.Decides.{nat_tests}
 use Rattle.rv32.specs.declared.instr.Test.{Test}
 use Rattle.rv32.specs.Arithmetic.{compare_of}
@@ -27,7 +28,8 @@ use Rattle.select.specs.declared.places.Source.{Source}
 use Rattle.select.specs.declared.places.Source.TheVariants as source
 use Rattle.select.specs.declared.places.Home.{Home}
 use Rattle.select.specs.declared.places.Home.TheVariants as home
-use Rattle.select.specs.Selected.{source_of, home_of, fetch, register_of, move, made_in, keep, store_word, narrow, convert, items_of, is_same}
+use Rattle.select.specs.Selected.{source_of, home_of, fetch, register_of, move, made_in, keep, store_word, narrow, convert, items_of, is_same, is_nothing_if, are_nothing, skips_nothing}
+use Rattle.select.proofs.Shortened.{nothing_shortened}
 use Rattle.select_correct.specs.Matches.{Ground, Matched, Matches, Ready, address, first_of, shown}
 use Rattle.select_correct.specs.Costs.{least, least_at, word_cost, fetch_cost, keep_cost, into_cost, move_cost, narrow_cost, row, step_cost, most_at}
 use Rattle.select_correct.specs.Laws.{Anything, Follows}
@@ -142,12 +144,31 @@ module _ (G : Ground) (s : State) (r b : ℕ → ℕ) (ready : Ready G) (m : Mat
   there_aligned : (to : ℕ) → to < length fn.code → address G s.frame.function to % 4 ≡ 0
   there_aligned to lt = let x = some_at fn.code to lt in (ready.aligned s.frame.function to x.0 x.1).0
 
-  jumps_at : (to : ℕ) → to < length fn.code → (t : Bool) → (to == s.frame.at + 1) ≡ t → Stands G.machine.text G.env G.data_at (items_of fn (first_of G.program s.frame.function) (if t then instruction.Nothing else instruction.Jump to)) here last
+  -- an instruction that needs no code is where the next one is
+  stays_by : (k : ℕ) (o : Option Instruction) → slice_get fn.code k ≡ o → is_nothing_if o ≡ true → address G s.frame.function k ≡ address G s.frame.function (k + 1)
+  stays_by k None e t = cc
+  stays_by k (Some x) e t =
+      let place = first_of G.program s.frame.function in
+      subst (λ y. Stands G.machine.text G.env G.data_at (items_of fn place y) (address G s.frame.function k) (address G s.frame.function (k + 1))) (nothing_shortened fn.code k x t) (ready.stands s.frame.function k x e)
+
+  stays_at : (k : ℕ) → is_nothing_if (slice_get fn.code k) ≡ true → address G s.frame.function k ≡ address G s.frame.function (k + 1)
+  stays_at k e = stays_by k (slice_get fn.code k) refl e
+
+  all_stay : (k n : ℕ) → are_nothing fn.code k n ≡ true → address G s.frame.function k ≡ address G s.frame.function (k + n)
+  all_stay k zero e = refl
+  all_stay k (suc n) e =
+      let both = and_parts (is_nothing_if (slice_get fn.code k)) (are_nothing fn.code (k + 1) n) e in
+      let sum : k + 1 + n ≡ k + suc n = grind arith in
+      stays_at k both.0 ∙ (all_stay (k + 1) n both.1 ∙ ap (address G s.frame.function) sum)
+
+  jumps_at : (to : ℕ) → to < length fn.code → (t : Bool) → skips_nothing fn.code s.frame.at to ≡ t → Stands G.machine.text G.env G.data_at (items_of fn (first_of G.program s.frame.function) (if t then instruction.Nothing else instruction.Jump to)) here last
       → Comes G.machine Anything (least (if t then instruction.Nothing else instruction.Jump to)) (step_cost G.program fn (if t then instruction.Nothing else instruction.Jump to)) (Go r here b s.input s.trace) (Matches G (running (goes_to s to)))
   jumps_at to lt true et st =
       let Q : Light → Type 0 = Matches G (running (goes_to s to)) in
-      let is : to ≡ s.frame.at + 1 = grind (arith, nat_tests) in
-      let there : here ≡ address G s.frame.function to = st ∙ ap (address G s.frame.function) (sym is) in
+      let both = and_parts (nat_lt s.frame.at to) (are_nothing fn.code (s.frame.at + 1) (to - (s.frame.at + 1))) et in
+      let lt : s.frame.at < to = ltb-true s.frame.at to both.0 in
+      let is : s.frame.at + 1 + (to - (s.frame.at + 1)) ≡ to = omega (arith, lt) in
+      let there : here ≡ address G s.frame.function to = st ∙ (all_stay (s.frame.at + 1) (to - (s.frame.at + 1)) both.1 ∙ ap (address G s.frame.function) is) in
       comes_now G.machine Anything 0 (Go r here b s.input s.trace) Q tt (moved G ready s r here b m to here unset r (off_none 5 r) there none_left, refl, refl)
   jumps_at to lt false et st =
       let Q : Light → Type 0 = Matches G (running (goes_to s to)) in
@@ -156,8 +177,8 @@ module _ (G : Ground) (s : State) (r b : ℕ → ℕ) (ready : Ready G) (m : Mat
       (comes_now G.machine Anything 0 (Go r there b s.input s.trace) Q tt
       (moved G ready s r here b m to there unset r (off_none 5 r) refl none_left, refl, refl))
 
-  pub does_jump : (to : ℕ) → slice_get fn.code s.frame.at ≡ Some (instruction.Jump to) → Comes G.machine Anything (least_at s.frame.at (instruction.Jump to)) (most_at G.program fn s.frame.at (instruction.Jump to)) (Go r here b s.input s.trace) (Matches G (act G.program s (instruction.Jump to)))
-  does_jump to e = jumps_at to (fits (instruction.Jump to) e) (to == s.frame.at + 1) refl (ready.stands s.frame.function s.frame.at (instruction.Jump to) e)
+  pub does_jump : (to : ℕ) → slice_get fn.code s.frame.at ≡ Some (instruction.Jump to) → Comes G.machine Anything (least_at fn s.frame.at (instruction.Jump to)) (most_at G.program fn s.frame.at (instruction.Jump to)) (Go r here b s.input s.trace) (Matches G (act G.program s (instruction.Jump to)))
+  does_jump to e = jumps_at to (fits (instruction.Jump to) e) (skips_nothing fn.code s.frame.at to) refl (ready.stands s.frame.function s.frame.at (instruction.Jump to) e)
 
   either_way : (t : Bool) (to next_at : ℕ) (r2 : ℕ → ℕ) → Off 5 r r2 → next_at ≡ last
       → Matches G (running (if t then goes_to s to else next s)) (Go r2 (if t then address G s.frame.function to else next_at) b s.input s.trace)
@@ -241,7 +262,7 @@ module _ (G : Ground) (s : State) (r b : ℕ → ℕ) (ready : Ready G) (m : Mat
       let hx = operand_holds G ready s r here b m x v fx ev in
       moves_at s.arguments (λ k w ek. ek) d v (source_of fn x) fd hx.1 hx.0 (home_of fn d) refl st)
 
-  pub does_move : (d : Target) (x : Operand) → slice_get fn.code s.frame.at ≡ Some (instruction.Move d x) → Comes G.machine Anything (least_at s.frame.at (instruction.Move d x)) (most_at G.program fn s.frame.at (instruction.Move d x)) (Go r here b s.input s.trace) (Matches G (act G.program s (instruction.Move d x)))
+  pub does_move : (d : Target) (x : Operand) → slice_get fn.code s.frame.at ≡ Some (instruction.Move d x) → Comes G.machine Anything (least_at fn s.frame.at (instruction.Move d x)) (most_at G.program fn s.frame.at (instruction.Move d x)) (Go r here b s.input s.trace) (Matches G (act G.program s (instruction.Move d x)))
   does_move d x e =
       let fit = fits (instruction.Move d x) e in
       moves_or_stays d x fit.0 fit.1 (is_same d x) refl (ready.stands s.frame.function s.frame.at (instruction.Move d x) e)

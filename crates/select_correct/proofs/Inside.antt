@@ -216,4 +216,4 @@ module _ (a b : ℕ) where
 
     pub code_in : (m k : ℕ) (xs : List Instruction) → ((j : ℕ) (x : Instruction) → slice_get xs j ≡ Some x → InstructionFits m f x) → Inside a b (code_items f first k xs)
     code_in m k [] each = tt
-    code_in m k (x ∷ xs) each = both (items_of f first (shortened k x)) _ (items_in m (shortened k x) (shortened_fits m f k x (each 0 x refl))) (code_in m (k + 1) xs (λ j y g. each (suc j) y g))
+    code_in m k (x ∷ xs) each = both (items_of f first (shortened f.code k x)) _ (items_in m (shortened f.code k x) (shortened_fits m f f.code k x (each 0 x refl))) (code_in m (k + 1) xs (λ j y g. each (suc j) y g))

@@ -18,7 +18,7 @@ use Rattle.select_correct.specs.Runs.{LaidIsReady}
 record Labelled (T : ℕ → Option Instr) (env : ℕ → ℕ) (seg : ℕ) (f : Function) (first k : ℕ) (x : Instruction) (e : ℕ) : Type 0 where
   pub aligned : env (first + k) % 4 ≡ 0
   pub low : env (first + k) ≤ e
-  pub stands : Stands T env seg (items_of f first (shortened k x)) (env (first + k)) (env (first + (k + 1)))
+  pub stands : Stands T env seg (items_of f first (shortened f.code k x)) (env (first + k)) (env (first + (k + 1)))
 
 -- a function's label, and those of its instructions
 record Standing (T : ℕ → Option Instr) (env : ℕ → ℕ) (seg : ℕ) (f : Function) (n first e : ℕ) : Type 0 where
@@ -37,23 +37,23 @@ module _ (T : ℕ → Option Instr) (env : ℕ → ℕ) (seg : ℕ) where
   code_stands f first k (x ∷ xs) a e al st zero n en y ey =
       let rest = code_items f first (k + 1) xs in
       let at : st.0 ≡ a = st.1.1 in
-      let parts = stands_parts T env seg (items_of f first (shortened k x)) rest st.0 e st.2 in
+      let parts = stands_parts T env seg (items_of f first (shortened f.code k x)) rest st.0 e st.2 in
       let al0 : st.0 % 4 ≡ 0 = ap (λ z. z % 4) at ∙ al in
-      let one = after_items T env seg (items_of f first (shortened k x)) st.0 parts.0 al0 parts.1 in
+      let one = after_items T env seg (items_of f first (shortened f.code k x)) st.0 parts.0 al0 parts.1 in
       let more = after_items T env seg rest parts.0 e one.aligned parts.2 in
       let begin : st.0 ≡ env (first + k) = at ∙ sym st.1.0 in
       let end : parts.0 ≡ env (first + (k + 1)) = sym (first_mark f first (k + 1) xs parts.0 e parts.2) in
-      let here : Stands T env seg (items_of f first (shortened k x)) (env (first + k)) (env (first + (k + 1))) =
-      subst (λ z. Stands T env seg (items_of f first (shortened k x)) (env (first + k)) z) end (subst (λ z. Stands T env seg (items_of f first (shortened k x)) z parts.0) begin parts.1) in
+      let here : Stands T env seg (items_of f first (shortened f.code k x)) (env (first + k)) (env (first + (k + 1))) =
+      subst (λ z. Stands T env seg (items_of f first (shortened f.code k x)) (env (first + k)) z) end (subst (λ z. Stands T env seg (items_of f first (shortened f.code k x)) z parts.0) begin parts.1) in
       let same : x ≡ y = cc in
       let whole : Labelled T env seg f first k x e = record { aligned = ap (λ z. z % 4) st.1.0 ∙ al; low = omega (arith, st.1.0, at, one.on, more.on); stands = here } in
       let now : n ≡ k = omega (arith, en) in
       subst (λ z. Labelled T env seg f first n z e) same (subst (λ z. Labelled T env seg f first z x e) (sym now) whole)
   code_stands f first k (x ∷ xs) a e al st (suc j) n en y ey =
       let rest = code_items f first (k + 1) xs in
-      let parts = stands_parts T env seg (items_of f first (shortened k x)) rest st.0 e st.2 in
+      let parts = stands_parts T env seg (items_of f first (shortened f.code k x)) rest st.0 e st.2 in
       let al0 : st.0 % 4 ≡ 0 = ap (λ z. z % 4) st.1.1 ∙ al in
-      let one = after_items T env seg (items_of f first (shortened k x)) st.0 parts.0 al0 parts.1 in
+      let one = after_items T env seg (items_of f first (shortened f.code k x)) st.0 parts.0 al0 parts.1 in
       code_stands f first (k + 1) xs parts.0 e one.aligned parts.2 j n (omega (arith, en)) y ey
 
   -- up to a later end

@@ -177,7 +177,7 @@ code_marks f first k (x ∷ xs) l ge lt =
     (λ h. let same : first + k ≡ l = omega (arith, ge, h) in (0, omega arith, ap Mark same))
     (λ h.
     let m = code_marks f first (k + 1) xs l (omega (arith, h)) (omega (arith, lt)) in
-    let items = Mark (first + k) ∷ items_of f first (shortened k x) in
+    let items = Mark (first + k) ∷ items_of f first (shortened f.code k x) in
     let rest = code_items f first (k + 1) xs in
     let sum = length-append items rest in
     (length items + m.0, omega (arith, m.1, sum), item_behind items rest m.0 ∙ m.2))

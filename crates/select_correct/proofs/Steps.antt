@@ -24,7 +24,7 @@ use Rattle.select_correct.proofs.Calls.{call_follows, return_follows}
 -- ---- one step
 
 every : (x : Instruction) (G : Ground) (s : State) (r b : ℕ → ℕ) → Ready G → Matched G s r (address G s.frame.function s.frame.at) b → IsBelow G (running s) → AreBytes s.input → next_of G.program s ≡ Some x → HasRoom G (act G.program s x)
-    → Comes G.machine Anything (least_at s.frame.at x) (most_at G.program (function_at G.program s.frame.function) s.frame.at x) (Go r (address G s.frame.function s.frame.at) b s.input s.trace) (Matches G (act G.program s x))
+    → Comes G.machine Anything (least_at (function_at G.program s.frame.function) s.frame.at x) (most_at G.program (function_at G.program s.frame.function) s.frame.at x) (Go r (address G s.frame.function s.frame.at) b s.input s.trace) (Matches G (act G.program s x))
 every instruction.Nothing G s r b ready m under bytes e room = nothing_follows G s r b ready m under e room
 every (instruction.Move d x) G s r b ready m under bytes e room = move_follows d x G s r b ready m under e room
 every (instruction.Compute o d x y) G s r b ready m under bytes e room = compute_follows o d x y G s r b ready m under e room
@@ -42,7 +42,7 @@ every instruction.Exit G s r b ready m under bytes e room = exit_follows G s r b
 every instruction.Return G s r b ready m under bytes e room = return_follows G s r b ready m under e room
 
 any : (o : Option Instruction) (G : Ground) (s : State) (r b : ℕ → ℕ) → Ready G → Matched G s r (address G s.frame.function s.frame.at) b → IsBelow G (running s) → AreBytes s.input → next_of G.program s ≡ o → HasRoom G (o >>= act G.program s)
-    → Comes G.machine Anything (least_if s.frame.at o) (most_if G.program (function_at G.program s.frame.function) s.frame.at o) (Go r (address G s.frame.function s.frame.at) b s.input s.trace) (Matches G (o >>= act G.program s))
+    → Comes G.machine Anything (least_if (function_at G.program s.frame.function) s.frame.at o) (most_if G.program (function_at G.program s.frame.function) s.frame.at o) (Go r (address G s.frame.function s.frame.at) b s.input s.trace) (Matches G (o >>= act G.program s))
 any None G s r b ready m under bytes e room = no_more G s r b ready m 0 0 _ (omega arith)
 any (Some x) G s r b ready m under bytes e room = every x G s r b ready m under bytes e room
 
@@ -50,7 +50,7 @@ pub step_follows : StepFollows
 step_follows G s r b ready m under bytes room =
     let e = step_is G.program s in
     let here = Go r (address G s.frame.function s.frame.at) b s.input s.trace in
-    subst (λ x. Comes G.machine Anything (least_if s.frame.at (next_of G.program s)) (most_next G.program s) here (Matches G x)) (sym e)
+    subst (λ x. Comes G.machine Anything (least_if (function_at G.program s.frame.function) s.frame.at (next_of G.program s)) (most_next G.program s) here (Matches G x)) (sym e)
     (any (next_of G.program s) G s r b ready m under bytes refl (subst (HasRoom G) e room))
 
 -- ---- the remaining input is bytes

@@ -18,7 +18,7 @@ use Rattle.select.specs.declared.places.Source.{Source}
 use Rattle.select.specs.declared.places.Source.TheVariants as source
 use Rattle.select.specs.declared.places.Home.{Home}
 use Rattle.select.specs.declared.places.Home.TheVariants as home
-use Rattle.select.specs.Selected.{source_of, home_of, register_of, made_in, machine_of, constant_form, log2_of, byte_home, return_home, calls, is_same}
+use Rattle.select.specs.Selected.{source_of, home_of, register_of, made_in, machine_of, constant_form, log2_of, byte_home, return_home, calls, is_same, skips_nothing}
 use Rattle.select_correct.specs.Costs.{far_cost, word_cost, constant_cost, address_cost, set_cost, fetch_cost, keep_cost, into_cost, move_cost, form_cost, second_cost, ending_cost, compute_cost, narrow_cost, reach_cost, reference_cost, product_cost, scale_cost, frame_cost, far_frame, saved_cost, opening_cost, step_cost, most_at, most_if, most_next, most_spent, SpentIsMore, far_source, far_home, far_location, far_saved, RowsAreFew}
 use Rattle.select_correct.proofs.Fits.{function_fits}
 
@@ -224,7 +224,7 @@ module _ (p : Program) (sound : IsSoundProgram p) where
   at_is_more f le k (instruction.Store w x l) = step_is_more f le (instruction.Store w x l)
   at_is_more f le k (instruction.Address d l) = step_is_more f le (instruction.Address d l)
   at_is_more f le k (instruction.Element d x y size) = step_is_more f le (instruction.Element d x y size)
-  at_is_more f le k (instruction.Jump to) = chosen_is_more f le (instruction.Jump to) (to == k + 1)
+  at_is_more f le k (instruction.Jump to) = chosen_is_more f le (instruction.Jump to) (skips_nothing f.code k to)
   at_is_more f le k (instruction.Branch t x y to) = step_is_more f le (instruction.Branch t x y to)
   at_is_more f le k (instruction.Call g) = step_is_more f le (instruction.Call g)
   at_is_more f le k instruction.PutByte = step_is_more f le instruction.PutByte

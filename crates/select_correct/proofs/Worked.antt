@@ -176,6 +176,24 @@ far_return = refl
 jump_to_the_next : most_at program near 4 (instruction.Jump 5) ≡ 0
 jump_to_the_next = refl
 
+abbrev gapped : Function
+gapped = record {
+  code = instruction.Jump 3 ∷ instruction.Nothing ∷ instruction.Move (target.Temporary 3) (operand.Temporary 3) ∷ instruction.Jump 1 ∷ instruction.Return ∷ [];
+  cells = 0;
+  resident = 0;
+  area = 0;
+  outgoing = 0;
+}
+
+jump_over_none : most_at program gapped 0 (instruction.Jump 3) ≡ 0
+jump_over_none = refl
+
+jump_over_a_jump : most_at program gapped 0 (instruction.Jump 4) ≡ 1
+jump_over_a_jump = refl
+
+jump_back_over_none : most_at program gapped 3 (instruction.Jump 1) ≡ 1
+jump_back_over_none = refl
+
 jump_elsewhere : most_at program near 4 (instruction.Jump 6) ≡ 1
 jump_elsewhere = refl
 

@@ -40,18 +40,18 @@ least instruction.GetByte = 1
 least instruction.Exit = 1
 least instruction.Return = 1
 
--- instruction number k of a function: none where it only goes on to the next one
-abbrev pub least_at : ℕ → Instruction → ℕ
-least_at k x = least (shortened k x)
+-- instruction number k of a function: none where it only goes on to the next one that needs code
+abbrev pub least_at : Function → ℕ → Instruction → ℕ
+least_at f k x = least (shortened f.code k x)
 
-abbrev pub least_if : ℕ → Option Instruction → ℕ
-least_if k None = 0
-least_if k (Some x) = least_at k x
+abbrev pub least_if : Function → ℕ → Option Instruction → ℕ
+least_if f k None = 0
+least_if f k (Some x) = least_at f k x
 
 -- the least cost of n steps
 abbrev pub least_spent : Program → ℕ → State → ℕ
 least_spent p zero s = 0
-least_spent p (suc n) s = least_if s.frame.at (next_of p s) + cost_on (step p s) (least_spent p n)
+least_spent p (suc n) s = least_if (function_at p s.frame.function) s.frame.at (next_of p s) + cost_on (step p s) (least_spent p n)
 
 -- ---- at most: by the function that the instruction is in
 
@@ -185,9 +185,9 @@ abbrev pub step_cost : Program → Function → Instruction → ℕ
 step_cost p f (instruction.Call g) = row f (instruction.Call g) + opening_cost (function_at p g)
 step_cost p f x = row f x
 
--- instruction number k of function f: none where it only goes on to the next one
+-- instruction number k of function f: none where it only goes on to the next one that needs code
 abbrev pub most_at : Program → Function → ℕ → Instruction → ℕ
-most_at p f k x = step_cost p f (shortened k x)
+most_at p f k x = step_cost p f (shortened f.code k x)
 
 abbrev pub most_if : Program → Function → ℕ → Option Instruction → ℕ
 most_if p f k None = 0

@@ -25,7 +25,7 @@ abbrev pub Follows : Instruction → Type 0
 Follows x =
     (G : Ground) (s : State) (r b : ℕ → ℕ) → Ready G → Matched G s r (address G s.frame.function s.frame.at) b → IsBelow G (running s)
     → slice_get (function_at G.program s.frame.function).code s.frame.at ≡ Some x → HasRoom G (act G.program s x)
-    → Comes G.machine Anything (least_at s.frame.at x) (most_at G.program (function_at G.program s.frame.function) s.frame.at x) (Go r (address G s.frame.function s.frame.at) b s.input s.trace) (Matches G (act G.program s x))
+    → Comes G.machine Anything (least_at (function_at G.program s.frame.function) s.frame.at x) (most_at G.program (function_at G.program s.frame.function) s.frame.at x) (Go r (address G s.frame.function s.frame.at) b s.input s.trace) (Matches G (act G.program s x))
 
 -- the input is bytes: each value is less than 2^8
 abbrev pub AreBytes : List ℕ → Type 0

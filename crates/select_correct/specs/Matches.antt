@@ -139,7 +139,7 @@ pub record Ready (G : Ground) : Type 0 where
   pub sound : IsSoundProgram G.program
   pub aligned : (f k : ℕ) (x : Instruction) → slice_get (function_at G.program f).code k ≡ Some x → (address G f k % 4 ≡ 0) × (address G f k < 2 ^ 31)
   pub stands : (f k : ℕ) (x : Instruction) → slice_get (function_at G.program f).code k ≡ Some x
-      → Stands G.machine.text G.env G.data_at (items_of (function_at G.program f) (first_of G.program f) (shortened k x)) (address G f k) (address G f (k + 1))
+      → Stands G.machine.text G.env G.data_at (items_of (function_at G.program f) (first_of G.program f) (shortened (function_at G.program f).code k x)) (address G f k) (address G f (k + 1))
   pub entries : (f : ℕ) → f < length G.program.functions → Stands G.machine.text G.env G.data_at (entry (function_at G.program f)) (G.env f) (address G f 0)
   pub entry_aligned : (f : ℕ) → f < length G.program.functions → G.env f % 4 ≡ 0
   pub stack_read : (a : ℕ) → G.floor ≤ a → a < 2 ^ 31 → G.machine.can_read a ≡ true
