@@ -1,11 +1,11 @@
 -- An instruction that is shortened is itself or Nothing.
-use Rattle.std.proofs.Common.{◌≡◌, ◌⊎◌, inl, inr, ⊎_elim, ℕ, ◌+◌, ◌≤◌, Bool, true, false, List, refl, sym, subst, ap, arith}
-use Rattle.std.specs.Prelude.{if◌then◌else◌}
+use Rattle.std.proofs.Common.{◌≡◌, ◌⊎◌, inl, inr, ⊎_elim, ℕ, suc, ◌+◌, ◌-◌, ◌<◌, ◌≤◌, Bool, true, false, List, refl, sym, subst, ap, ◌∙◌, arith}
+use Rattle.std.specs.Prelude.{if◌then◌else◌, ◌&&◌, slice_get}
 use Rattle.frames_code.specs.declared.code.Instruction.{Instruction}
 use Rattle.frames_code.specs.declared.code.Instruction.TheVariants as instruction
 use Rattle.frames_code.specs.Code.{Function}
 use Rattle.frames_code.specs.Sound.{InstructionFits}
-use Rattle.select.specs.Selected.{is_same, is_nothing, skips_nothing, shortened}
+use Rattle.select.specs.Selected.{is_same, is_nothing, is_nothing_if, are_nothing, skips_nothing, shortened}
 use Rattle.select.specs.Bytes.{instruction_bytes}
 
 or_nothing : (t : Bool) (x : Instruction) → ((if t then instruction.Nothing else x) ≡ instruction.Nothing) ⊎ ((if t then instruction.Nothing else x) ≡ x)
@@ -55,3 +55,12 @@ nothing_shortened code k instruction.PutByte e = cc
 nothing_shortened code k instruction.GetByte e = cc
 nothing_shortened code k instruction.Exit e = cc
 nothing_shortened code k instruction.Return e = cc
+
+-- one instruction further
+pub nothing_on : (code : List Instruction) (k to : ℕ) (all : Bool) → k < to → is_nothing_if (slice_get code k) ≡ true → are_nothing code k (to - k) ≡ all → are_nothing code (k + 1) (to - (k + 1)) ≡ all
+nothing_on code k to all lt here is =
+    let n = to - (k + 1) in
+    let more : to - k ≡ suc n = omega (arith, lt) in
+    let split : are_nothing code k (to - k) ≡ (is_nothing_if (slice_get code k) && are_nothing code (k + 1) n) = ap (are_nothing code k) more in
+    let rest : (is_nothing_if (slice_get code k) && are_nothing code (k + 1) n) ≡ are_nothing code (k + 1) n = ap (λ b. b && are_nothing code (k + 1) n) here in
+    sym rest ∙ (sym split ∙ is)

@@ -12,4 +12,4 @@ put_instruction-requires-clause-fits c =
     let at = c.loop-instruction.instruction-index in
     let held = c.deref-instruction-items in
     let fit = f.1.each at _ (ap (λ xs. slice_get xs at) (sym held.ensures.value) ∙ got_or held.result.now at _ c.loop-instruction-test.true) in
-    (f.0, subst (InstructionFits f.0 (function_of c.args.function.now)) (sym c.shortened.ensures) (shortened_fits f.0 (function_of c.args.function.now) c.args.function.now.code.items c.loop-instruction.number _ fit))
+    (f.0, subst (InstructionFits f.0 (function_of c.args.function.now)) (sym c.shortened.ensures) (shortened_fits f.0 (function_of c.args.function.now) c.deref.result.now c.loop-instruction.number _ fit))
