@@ -1,7 +1,8 @@
 -- The items of a whole flat program.
-use Rattle.std.specs.Prelude.{ℕ, ◌+◌, List, [], ◌∷◌, ◌++◌, length}
+use Rattle.std.specs.Prelude.{ℕ, ◌+◌, nat_le, if◌then◌else◌, Bool, List, [], ◌∷◌, ◌++◌, length, map}
 use Rattle.memory_map.specs.MemoryMap.{stack_end}
 use Rattle.asm.specs.declared.item.Item.{Item}
+use Rattle.asm.specs.Layout.{longest}
 use Rattle.asm.specs.declared.item.Item.TheVariants as item
 use Rattle.frames_code.specs.declared.code.Instruction.{Instruction}
 use Rattle.frames_code.specs.Code as flat
@@ -29,8 +30,31 @@ start_items main = item.Constant 2 stack_end ∷ item.Call main ∷ exit
 
 -- The labels: first those of the functions, by their numbers; then, a function after the other, those of its instructions and of
 -- its end.
+abbrev pub far_items : flat.Program → List Item
+far_items p = start_items p.main ++ functions_items 0 (length p.functions) p.functions
+
+-- ---- near calls
+
+abbrev pub nearer : Item → Item
+nearer (item.Call to) = item.NearCall to
+nearer (item.Mark l) = item.Mark l
+nearer (item.Plain i) = item.Plain i
+nearer (item.Branch t l r to) = item.Branch t l r to
+nearer (item.Jump to) = item.Jump to
+nearer (item.NearCall to) = item.NearCall to
+nearer (item.Constant rd v) = item.Constant rd v
+nearer (item.LabelAddress rd l) = item.LabelAddress rd l
+nearer (item.DataAddress rd o) = item.DataAddress rd o
+
+-- where all items together are no longer than the reach of JAL, each call is near
+abbrev pub are_near : List Item → Bool
+are_near xs = nat_le (longest xs) 1048574
+
+abbrev pub shorten_calls : List Item → List Item
+shorten_calls xs = if are_near xs then map nearer xs else xs
+
 abbrev pub program_items : flat.Program → List Item
-program_items p = start_items p.main ++ functions_items 0 (length p.functions) p.functions
+program_items p = shorten_calls (far_items p)
 
 abbrev pub labels_of : flat.Program → ℕ
 labels_of p = length p.functions + places_of p.functions

@@ -12,6 +12,7 @@ use crate::calls::{has_call, put_entry, put_exit, put_get_byte, put_leave, put_p
 use crate::elements::{put_element, put_load, put_reference, put_store};
 use crate::operations::{put_compute, put_convert, put_move};
 use crate::places::{home_of, source_of};
+use crate::near::shorten_calls;
 use crate::shortening::shortened;
 use crate::words::{fetch, put, put_one, register_of, stack_pointer};
 use asm::{Item, Items, Label};
@@ -238,6 +239,7 @@ fn program_code(alloc: Global, program: &FlatProgram) -> Result<Items, AllocErro
     let mut list = Vec::with_capacity(alloc, room_for(&program.functions))?;
     put_start(&mut list, program.main)?;
     let labels = put_functions(&mut list, &program.functions)?;
+    shorten_calls(&mut list);
     let Some(items) = Items::new(alloc, list, labels)? else {
         unreachable!()
     };

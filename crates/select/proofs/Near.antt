@@ -1,0 +1,124 @@
+-- Items with their calls near: the labels, sizes and elements of the list.
+use Rattle.std.proofs.Common.{◌≡◌, ℕ, zero, suc, ◌+◌, ◌<◌, ◌≤◌, List, [], ◌∷◌, length, map, set, get_or, Bool, true, false, refl, sym, subst, ap, ◌∙◌, arith}
+use Rattle.std.specs.Prelude.{nat_le, if◌then◌else◌, drop, slice_index_or}
+use Rattle.std.proofs.lemmas.Bool.{leb-true}
+use Rattle.std.proofs.lemmas.List.{length-map}
+use Rattle.std.proofs.lemmas.List.Sums.{sum_by-cons}
+use Rattle.asm.specs.declared.item.Item.{Item}
+use Rattle.asm.specs.declared.item.Item.TheVariants.{Mark, Plain, Branch, Jump, Call, NearCall, Constant, LabelAddress, DataAddress}
+use Rattle.asm.specs.Layout.{item_at, size, longest, Refers, IsSound}
+use Rattle.select.specs.Program.{nearer, are_near, shorten_calls}
+
+-- ---- one item
+
+refers_nearer : (n : ℕ) (x : Item) → Refers n x → Refers n (nearer x)
+refers_nearer n (Mark l) p = p
+refers_nearer n (Plain i) p = p
+refers_nearer n (Branch t l r to) p = p
+refers_nearer n (Jump to) p = p
+refers_nearer n (Call to) p = p
+refers_nearer n (NearCall to) p = p
+refers_nearer n (Constant rd v) p = p
+refers_nearer n (LabelAddress rd l) p = p
+refers_nearer n (DataAddress rd o) p = p
+
+was_mark : (x : Item) (l : ℕ) → nearer x ≡ Mark l → x ≡ Mark l
+was_mark (Mark k) l e = e
+was_mark (Plain i) l e = cc
+was_mark (Branch t a b to) l e = cc
+was_mark (Jump to) l e = cc
+was_mark (Call to) l e = cc
+was_mark (NearCall to) l e = cc
+was_mark (Constant rd v) l e = cc
+was_mark (LabelAddress rd k) l e = cc
+was_mark (DataAddress rd o) l e = cc
+
+size_nearer : (x : Item) → size true (nearer x) ≤ size true x
+size_nearer (Mark l) = omega arith
+size_nearer (Plain i) = omega arith
+size_nearer (Branch t l r to) = omega arith
+size_nearer (Jump to) = omega arith
+size_nearer (Call to) = omega arith
+size_nearer (NearCall to) = omega arith
+size_nearer (Constant rd v) = omega arith
+size_nearer (LabelAddress rd l) = omega arith
+size_nearer (DataAddress rd o) = omega arith
+
+-- ---- lists
+
+pub item_nearer : (xs : List Item) (k : ℕ) → item_at (map nearer xs) k ≡ nearer (item_at xs k)
+item_nearer [] k = refl
+item_nearer (x ∷ xs) zero = refl
+item_nearer (x ∷ xs) (suc k) = item_nearer xs k
+
+longest_nearer : (xs : List Item) → longest (map nearer xs) ≤ longest xs
+longest_nearer [] = omega arith
+longest_nearer (x ∷ xs) =
+    omega (arith, sum_by-cons (size true) x xs, sum_by-cons (size true) (nearer x) (map nearer xs), size_nearer x, longest_nearer xs)
+
+sound_nearer : (n : ℕ) (xs : List Item) → IsSound n xs → IsSound n (map nearer xs)
+sound_nearer n xs s =
+    let count : length (map nearer xs) ≡ length xs = length-map xs nearer in
+    record {
+      refers = λ k lt. subst (Refers n) (sym (item_nearer xs k)) (refers_nearer n (item_at xs k) (s.refers k (omega (arith, lt, count))));
+      marked = λ l lt. (let m = s.marked l lt in (m.0, omega (arith, m.1, count), item_nearer xs m.0 ∙ ap nearer m.2));
+      once = λ j k l a b p q.
+        s.once j k l (omega (arith, a, count)) (omega (arith, b, count)) (was_mark (item_at xs j) l (sym (item_nearer xs j) ∙ p)) (was_mark (item_at xs k) l (sym (item_nearer xs k) ∙ q));
+    }
+
+either : (P : List Item → Type 0) (b : Bool) (xs : List Item) → P xs → P (map nearer xs) → P (if b then map nearer xs else xs)
+either P true xs far near = near
+either P false xs far near = far
+
+pub shortened_sound : (n : ℕ) (xs : List Item) → IsSound n xs → IsSound n (shorten_calls xs)
+shortened_sound n xs s = either (IsSound n) (are_near xs) xs s (sound_nearer n xs s)
+
+pub shortened_longest : (xs : List Item) → longest (shorten_calls xs) ≤ longest xs
+shortened_longest xs = either (λ ys. longest ys ≤ longest xs) (are_near xs) xs (omega arith) (longest_nearer xs)
+
+-- ---- how calls are made near, one after the other
+
+-- the first n of them are near
+abbrev pub near_to : ℕ → List Item → List Item
+near_to zero xs = xs
+near_to (suc n) [] = []
+near_to (suc n) (x ∷ xs) = nearer x ∷ near_to n xs
+
+pub near_all : (n : ℕ) (xs : List Item) → length xs ≤ n → near_to n xs ≡ map nearer xs
+near_all zero [] le = refl
+near_all zero (x ∷ xs) le = absurd (omega (arith, le))
+near_all (suc n) [] le = refl
+near_all (suc n) (x ∷ xs) le = ap (λ ys. nearer x ∷ ys) (near_all n xs (omega (arith, le)))
+
+pub near_length : (n : ℕ) (xs : List Item) → length (near_to n xs) ≡ length xs
+near_length zero xs = refl
+near_length (suc n) [] = refl
+near_length (suc n) (x ∷ xs) = ap suc (near_length n xs)
+
+-- item k is the list's own yet
+pub next_own : (k : ℕ) (xs : List Item) (d : Item) → get_or (near_to k xs) k d ≡ get_or xs k d
+next_own zero xs d = refl
+next_own (suc k) [] d = refl
+next_own (suc k) (x ∷ xs) d = next_own k xs d
+
+pub near_next : (k : ℕ) (xs : List Item) (d : Item) → k < length xs → set (near_to k xs) k (nearer (get_or xs k d)) ≡ near_to (k + 1) xs
+near_next k [] d lt = absurd (omega (arith, lt))
+near_next zero (x ∷ xs) d lt = refl
+near_next (suc k) (x ∷ xs) d lt = ap (λ ys. nearer x ∷ ys) (near_next k xs d (omega (arith, lt)))
+
+-- one that is near already
+pub near_same : (k : ℕ) (xs : List Item) (d : Item) → k < length xs → nearer (get_or xs k d) ≡ get_or xs k d → near_to k xs ≡ near_to (k + 1) xs
+near_same k [] d lt e = absurd (omega (arith, lt))
+near_same zero (x ∷ xs) d lt e = ap (λ y. y ∷ xs) (sym e)
+near_same (suc k) (x ∷ xs) d lt e = ap (λ ys. nearer x ∷ ys) (near_same k xs d (omega (arith, lt)) e)
+
+pub no_call : (x : Item) → ((to : ℕ) → x ≡ Call to → ⊥) → nearer x ≡ x
+no_call (Mark l) other = refl
+no_call (Plain i) other = refl
+no_call (Branch t l r to) other = refl
+no_call (Jump to) other = refl
+no_call (Call to) other = absurd (other to refl)
+no_call (NearCall to) other = refl
+no_call (Constant rd v) other = refl
+no_call (LabelAddress rd l) other = refl
+no_call (DataAddress rd o) other = refl

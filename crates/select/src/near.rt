@@ -1,0 +1,43 @@
+//! Calls that are near.
+
+ghost use Rattle.std.specs.Prelude.{◌≡◌, map};
+ghost use Rattle.select.specs.Program as spec;
+
+use asm::Item;
+
+/// The reach of JAL forward, in bytes; backward it is two bytes more.
+const REACH: u32 = 1_048_574;
+
+/// Whether no two of the items are further from each other than JAL reaches, whichever branches are long.
+fn are_near(items: &[Item]) -> bool
+    ensures { result ≡ spec.are_near items.now }
+{
+    let mut bytes: u32 = 0;
+    for item in items {
+        bytes += item.most_bytes();
+        if bytes > REACH {
+            return false;
+        }
+    }
+    true
+}
+
+/// Makes each call a near one.
+fn make_near(items: &mut [Item])
+    ensures { items.new ≡ map spec.nearer items.old }
+{
+    for number in 0..items.len() {
+        if let Item::Call { to } = items[number] {
+            items[number] = Item::NearCall { to };
+        }
+    }
+}
+
+/// Makes each call of a program a near one, if all of the program is near.
+pub fn shorten_calls(items: &mut Vec<Item>)
+    ensures { items.new.items ≡ spec.shorten_calls items.old.items }
+{
+    if are_near(items) {
+        make_near(items);
+    }
+}
