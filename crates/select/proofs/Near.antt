@@ -1,13 +1,11 @@
 -- Items with their calls near: the labels, sizes and elements of the list.
-use Rattle.std.proofs.Common.{◌≡◌, ℕ, zero, suc, ◌+◌, ◌<◌, ◌≤◌, List, [], ◌∷◌, length, map, set, get_or, Bool, true, false, refl, sym, subst, ap, ◌∙◌, arith}
-use Rattle.std.specs.Prelude.{nat_le, if◌then◌else◌, drop, slice_index_or}
-use Rattle.std.proofs.lemmas.Bool.{leb-true}
+use Rattle.std.proofs.Common.{◌≡◌, ◌⊎◌, inl, inr, ⊎_elim, ℕ, zero, suc, ◌+◌, ◌<◌, ◌≤◌, List, [], ◌∷◌, ◌++◌, length, map, set, get_or, Bool, true, false, refl, sym, subst, ap, ◌∙◌, arith}
 use Rattle.std.proofs.lemmas.List.{length-map}
 use Rattle.std.proofs.lemmas.List.Sums.{sum_by-cons}
 use Rattle.asm.specs.declared.item.Item.{Item}
 use Rattle.asm.specs.declared.item.Item.TheVariants.{Mark, Plain, Branch, Jump, Call, NearCall, Constant, LabelAddress, DataAddress}
 use Rattle.asm.specs.Layout.{item_at, size, longest, Refers, IsSound}
-use Rattle.select.specs.Program.{nearer, are_near, shorten_calls}
+use Rattle.select.specs.Program.{nearer, shorten_calls}
 
 -- ---- one item
 
@@ -56,25 +54,36 @@ longest_nearer [] = omega arith
 longest_nearer (x ∷ xs) =
     omega (arith, sum_by-cons (size true) x xs, sum_by-cons (size true) (nearer x) (map nearer xs), size_nearer x, longest_nearer xs)
 
-sound_nearer : (n : ℕ) (xs : List Item) → IsSound n xs → IsSound n (map nearer xs)
-sound_nearer n xs s =
-    let count : length (map nearer xs) ≡ length xs = length-map xs nearer in
+-- an item of the list with near calls behind `front` is that of the list, or is that made near
+alike_at : (front rest : List Item) (k : ℕ) → (item_at (front ++ map nearer rest) k ≡ item_at (front ++ rest) k) ⊎ (item_at (front ++ map nearer rest) k ≡ nearer (item_at (front ++ rest) k))
+alike_at [] rest k = inr (item_nearer rest k)
+alike_at (x ∷ front) rest zero = inl refl
+alike_at (x ∷ front) rest (suc k) = alike_at front rest k
+
+as_long : (front rest : List Item) → length (front ++ map nearer rest) ≡ length (front ++ rest)
+as_long [] rest = length-map rest nearer
+as_long (x ∷ front) rest = ap suc (as_long front rest)
+
+sound_nearer : (n : ℕ) (front rest : List Item) → IsSound n (front ++ rest) → IsSound n (front ++ map nearer rest)
+sound_nearer n front rest s =
+    let xs = front ++ rest in
+    let ys = front ++ map nearer rest in
+    let count : length ys ≡ length xs = as_long front rest in
+    let was : (k l : ℕ) → item_at ys k ≡ Mark l → item_at xs k ≡ Mark l = λ k l p. ⊎_elim (λ e. sym e ∙ p) (λ e. was_mark (item_at xs k) l (sym e ∙ p)) (alike_at front rest k) in
     record {
-      refers = λ k lt. subst (Refers n) (sym (item_nearer xs k)) (refers_nearer n (item_at xs k) (s.refers k (omega (arith, lt, count))));
-      marked = λ l lt. (let m = s.marked l lt in (m.0, omega (arith, m.1, count), item_nearer xs m.0 ∙ ap nearer m.2));
-      once = λ j k l a b p q.
-        s.once j k l (omega (arith, a, count)) (omega (arith, b, count)) (was_mark (item_at xs j) l (sym (item_nearer xs j) ∙ p)) (was_mark (item_at xs k) l (sym (item_nearer xs k) ∙ q));
+      refers = λ k lt. (let old = s.refers k (omega (arith, lt, count)) in
+          ⊎_elim (λ e. subst (Refers n) (sym e) old) (λ e. subst (Refers n) (sym e) (refers_nearer n (item_at xs k) old)) (alike_at front rest k));
+      marked = λ l lt. (let m = s.marked l lt in (m.0, omega (arith, m.1, count), ⊎_elim (λ e. e ∙ m.2) (λ e. e ∙ ap nearer m.2) (alike_at front rest m.0)));
+      once = λ j k l a b p q. s.once j k l (omega (arith, a, count)) (omega (arith, b, count)) (was j l p) (was k l q);
     }
 
-either : (P : List Item → Type 0) (b : Bool) (xs : List Item) → P xs → P (map nearer xs) → P (if b then map nearer xs else xs)
-either P true xs far near = near
-either P false xs far near = far
+pub shortened_sound : (near : Bool) (n : ℕ) (front rest : List Item) → IsSound n (front ++ rest) → IsSound n (front ++ shorten_calls near rest)
+shortened_sound true n front rest s = sound_nearer n front rest s
+shortened_sound false n front rest s = s
 
-pub shortened_sound : (n : ℕ) (xs : List Item) → IsSound n xs → IsSound n (shorten_calls xs)
-shortened_sound n xs s = either (IsSound n) (are_near xs) xs s (sound_nearer n xs s)
-
-pub shortened_longest : (xs : List Item) → longest (shorten_calls xs) ≤ longest xs
-shortened_longest xs = either (λ ys. longest ys ≤ longest xs) (are_near xs) xs (omega arith) (longest_nearer xs)
+pub shortened_longest : (near : Bool) (xs : List Item) → longest (shorten_calls near xs) ≤ longest xs
+shortened_longest true xs = longest_nearer xs
+shortened_longest false xs = omega arith
 
 -- ---- how calls are made near, one after the other
 

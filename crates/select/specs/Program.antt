@@ -46,15 +46,16 @@ nearer (item.Constant rd v) = item.Constant rd v
 nearer (item.LabelAddress rd l) = item.LabelAddress rd l
 nearer (item.DataAddress rd o) = item.DataAddress rd o
 
--- where all items together are no longer than the reach of JAL, each call is near
+abbrev pub shorten_calls : (near : Bool) → List Item → List Item
+shorten_calls near xs = if near then map nearer xs else xs
+
+-- all items together are no longer than the reach of JAL
 abbrev pub are_near : List Item → Bool
 are_near xs = nat_le (longest xs) 1048574
 
-abbrev pub shorten_calls : List Item → List Item
-shorten_calls xs = if are_near xs then map nearer xs else xs
-
+-- then each call of a function is near
 abbrev pub program_items : flat.Program → List Item
-program_items p = shorten_calls (far_items p)
+program_items p = start_items p.main ++ shorten_calls (are_near (far_items p)) (functions_items 0 (length p.functions) p.functions)
 
 abbrev pub labels_of : flat.Program → ℕ
 labels_of p = length p.functions + places_of p.functions

@@ -1,6 +1,6 @@
 //! Calls that are near.
 
-ghost use Rattle.std.specs.Prelude.{◌≡◌, map};
+ghost use Rattle.std.specs.Prelude.{◌≡◌, ◌≤◌, ◌++◌, length, take, drop, map};
 ghost use Rattle.select.specs.Program as spec;
 
 use asm::Item;
@@ -33,11 +33,13 @@ fn make_near(items: &mut [Item])
     }
 }
 
-/// Makes each call of a program a near one, if all of the program is near.
-pub fn shorten_calls(items: &mut Vec<Item>)
-    ensures { items.new.items ≡ spec.shorten_calls items.old.items }
+/// Makes each call from item `from` on a near one, if all items are near.
+pub fn shorten_calls(items: &mut [Item], from: usize)
+    requires { from ≤ length items.old }
+    ensures { items.new ≡ take from items.old ++ spec.shorten_calls (spec.are_near items.old) (drop from items.old) }
 {
     if are_near(items) {
-        make_near(items);
+        let (_, behind) = items.split_at_mut(from);
+        make_near(behind);
     }
 }

@@ -238,8 +238,9 @@ fn program_code(alloc: Global, program: &FlatProgram) -> Result<Items, AllocErro
 {
     let mut list = Vec::with_capacity(alloc, room_for(&program.functions))?;
     put_start(&mut list, program.main)?;
+    let begun = list.len();
     let labels = put_functions(&mut list, &program.functions)?;
-    shorten_calls(&mut list);
+    shorten_calls(&mut list, begun);
     let Some(items) = Items::new(alloc, list, labels)? else {
         unreachable!()
     };
