@@ -364,7 +364,7 @@ module _ (p : Program) (parts : Parts) (q : IsImageOf p parts) (input : List ℕ
   -- if it goes on
   record GoesFurther (k : ℕ) (s t : State) : Type 0 where
     pub j : ℕ
-    pub some : least_if s.frame.at (next_of p s) ≤ j
+    pub some : least_if (function_at p s.frame.function) s.frame.at (next_of p s) ≤ j
     pub stands : StandsAt P G0 t (rvrun (k + j) begin)
     pub callers : AreBehindCalls p t.waiting
     pub covered : Covered k → Covered (k + j)
@@ -577,12 +577,12 @@ module _ (p : Program) (parts : Parts) (q : IsImageOf p parts) (input : List ℕ
   Walks n = (s : State) (k : ℕ) → StandsAt P G0 s (rvrun k begin) → AreBehindCalls p s.waiting → Covered k → ((m : ℕ) → FitStack parts.stack p (run p m s)) → After k (least_spent p n s) (run p n s)
 
   on_step : (n : ℕ) → Walks n → (s : State) (k : ℕ) → StandsAt P G0 s (rvrun k begin) → AreBehindCalls p s.waiting → Covered k → ((m : ℕ) → FitStack parts.stack p (run p m s))
-      → (x : Progress) → step p s ≡ x → After k (least_if s.frame.at (next_of p s) + cost_on x (least_spent p n)) (flat.goes_on x (run p n))
+      → (x : Progress) → step p s ≡ x → After k (least_if (function_at p s.frame.function) s.frame.at (next_of p s) + cost_on x (least_spent p n)) (flat.goes_on x (run p n))
   on_step n more s k a callers c fits (running t) e =
       let each : (m : ℕ) → FitStack parts.stack p (run p m t) = λ m. subst (FitStack parts.stack p) (ap (λ y. flat.goes_on y (run p m)) e) (fits (suc m)) in
       let f = further k s a callers t e (each 0) in
       let rest = more t (k + f.j) f.stands f.callers (f.covered c) each in
-      after_less k (k + f.j) (least_if s.frame.at (next_of p s) + least_spent p n t) (least_spent p n t) (run p n t) (omega (arith, f.some)) rest
+      after_less k (k + f.j) (least_if (function_at p s.frame.function) s.frame.at (next_of p s) + least_spent p n t) (least_spent p n t) (run p n t) (omega (arith, f.some)) rest
   on_step n more s k a callers c fits (ended status left trace) e = over k s a callers status left trace e c
   on_step n more s k a callers c fits stuck e = tt
 

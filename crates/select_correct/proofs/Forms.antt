@@ -155,7 +155,7 @@ module _ (G : Ground) (s : State) (r b : ℕ → ℕ) (ready : Ready G) (m : Mat
   stays_at k e = stays_by k (slice_get fn.code k) refl e
 
   all_stay : (k n : ℕ) → are_nothing fn.code k n ≡ true → address G s.frame.function k ≡ address G s.frame.function (k + n)
-  all_stay k zero e = refl
+  all_stay k zero e = let same : k ≡ k + 0 = omega arith in ap (address G s.frame.function) same
   all_stay k (suc n) e =
       let both = and_parts (is_nothing_if (slice_get fn.code k)) (are_nothing fn.code (k + 1) n) e in
       let sum : k + 1 + n ≡ k + suc n = grind arith in

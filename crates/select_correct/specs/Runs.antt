@@ -24,7 +24,7 @@ use Rattle.select_correct.specs.Laws.{Anything, AreBytes}
 abbrev pub StepFollows : Type 0
 StepFollows =
     (G : Ground) (s : State) (r b : ℕ → ℕ) → Ready G → Matched G s r (address G s.frame.function s.frame.at) b → IsBelow G (running s) → AreBytes s.input → HasRoom G (step G.program s)
-    → Comes G.machine Anything (least_if s.frame.at (next_of G.program s)) (most_next G.program s) (Go r (address G s.frame.function s.frame.at) b s.input s.trace) (Matches G (step G.program s))
+    → Comes G.machine Anything (least_if (function_at G.program s.frame.function) s.frame.at (next_of G.program s)) (most_next G.program s) (Go r (address G s.frame.function s.frame.at) b s.input s.trace) (Matches G (step G.program s))
 
 -- After n steps of flat code, after a count of instructions between the sums of the table's rows, the machine matches, where all frames on
 -- the way fit the stack, and are below the waiting call that `Ground` singles out, if any.
