@@ -12,7 +12,7 @@ use Rattle.rv32.specs.Step.{Machine, register}
 use Rattle.memory_map.specs.MemoryMap.{text_start, stack_end, stack_start}
 use Rattle.elf_out.specs.Layout.{Parts}
 use Rattle.elf_out.specs.Program.{program_space, program_image, is_within, is_data}
-use Rattle.asm.specs.Placed.{Stands}
+use Rattle.select_exec.specs.Standing.{Stands}
 use Rattle.frames_code.specs.declared.code.Instruction.{Instruction}
 use Rattle.frames_code.specs.declared.code.Instruction.TheVariants as instruction
 use Rattle.frames_code.specs.Code.{Function, Program, frame_bytes}

@@ -15,7 +15,8 @@ use Rattle.rv32.specs.Arithmetic.{operate_immediate_of}
 use Rattle.asm.specs.declared.item.Item.{Item}
 use Rattle.asm.specs.declared.item.Item.TheVariants as item
 use Rattle.asm.specs.Layout.{size, longest}
-use Rattle.asm.specs.Placed.{Short, Long, Calls, Loads, Stands, opposite}
+use Rattle.asm.specs.Placed.{Short, Long, Jumps, Calls, Loads, opposite}
+use Rattle.select_exec.specs.Standing.{Stands}
 use Rattle.frames_code.specs.declared.code.Operand.{Operand}
 use Rattle.frames_code.specs.declared.code.Instruction.{Instruction}
 use Rattle.frames_code.specs.declared.code.Instruction.TheVariants as instruction

@@ -54,8 +54,11 @@ abbrev pub are_near : List Item → Bool
 are_near xs = nat_le (longest xs) 1048574
 
 -- then each call of a function is near
+abbrev pub calls_are_near : flat.Program → Bool
+calls_are_near p = are_near (far_items p)
+
 abbrev pub program_items : flat.Program → List Item
-program_items p = start_items p.main ++ shorten_calls (are_near (far_items p)) (functions_items 0 (length p.functions) p.functions)
+program_items p = start_items p.main ++ shorten_calls (calls_are_near p) (functions_items 0 (length p.functions) p.functions)
 
 abbrev pub labels_of : flat.Program → ℕ
 labels_of p = length p.functions + places_of p.functions
