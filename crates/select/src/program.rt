@@ -10,9 +10,9 @@ ghost use Rattle.select.specs.Program.{code_items, function_items, functions_ite
 
 use crate::calls::{has_call, put_entry, put_exit, put_get_byte, put_leave, put_put_byte};
 use crate::elements::{put_element, put_load, put_reference, put_store};
+use crate::near::shorten_calls;
 use crate::operations::{put_compute, put_convert, put_move};
 use crate::places::{home_of, source_of};
-use crate::near::shorten_calls;
 use crate::shortening::shortened;
 use crate::words::{fetch, put, put_one, register_of, stack_pointer};
 use asm::{Item, Items, Label};
