@@ -1,5 +1,5 @@
 -- Rows: the table of costs on worked examples. Items but a branch in its long form have no way round, so a run takes a quarter of their bytes.
-use Rattle.std.proofs.Common.{◌≡◌, ℕ, ◌+◌, ◌*◌, [], ◌∷◌, refl}
+use Rattle.std.proofs.Common.{◌≡◌, ℕ, ◌+◌, ◌*◌, true, false, [], ◌∷◌, refl}
 use Rattle.std.specs.Int.Count.{count_trailing_zeros}
 use Rattle.rv32.specs.declared.instr.RegisterOp.TheVariants as register_op
 use Rattle.rv32.specs.declared.instr.Test.TheVariants as test
