@@ -58,6 +58,18 @@ pub record IsSized (base : ℕ) (xs : List Item) (bytes : ℕ) : Type 0 where
   pub least : place all_short base xs (length xs) ≤ base + bytes
   pub most : base + bytes ≤ place all_long base xs (length xs)
 
+-- a call as a near one, any other item as it is
+abbrev pub nearer : Item → Item
+nearer (Call to) = NearCall to
+nearer (Mark l) = Mark l
+nearer (Plain i) = Plain i
+nearer (Branch t l r to) = Branch t l r to
+nearer (Jump to) = Jump to
+nearer (NearCall to) = NearCall to
+nearer (Constant rd v) = Constant rd v
+nearer (LabelAddress rd l) = LabelAddress rd l
+nearer (DataAddress rd o) = DataAddress rd o
+
 -- ---- reach
 
 -- from a to b by a branch: -4096 to 4094

@@ -24,6 +24,23 @@ impl Item {
             | Item::DataAddress { .. } => 8,
         }
     }
+
+    /// A call as a near one, any other item as it is.
+    pub fn nearer(self) -> Item
+        ensures { result ≡ spec.nearer self }
+    {
+        match self {
+            Item::Call { to } => Item::NearCall { to },
+            Item::Mark(_)
+            | Item::Plain(_)
+            | Item::Branch { .. }
+            | Item::Jump { .. }
+            | Item::NearCall { .. }
+            | Item::Constant { .. }
+            | Item::LabelAddress { .. }
+            | Item::DataAddress { .. } => self,
+        }
+    }
 }
 
 /// The bytes of an item where branches are short.

@@ -2,7 +2,7 @@
 use Rattle.std.specs.Prelude.{ℕ, ◌+◌, nat_le, if◌then◌else◌, Bool, List, [], ◌∷◌, ◌++◌, length, map}
 use Rattle.memory_map.specs.MemoryMap.{stack_end}
 use Rattle.asm.specs.declared.item.Item.{Item}
-use Rattle.asm.specs.Layout.{longest}
+use Rattle.asm.specs.Layout.{longest, nearer}
 use Rattle.asm.specs.declared.item.Item.TheVariants as item
 use Rattle.frames_code.specs.declared.code.Instruction.{Instruction}
 use Rattle.frames_code.specs.Code as flat
@@ -34,17 +34,6 @@ abbrev pub far_items : flat.Program → List Item
 far_items p = start_items p.main ++ functions_items 0 (length p.functions) p.functions
 
 -- ---- near calls
-
-abbrev pub nearer : Item → Item
-nearer (item.Call to) = item.NearCall to
-nearer (item.Mark l) = item.Mark l
-nearer (item.Plain i) = item.Plain i
-nearer (item.Branch t l r to) = item.Branch t l r to
-nearer (item.Jump to) = item.Jump to
-nearer (item.NearCall to) = item.NearCall to
-nearer (item.Constant rd v) = item.Constant rd v
-nearer (item.LabelAddress rd l) = item.LabelAddress rd l
-nearer (item.DataAddress rd o) = item.DataAddress rd o
 
 abbrev pub shorten_calls : (near : Bool) → List Item → List Item
 shorten_calls near xs = if near then map nearer xs else xs

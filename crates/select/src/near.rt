@@ -1,6 +1,7 @@
 //! Calls that are near.
 
 ghost use Rattle.std.specs.Prelude.{◌≡◌, ◌≤◌, ◌++◌, length, take, drop, map};
+ghost use Rattle.asm.specs.Layout.{nearer};
 ghost use Rattle.select.specs.Program as spec;
 
 use asm::Item;
@@ -24,12 +25,10 @@ fn are_near(items: &[Item]) -> bool
 
 /// Makes each call a near one.
 fn make_near(items: &mut [Item])
-    ensures { items.new ≡ map spec.nearer items.old }
+    ensures { items.new ≡ map nearer items.old }
 {
     for number in 0..items.len() {
-        if let Item::Call { to } = items[number] {
-            items[number] = Item::NearCall { to };
-        }
+        items[number] = items[number].nearer();
     }
 }
 

@@ -5,6 +5,7 @@ use Rattle.std.proofs.lemmas.List.Sums.{sum_by-cons}
 use Rattle.rv32.specs.declared.instr.Instr.{Instr}
 use Rattle.asm.specs.declared.item.Item.{Item}
 use Rattle.asm.specs.declared.item.Item.TheVariants.{Mark, Plain, Branch, Jump, Call, NearCall, Constant, LabelAddress, DataAddress}
+use Rattle.asm.specs.Layout.{nearer}
 use Rattle.asm.specs.Placed as placed
 use Rattle.asm.specs.Placed.{ItemAt}
 use Rattle.select_exec.specs.Standing.{CallAt, ItemSo, StandsSo, Stands}
@@ -16,7 +17,7 @@ use Rattle.select_exec.proofs.Placing as placing
 use Rattle.select_exec.proofs.Placing.{Onward}
 use Rattle.select_exec.proofs.Standing.{after_items, stands_so, so_parts, far_placed}
 use Rattle.select.specs.Selected.{entry, items_of, shortened}
-use Rattle.select.specs.Program.{code_items, function_items, functions_items, start_items, nearer, shorten_calls, calls_are_near, program_items}
+use Rattle.select.specs.Program.{code_items, function_items, functions_items, start_items, shorten_calls, calls_are_near, program_items}
 use Rattle.select_correct.specs.Matches.{first_of}
 use Rattle.select_correct.specs.Runs.{LaidIsReady}
 

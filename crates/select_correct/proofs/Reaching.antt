@@ -16,7 +16,7 @@ use Rattle.frames_code.specs.Sound.{FunctionFits, IsSoundProgram}
 use Rattle.select.specs.Selected.{entry, items_of, shortened, change_sp, keep_return, saves}
 use Rattle.select.specs.Program.{code_items, function_items, functions_items, start_items, far_items, shorten_calls, are_near, labels_of}
 use Rattle.select.proofs.Lengths.{code_is_short}
-use Rattle.select.proofs.Near.{shortened_longest}
+use Rattle.select.proofs.Nearer.{shortened_longest}
 use Rattle.select.proofs.Sound.{is_sound}
 use Rattle.select_correct.specs.Reaching.{rows_of, IsShortProgram, JumpsReach}
 use Rattle.select_correct.proofs.Inside.{Names, Inside, named, entry_in, code_in}

@@ -1,5 +1,5 @@
 use Rattle.std.proofs.Common.{◌≡◌}
-use Rattle.select.proofs.Near.{near_to}
+use Rattle.select.proofs.Nearer.{near_to}
 use Rattle.select.proofs.near.make_near.Given as goal
 
 abbrev pub invariant-loop-number : goal.invariant-loop-number

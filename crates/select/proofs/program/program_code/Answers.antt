@@ -2,7 +2,7 @@ use Rattle.std.proofs.Common.{◌++◌, ◌∙◌, ap, map, length, subst, sym}
 use Rattle.asm.specs.Layout.{IsSound}
 use Rattle.frames_code.specs.Code.{function_of}
 use Rattle.select.specs.Program.{start_items, functions_items}
-use Rattle.select.proofs.Near.{shortened_sound}
+use Rattle.select.proofs.Nearer.{shortened_sound}
 use Rattle.select.proofs.Programs.{each_fits, can_be_assembled}
 use Rattle.select.proofs.program.program_code.Goals as goal
 

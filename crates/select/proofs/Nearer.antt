@@ -4,8 +4,8 @@ use Rattle.std.proofs.lemmas.List.{length-map}
 use Rattle.std.proofs.lemmas.List.Sums.{sum_by-cons}
 use Rattle.asm.specs.declared.item.Item.{Item}
 use Rattle.asm.specs.declared.item.Item.TheVariants.{Mark, Plain, Branch, Jump, Call, NearCall, Constant, LabelAddress, DataAddress}
-use Rattle.asm.specs.Layout.{item_at, size, longest, Refers, IsSound}
-use Rattle.select.specs.Program.{nearer, shorten_calls}
+use Rattle.asm.specs.Layout.{item_at, size, longest, nearer, Refers, IsSound}
+use Rattle.select.specs.Program.{shorten_calls}
 
 -- ---- one item
 
