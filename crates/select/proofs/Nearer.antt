@@ -85,6 +85,14 @@ pub shortened_longest : (near : Bool) (xs : List Item) → longest (shorten_call
 shortened_longest true xs = longest_nearer xs
 shortened_longest false xs = omega arith
 
+nearer_append : (xs ys : List Item) → map nearer (xs ++ ys) ≡ map nearer xs ++ map nearer ys
+nearer_append [] ys = refl
+nearer_append (x ∷ xs) ys = ap (λ zs. nearer x ∷ zs) (nearer_append xs ys)
+
+pub shortened_append : (near : Bool) (xs ys : List Item) → shorten_calls near (xs ++ ys) ≡ shorten_calls near xs ++ shorten_calls near ys
+shortened_append true xs ys = nearer_append xs ys
+shortened_append false xs ys = refl
+
 -- ---- how calls are made near, one after the other
 
 -- the first n of them are near
@@ -114,20 +122,3 @@ pub near_next : (k : ℕ) (xs : List Item) (d : Item) → k < length xs → set 
 near_next k [] d lt = absurd (omega (arith, lt))
 near_next zero (x ∷ xs) d lt = refl
 near_next (suc k) (x ∷ xs) d lt = ap (λ ys. nearer x ∷ ys) (near_next k xs d (omega (arith, lt)))
-
--- one that is near already
-pub near_same : (k : ℕ) (xs : List Item) (d : Item) → k < length xs → nearer (get_or xs k d) ≡ get_or xs k d → near_to k xs ≡ near_to (k + 1) xs
-near_same k [] d lt e = absurd (omega (arith, lt))
-near_same zero (x ∷ xs) d lt e = ap (λ y. y ∷ xs) (sym e)
-near_same (suc k) (x ∷ xs) d lt e = ap (λ ys. nearer x ∷ ys) (near_same k xs d (omega (arith, lt)) e)
-
-pub no_call : (x : Item) → ((to : ℕ) → x ≡ Call to → ⊥) → nearer x ≡ x
-no_call (Mark l) other = refl
-no_call (Plain i) other = refl
-no_call (Branch t l r to) other = refl
-no_call (Jump to) other = refl
-no_call (Call to) other = absurd (other to refl)
-no_call (NearCall to) other = refl
-no_call (Constant rd v) other = refl
-no_call (LabelAddress rd l) other = refl
-no_call (DataAddress rd o) other = refl
