@@ -186,6 +186,18 @@ impl Grid {
         }
     }
 
+    /// Gives each element before number `end` of all a number.
+    fn reach(&mut self, end: usize) -> Result<(), AllocError>
+        ensures lengths { self.new.lengths ≡ self.old.lengths }
+        ensures same { (j : ℕ) → cells.cell self.new.cells.items j ≡ cells.cell self.old.cells.items j }
+        ensures held { OnOk result (end ≤ length self.new.cells.items) }
+    {
+        if end <= self.cells.len() {
+            return Ok(());
+        }
+        self.cells.resize(end, i64::MIN)
+    }
+
     /// The element at these subscripts becomes `v`.
     ///
     /// Errors: memory ran out; or there is none, or `v` is the least number, neither of which is of a typed program.
@@ -203,7 +215,8 @@ impl Grid {
             return Ok(());
         }
         self.cells.resize(k, i64::MIN)?;
-        self.cells.push(v)
+        self.cells.push(v)?;
+        Ok(())
     }
 
     /// The number of the first of the elements at these subscripts, and their count, if there is a part of these lengths
@@ -247,9 +260,7 @@ impl Grid {
         if is_no_value(v) {
             return Err(AllocError);
         }
-        if self.cells.len() < first + count {
-            self.cells.resize(first + count, i64::MIN)?;
-        }
+        self.reach(first + count)?;
         fill_numbers(&mut self.cells, first, count, v);
         Ok(())
     }
