@@ -43,11 +43,6 @@ cell_kept (d ∷ cs) (suc k) zero c h = refl
 cell_kept (d ∷ cs) (suc k) (suc j) c (inl h) = cell_kept cs k j c (inl (omega arith))
 cell_kept (d ∷ cs) (suc k) (suc j) c (inr h) = cell_kept cs k j c (inr (omega arith))
 
-pub cell_filled : (n : ℕ) (c : ℤ) (k : ℕ) → k < n → cell (replicate n c) k ≡ value_in c
-cell_filled zero c k h = absurd (omega arith)
-cell_filled (suc n) c zero h = refl
-cell_filled (suc n) c (suc k) h = cell_filled n c k (omega arith)
-
 -- ---- products
 
 pub split_number : (k n i size : ℕ) → (k * n + i) * size ≡ k * (n * size) + i * size
