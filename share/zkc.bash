@@ -26,7 +26,7 @@ _zkc() {
     symbols:--stack) return ;;
     esac
     case ${COMP_WORDS[1]} in
-    build) case $word in -*) COMPREPLY=($(compgen -W '--stack -o --plain -I -D -U --depend --depend-file --depend-target --depend-phony -S -E --list-files -h --help' -- "$word")) ;; *) mapfile -t COMPREPLY < <(compgen -f -- "$word") ;; esac ;;
+    build) case $word in -*) COMPREPLY=($(compgen -W '--stack -o --listing --plain -I -D -U --depend --depend-file --depend-target --depend-phony -S -E --list-files -h --help' -- "$word")) ;; *) mapfile -t COMPREPLY < <(compgen -f -- "$word") ;; esac ;;
     pp) case $word in -*) COMPREPLY=($(compgen -W '--lines -o -I -D -U --list-files -h --help' -- "$word")) ;; *) mapfile -t COMPREPLY < <(compgen -f -- "$word") ;; esac ;;
     list) case $word in -*) COMPREPLY=($(compgen -W '--stack --labels --abi --source -o -I -D -U -h --help' -- "$word")) ;; *) mapfile -t COMPREPLY < <(compgen -f -- "$word") ;; esac ;;
     run) case $word in -*) COMPREPLY=($(compgen -W '--max --trace --trace-file --at --map --stack -I -D -U -h --help' -- "$word")) ;; *) mapfile -t COMPREPLY < <(compgen -f -- "$word") ;; esac ;;

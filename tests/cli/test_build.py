@@ -94,7 +94,7 @@ class Build(Commands):
         self.ends(('build', 'main.c', '-o', 'program', '--listing', '-'), 0, alone[1])
 
     def test_a_listing_that_is_not_written(self):
-        taken = 'cc: the listing is OUT or one of the files that are read'
+        taken = 'error: the listing is OUT or one of the files that are read'
         for path in ('program', './program', 'main.c', 'rest.c'):
             self.builds('main.c')
             self.ends(('build', 'main.c', 'rest.c', '-o', 'program', '--listing', path), 2, line=taken)

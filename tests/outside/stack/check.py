@@ -172,7 +172,7 @@ def cases(_):
         yield harness.Row(name, *row)
     chosen, kept = list(meaning_rows())[:COUNT], kept_digests()
     yield harness.number_of('programs of ../meaning', len(chosen), COUNT)
-    yield harness.number_of('digests', len(kept), 69)
+    yield harness.number_of('digests', len(kept), 68)
     for number, row in enumerate(chosen):
         for stack in SIZES:
             yield harness.Row(f'program {number} with {stack} bytes', at_and_over, row, stack)
