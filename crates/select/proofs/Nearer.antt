@@ -1,11 +1,11 @@
 -- Items with their calls near: the labels, sizes and elements of the list.
-use Rattle.std.proofs.Common.{◌≡◌, ◌⊎◌, inl, inr, ⊎_elim, ℕ, zero, suc, ◌+◌, ◌<◌, ◌≤◌, List, [], ◌∷◌, ◌++◌, length, map, set, get_or, Bool, true, false, refl, sym, subst, ap, ◌∙◌, arith}
+use Rattle.std.proofs.Common.{◌≡◌, ◌⊎◌, inl, inr, ⊎_elim, ℕ, zero, suc, ◌+◌, ◌<◌, ◌≤◌, List, [], ◌∷◌, ◌++◌, length, map, take, drop, set, get_or, Bool, true, false, refl, sym, subst, ap, ◌∙◌, arith}
 use Rattle.std.proofs.lemmas.List.{length-map}
 use Rattle.std.proofs.lemmas.List.Sums.{sum_by-cons}
 use Rattle.asm.specs.declared.item.Item.{Item}
 use Rattle.asm.specs.declared.item.Item.TheVariants.{Mark, Plain, Branch, Jump, Call, NearCall, Constant, LabelAddress, DataAddress}
 use Rattle.asm.specs.Layout.{item_at, size, longest, nearer, Refers, IsSound}
-use Rattle.select.specs.Program.{shorten_calls}
+use Rattle.select.specs.Program.{are_near, shorten_calls}
 
 -- ---- one item
 
@@ -81,6 +81,22 @@ pub shortened_sound : (near : Bool) (n : ℕ) (front rest : List Item) → IsSou
 shortened_sound true n front rest s = sound_nearer n front rest s
 shortened_sound false n front rest s = s
 
+take_front : (front rest : List Item) → take (length front) (front ++ rest) ≡ front
+take_front [] rest = refl
+take_front (x ∷ front) rest = ap (λ xs. x ∷ xs) (take_front front rest)
+
+drop_front : (front rest : List Item) → drop (length front) (front ++ rest) ≡ rest
+drop_front [] rest = refl
+drop_front (x ∷ front) rest = drop_front front rest
+
+-- the list with near calls behind its first `from` items
+pub made_near : (from : ℕ) (front rest list new : List Item) → list ≡ front ++ rest → from ≡ length front → new ≡ take from list ++ shorten_calls (are_near list) (drop from list)
+    → new ≡ front ++ shorten_calls (are_near (front ++ rest)) rest
+made_near from front rest list new e at is =
+    let P : ℕ → List Item → Type 0 = λ n xs. new ≡ take n xs ++ shorten_calls (are_near xs) (drop n xs) in
+    let there : P (length front) (front ++ rest) = subst (P (length front)) e (subst (λ n. P n list) at is) in
+    there ∙ (ap (λ xs. xs ++ shorten_calls (are_near (front ++ rest)) (drop (length front) (front ++ rest))) (take_front front rest) ∙ ap (λ xs. front ++ shorten_calls (are_near (front ++ rest)) xs) (drop_front front rest))
+
 pub shortened_longest : (near : Bool) (xs : List Item) → longest (shorten_calls near xs) ≤ longest xs
 shortened_longest true xs = longest_nearer xs
 shortened_longest false xs = omega arith
@@ -121,4 +137,6 @@ next_own (suc k) (x ∷ xs) d = next_own k xs d
 pub near_next : (k : ℕ) (xs : List Item) (d : Item) → k < length xs → set (near_to k xs) k (nearer (get_or xs k d)) ≡ near_to (k + 1) xs
 near_next k [] d lt = absurd (omega (arith, lt))
 near_next zero (x ∷ xs) d lt = refl
-near_next (suc k) (x ∷ xs) d lt = ap (λ ys. nearer x ∷ ys) (near_next k xs d (omega (arith, lt)))
+near_next (suc k) (x ∷ xs) d lt =
+    let sum : suc (k + 1) ≡ suc k + 1 = omega arith in
+    ap (λ ys. nearer x ∷ ys) (near_next k xs d (omega (arith, lt))) ∙ ap (λ n. near_to n (x ∷ xs)) sum
