@@ -33,9 +33,9 @@ fn make_near(items: &mut [Item])
 }
 
 /// Makes each call from item `from` on a near one, if all items are near.
-pub fn shorten_calls(items: &mut [Item], from: usize)
-    requires { from ≤ length items.old }
-    ensures { items.new ≡ take from items.old ++ spec.shorten_calls (spec.are_near items.old) (drop from items.old) }
+pub fn shorten_calls(items: &mut Vec<Item>, from: usize)
+    requires { from ≤ length items.old.items }
+    ensures { items.new.items ≡ take from items.old.items ++ spec.shorten_calls (spec.are_near items.old.items) (drop from items.old.items) }
 {
     if are_near(items) {
         let (_, behind) = items.split_at_mut(from);
