@@ -10,6 +10,7 @@ use Rattle.asm.specs.Placed as placed
 use Rattle.asm.specs.Placed.{ItemAt}
 use Rattle.select_exec.specs.Standing.{CallAt, ItemSo, StandsSo, Stands}
 use Rattle.frames_code.specs.declared.code.Instruction.{Instruction}
+use Rattle.frames_code.specs.declared.code.Instruction.TheVariants as instruction
 use Rattle.frames_code.specs.Code.{Function, Program}
 use Rattle.frames_code.specs.Sound.{places_of}
 use Rattle.frames_code.specs.Run.{function_at}

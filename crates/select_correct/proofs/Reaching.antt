@@ -7,7 +7,6 @@ use Rattle.std.proofs.lemmas.List.Sums.{sum_by-append}
 use Rattle.asm.specs.declared.item.Item.{Item}
 use Rattle.asm.specs.declared.item.Item.TheVariants.{Mark, Plain, Branch, Jump, Call, NearCall, Constant, LabelAddress, DataAddress}
 use Rattle.asm.specs.Layout.{item_at, size, place, all_long, longest, Reach, MissesMark, AllReach, IsSound}
-use Rattle.asm.proofs.Grow.{place_rises}
 use Rattle.asm.proofs.Parts.{places_in_parts}
 use Rattle.asm.proofs.Ends.{ends}
 use Rattle.frames_code.specs.declared.code.Instruction.{Instruction}

@@ -31,6 +31,7 @@ module _ (G : Ground) (sp ra : ℕ) (file : ℕ → ℕ) where
     sound = q.sound;
     aligned = q.aligned;
     stands = q.stands;
+    calls = q.calls;
     entries = q.entries;
     entry_aligned = q.entry_aligned;
     stack_read = q.stack_read;
