@@ -188,7 +188,7 @@ unfolding step
 over = refl
 
 -- the laws say that it ends with 7 ..
-by_the_laws : Comes F Anything 1 (6 + (1 + 4 + 1 + 1 + 3 + 3) + 2) (Go none 69632 none [] []) (λ m. m ≡ Done 7 [])
+by_the_laws : Comes F Anything 1 (6 + (1 + 3 + 1 + 1 + 3 + 3) + 2) (Go none 69632 none [] []) (λ m. m ≡ Done 7 [])
 unfolding step
 by_the_laws = ends program F env 0x7FF00000 0x20000 69632 69712 none none [] laid (λ k c e. cc) 6 7 [] [] over rooms
 
@@ -241,7 +241,7 @@ stays_within (suc zero) le = omega arith
 stays_within (suc (suc k)) le = let z : k ≡ 0 = omega (arith, le) in subst (λ n. IsWithin program at_call (run program (suc (suc n)) (entered at_call 1))) (sym z) (omega arith)
 
 -- so s0, in which plus_two has n, is main's again
-call_keeps : (r b : ℕ → ℕ) → Matched G at_call r (address G 0 1) b → Comes F Anything 1 (4 + (1 + 1) + 3) (Go r (address G 0 1) b [] []) (IsBack G r at_return (address G 0 2))
+call_keeps : (r b : ℕ → ℕ) → Matched G at_call r (address G 0 1) b → Comes F Anything 1 (3 + (1 + 1) + 3) (Go r (address G 0 1) b [] []) (IsBack G r at_return (address G 0 2))
 unfolding step
 call_keeps r b m =
     each_call_keeps G at_call at_return 1 2 r b (is_ready program F env 0x7FF00000 0x20000 69632 69712 none none laid) m (λ k c e. cc) refl comes_to_return refl refl inner_rooms stays_within
