@@ -23,6 +23,7 @@ use Rattle.rv32.specs.Space.{all_four, word_at}
 use Rattle.rv32.specs.Step.{Machine, Stepped, register, with_register, next, step_of, execute_of, decoded, fetched, trapped, gives, jumps, links, loaded, load_of, stored, store_of}
 use Rattle.asm.specs.declared.item.Item.{Item}
 use Rattle.asm.specs.declared.item.Item.TheVariants as item
+use Rattle.asm.specs.Layout.{nearer}
 use Rattle.asm.specs.Placed.{Stands}
 use Rattle.memory_map.specs.MemoryMap.{text_start}
 use Rattle.loader.specs.File.{file_image}
