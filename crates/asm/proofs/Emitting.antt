@@ -3,7 +3,7 @@ use Rattle.std.proofs.Common.{length, get_or, ◌≡◌, inl, inr, ℕ, zero, su
 use Rattle.std.specs.Prelude.{slice_index}
 use Rattle.std.proofs.lemmas.Bool.{cases_lt}
 use Rattle.asm.specs.declared.item.Item.{Item}
-use Rattle.asm.specs.declared.item.Item.TheVariants.{Mark, Plain, Branch, Jump, Call, Constant, LabelAddress, DataAddress}
+use Rattle.asm.specs.declared.item.Item.TheVariants.{Mark, Plain, Branch, Jump, Call, NearCall, Constant, LabelAddress, DataAddress}
 use Rattle.asm.specs.Layout.{item_at, size, place, all_long, Reach, FitsAt, Refers, MissesMark, SomeMisses}
 use Rattle.asm.specs.inside.Choice.{longs, IsTable, IsMeasured, IsChosen}
 use Rattle.asm.specs.inside.Code.{address, NearIfShort, Misses, IsGood}
@@ -20,6 +20,7 @@ size_even (Mark l) b = refl
 size_even (Plain l) b = refl
 size_even (Jump l) b = refl
 size_even (Call l) b = refl
+size_even (NearCall l) b = refl
 size_even (Constant l v) b = refl
 size_even (LabelAddress l v) b = refl
 size_even (DataAddress l v) b = refl
@@ -48,6 +49,7 @@ module _ (homes : List ℕ) (base : ℕ) (xs : List Item) (long : List Bool) (pl
   near_item k (Plain i) lt q f = tt
   near_item k (Jump to) lt q f = tt
   near_item k (Call to) lt q f = tt
+  near_item k (NearCall to) lt q f = tt
   near_item k (Constant rd v) lt q f = tt
   near_item k (LabelAddress rd l) lt q f = tt
   near_item k (DataAddress rd o) lt q f = tt
@@ -73,6 +75,21 @@ module _ (homes : List ℕ) (base : ℕ) (xs : List Item) (long : List Bool) (pl
     misses = subst (λ (x : Item). MissesMark base xs k (slice_index homes to) x) (sym e) (mark_there homes xs to table q, λ reach. m.1 (rw (c.measured.at k (omega arith), c.measured.at (slice_index homes to) (home_le to q)) (reach_back k (slice_index homes to) 4 (omega arith) reach)));
   }
   missed k (Jump to) lt e q m = record {
+    item = k;
+    target = slice_index homes to;
+    inside = lt;
+    target_inside = table.inside to q;
+    misses = subst (λ (x : Item). MissesMark base xs k (slice_index homes to) x) (sym e) (
+      mark_there homes xs to table q,
+      (
+          let a = c.measured.at k (omega arith) in
+          let b = c.measured.at (slice_index homes to) (home_le to q) in
+          λ reach.
+          let h = reach_back k (slice_index homes to) 0 (omega arith) (omega (arith, reach.0), omega (arith, reach.1)) in
+          m (omega (arith, h.0), omega (arith, h.1))),
+    );
+  }
+  missed k (NearCall to) lt e q m = record {
     item = k;
     target = slice_index homes to;
     inside = lt;

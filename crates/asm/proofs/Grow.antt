@@ -3,7 +3,7 @@ use Rattle.std.proofs.lemmas.List.{get_or_default}
 use Rattle.std.proofs.Common.{length, get_or, ◌≡◌, inl, inr, ℕ, zero, suc, ◌+◌, ◌*◌, ◌<◌, ◌≤◌, List, Bool, true, false, refl, sym, ◌∙◌, arith}
 use Rattle.std.proofs.lemmas.Bool.{cases_lt}
 use Rattle.asm.specs.declared.item.Item.{Item}
-use Rattle.asm.specs.declared.item.Item.TheVariants.{Mark, Plain, Branch, Jump, Call, Constant, LabelAddress, DataAddress}
+use Rattle.asm.specs.declared.item.Item.TheVariants.{Mark, Plain, Branch, Jump, Call, NearCall, Constant, LabelAddress, DataAddress}
 use Rattle.asm.specs.Layout.{item_at, size, place, all_long, Within, Near}
 use Rattle.asm.specs.inside.Choice.{IsMeasured}
 
@@ -15,6 +15,7 @@ size_grows (Mark l) a b h = omega arith
 size_grows (Plain l) a b h = omega arith
 size_grows (Jump l) a b h = omega arith
 size_grows (Call l) a b h = omega arith
+size_grows (NearCall l) a b h = omega arith
 size_grows (Constant l v) a b h = omega arith
 size_grows (LabelAddress l v) a b h = omega arith
 size_grows (DataAddress l v) a b h = omega arith
@@ -27,6 +28,7 @@ size_most l (Mark k) = omega arith
 size_most l (Plain i) = omega arith
 size_most l (Jump to) = omega arith
 size_most l (Call to) = omega arith
+size_most l (NearCall to) = omega arith
 size_most l (Constant rd v) = omega arith
 size_most l (LabelAddress rd k) = omega arith
 size_most l (DataAddress rd o) = omega arith

@@ -9,7 +9,7 @@ use Rattle.rv32.specs.declared.instr.Instr.TheVariants as instr
 use Rattle.rv32.specs.Words.{decode_of, word_of}
 use Rattle.rv32.specs.Space.{word_at}
 use Rattle.asm.specs.declared.item.Item.{Item}
-use Rattle.asm.specs.declared.item.Item.TheVariants.{Mark, Plain, Branch, Jump, Call, Constant, LabelAddress, DataAddress}
+use Rattle.asm.specs.declared.item.Item.TheVariants.{Mark, Plain, Branch, Jump, Call, NearCall, Constant, LabelAddress, DataAddress}
 use Rattle.asm.specs.Layout.{item_at, size, place, all_long, all_short, IsLow, IsSized, Within, Refers}
 use Rattle.asm.specs.inside.Choice.{longs, IsTable}
 use Rattle.asm.specs.inside.Code.{address, code, item_code, upper, lower, offset_from, whole_code, Decoding, IsResolved}
@@ -52,6 +52,7 @@ item_size env seg long a (Mark l) = refl
 item_size env seg long a (Plain i) = refl
 item_size env seg long a (Jump to) = refl
 item_size env seg long a (Call to) = refl
+item_size env seg long a (NearCall to) = refl
 item_size env seg long a (Constant rd v) = refl
 item_size env seg long a (LabelAddress rd l) = refl
 item_size env seg long a (DataAddress rd o) = refl
@@ -64,6 +65,7 @@ module _ (T : ℕ → Option Instr) (env : ℕ → ℕ) (n seg : ℕ) (low : (l 
   item_stands false a next (Branch t l r to) la e q m text = inl (record { v = offset_from a (env to); at = text.0; target = offset_arrives a (env to) (omega arith) (omega (arith, low to q)); next_is = e })
   item_stands long a next (Jump to) la e q m text = record { v = offset_from a (env to); at = text.0; target = offset_arrives a (env to) (omega arith) (omega (arith, low to q)); next_is = e }
   item_stands long a next (Call to) la e q m text = record { high = upper (offset_from a (env to)); low = lower (offset_from a (env to)); first = text.0; second = text.1.0; target = call_arrives a (env to) (omega arith) (omega (arith, low to q)); next_is = e }
+  item_stands long a next (NearCall to) la e q m text = record { v = offset_from a (env to); at = text.0; target = offset_arrives a (env to) (omega arith) (omega (arith, low to q)); next_is = e }
   item_stands long a next (Constant rd v) la e q m text = record { high = upper v; low = lower v; first = text.0; second = text.1.0; value = parts_sum v q; next_is = e }
   item_stands long a next (LabelAddress rd l) la e q m text = record { high = upper (env l); low = lower (env l); first = text.0; second = text.1.0; value = parts_sum (env l) (omega (arith, low l q)); next_is = e }
   item_stands long a next (DataAddress rd o) la e q m text = record { high = upper (seg + o); low = lower (seg + o); first = text.0; second = text.1.0; value = parts_sum (seg + o) (omega (arith, q)); next_is = e }

@@ -4,7 +4,7 @@ use Rattle.std.specs.Prelude.{slice_index}
 use Rattle.std.proofs.lemmas.Bool.{cases_lt, cases_eq}
 use Rattle.rv32.specs.declared.instr.Test.{Test}
 use Rattle.asm.specs.declared.item.Item.{Item}
-use Rattle.asm.specs.declared.item.Item.TheVariants.{Mark, Plain, Branch, Jump, Call, Constant, LabelAddress, DataAddress}
+use Rattle.asm.specs.declared.item.Item.TheVariants.{Mark, Plain, Branch, Jump, Call, NearCall, Constant, LabelAddress, DataAddress}
 use Rattle.asm.specs.Layout.{item_at, place, Near, Refers, IsSound}
 use Rattle.asm.specs.inside.Choice.{IsMark, IsTable, IsNoted, IsUnfit, IsHome, AllAre, AllInside, Noting}
 
@@ -14,6 +14,7 @@ is_mark (Plain i) l e = absurd e
 is_mark (Branch t a b to) l e = absurd e
 is_mark (Jump to) l e = absurd e
 is_mark (Call to) l e = absurd e
+is_mark (NearCall to) l e = absurd e
 is_mark (Constant rd v) l e = absurd e
 is_mark (LabelAddress rd k) l e = absurd e
 is_mark (DataAddress rd o) l e = absurd e
@@ -95,6 +96,7 @@ noting_more was now xs n (Plain i) s lt e f = kept was now xs n (Plain i) s e f 
 noting_more was now xs n (Branch t a b to) s lt e f = kept was now xs n (Branch t a b to) s e f.1 f.0 (λ l m. m)
 noting_more was now xs n (Jump to) s lt e f = kept was now xs n (Jump to) s e f.1 f.0 (λ l m. m)
 noting_more was now xs n (Call to) s lt e f = kept was now xs n (Call to) s e f.1 f.0 (λ l m. m)
+noting_more was now xs n (NearCall to) s lt e f = kept was now xs n (NearCall to) s e f.1 f.0 (λ l m. m)
 noting_more was now xs n (Constant rd v) s lt e f = kept was now xs n (Constant rd v) s e f.1 f.0 (λ l m. m)
 noting_more was now xs n (LabelAddress rd k) s lt e f = kept was now xs n (LabelAddress rd k) s e f.1 f.0 (λ l m. m)
 noting_more was now xs n (DataAddress rd o) s lt e f = kept was now xs n (DataAddress rd o) s e f.1 f.0 (λ l m. m)
@@ -111,6 +113,7 @@ unfit_unsound homes xs n x s lt e u sound = unfit homes xs n x s lt e u sound (s
     unfit homes xs n (Branch t a b to) s lt e u sound r = u r
     unfit homes xs n (Jump to) s lt e u sound r = u r
     unfit homes xs n (Call to) s lt e u sound r = u r
+    unfit homes xs n (NearCall to) s lt e u sound r = u r
     unfit homes xs n (Constant rd v) s lt e u sound r = u
     unfit homes xs n (LabelAddress rd k) s lt e u sound r = u r
     unfit homes xs n (DataAddress rd o) s lt e u sound r = u r

@@ -5,7 +5,7 @@ use Rattle.std.proofs.lemmas.List.{length-replicate}
 use Rattle.std.proofs.lemmas.List.Sums.{sum_by-set}
 use Rattle.std.proofs.lemmas.Bool.{cases_lt, cases_eq}
 use Rattle.asm.specs.declared.item.Item.{Item}
-use Rattle.asm.specs.declared.item.Item.TheVariants.{Mark, Plain, Branch, Jump, Call, Constant, LabelAddress, DataAddress}
+use Rattle.asm.specs.declared.item.Item.TheVariants.{Mark, Plain, Branch, Jump, Call, NearCall, Constant, LabelAddress, DataAddress}
 use Rattle.rv32.specs.declared.instr.Test.{Test}
 use Rattle.asm.specs.Layout.{item_at, size, place, all_short, Within, Near, Fits, FitsAt, IsBelowAll}
 use Rattle.asm.specs.inside.Choice.{longs, shorts, IsTable, IsMeasured, MeasuredTo, IsClose, AllClose, Widens, IsChosen, Counted}
@@ -85,6 +85,7 @@ fits_other L base xs k (Mark l) differs = tt
 fits_other L base xs k (Plain i) differs = tt
 fits_other L base xs k (Jump to) differs = tt
 fits_other L base xs k (Call to) differs = tt
+fits_other L base xs k (NearCall to) differs = tt
 fits_other L base xs k (Constant rd v) differs = tt
 fits_other L base xs k (LabelAddress rd l) differs = tt
 fits_other L base xs k (DataAddress rd o) differs = tt
@@ -104,6 +105,7 @@ close_fits homes L base xs k (Mark l) s c = tt
 close_fits homes L base xs k (Plain i) s c = tt
 close_fits homes L base xs k (Jump to) s c = tt
 close_fits homes L base xs k (Call to) s c = tt
+close_fits homes L base xs k (NearCall to) s c = tt
 close_fits homes L base xs k (Constant rd v) s c = tt
 close_fits homes L base xs k (LabelAddress rd l) s c = tt
 close_fits homes L base xs k (DataAddress rd o) s c = tt

@@ -1,7 +1,7 @@
 -- The addresses of items under a choice of long branches, which choices fit, and which lists of items are sound.
 use Rattle.std.specs.Prelude.{◌≡◌, ◌≤◌, ◌<◌, ℕ, zero, suc, ◌+◌, ◌%◌, ◌^◌, Bool, true, false, if◌then◌else◌, List, ◌++◌, slice_index_or, length, sum_by}
 use Rattle.asm.specs.declared.item.Item.{Item}
-use Rattle.asm.specs.declared.item.Item.TheVariants.{Mark, Plain, Branch, Jump, Call, Constant, LabelAddress, DataAddress}
+use Rattle.asm.specs.declared.item.Item.TheVariants.{Mark, Plain, Branch, Jump, Call, NearCall, Constant, LabelAddress, DataAddress}
 
 -- item k; past the end a mark, which has no bytes
 abbrev pub item_at : List Item → ℕ → Item
@@ -16,6 +16,7 @@ size long (Plain i) = 4
 size long (Branch t l r to) = if long then 8 else 4
 size long (Jump to) = 4
 size long (Call to) = 8
+size long (NearCall to) = 4
 size long (Constant rd v) = 8
 size long (LabelAddress rd l) = 8
 size long (DataAddress rd o) = 8
@@ -57,6 +58,18 @@ pub record IsSized (base : ℕ) (xs : List Item) (bytes : ℕ) : Type 0 where
   pub least : place all_short base xs (length xs) ≤ base + bytes
   pub most : base + bytes ≤ place all_long base xs (length xs)
 
+-- a call as a near one, any other item as it is
+abbrev pub nearer : Item → Item
+nearer (Call to) = NearCall to
+nearer (Mark l) = Mark l
+nearer (Plain i) = Plain i
+nearer (Branch t l r to) = Branch t l r to
+nearer (Jump to) = Jump to
+nearer (NearCall to) = NearCall to
+nearer (Constant rd v) = Constant rd v
+nearer (LabelAddress rd l) = LabelAddress rd l
+nearer (DataAddress rd o) = DataAddress rd o
+
 -- ---- reach
 
 -- from a to b by a branch: -4096 to 4094
@@ -74,6 +87,7 @@ FitsAt L base xs k (Mark l) = Unit {0}
 FitsAt L base xs k (Plain i) = Unit {0}
 FitsAt L base xs k (Jump to) = Unit {0}
 FitsAt L base xs k (Call to) = Unit {0}
+FitsAt L base xs k (NearCall to) = Unit {0}
 FitsAt L base xs k (Constant rd v) = Unit {0}
 FitsAt L base xs k (LabelAddress rd l) = Unit {0}
 FitsAt L base xs k (DataAddress rd o) = Unit {0}
@@ -96,6 +110,7 @@ MissesMark base xs k h (Jump to) = (item_at xs h ≡ Mark to) × (Reach (place a
 MissesMark base xs k h (Mark l) = ⊥
 MissesMark base xs k h (Plain i) = ⊥
 MissesMark base xs k h (Call to) = ⊥
+MissesMark base xs k h (NearCall to) = (item_at xs h ≡ Mark to) × (Reach (place all_long base xs k) (place all_long base xs h) → ⊥)
 MissesMark base xs k h (Constant rd v) = ⊥
 MissesMark base xs k h (LabelAddress rd l) = ⊥
 MissesMark base xs k h (DataAddress rd o) = ⊥
@@ -119,6 +134,7 @@ abbrev pub Refers : ℕ → Item → Type 0
 Refers n (Branch t l r to) = to < n
 Refers n (Jump to) = to < n
 Refers n (Call to) = to < n
+Refers n (NearCall to) = to < n
 Refers n (LabelAddress rd l) = l < n
 Refers n (Mark l) = l < n
 Refers n (Plain i) = Unit {0}

@@ -10,7 +10,7 @@ use Rattle.asm.specs.Layout.{place, item_at, Fits, IsBelowAll}
 use Rattle.rv32.specs.Words.{decode_of}
 use Rattle.rv32.specs.Space.{word_at}
 use Rattle.asm.specs.declared.item.Item.{Item}
-use Rattle.asm.specs.declared.item.Item.TheVariants.{Mark, Plain, Branch, Jump, Call, Constant, LabelAddress, DataAddress}
+use Rattle.asm.specs.declared.item.Item.TheVariants.{Mark, Plain, Branch, Jump, Call, NearCall, Constant, LabelAddress, DataAddress}
 
 abbrev pub sum32 : ℕ → ℕ → ℕ
 sum32 a b = (a + b) % 2 ^ 32
@@ -55,10 +55,10 @@ pub record Loads (T : ℕ → Option Instr) (a rd v next : ℕ) : Type 0 where
   pub value : sum32 high low ≡ v
   pub next_is : next ≡ a + 8
 
--- JAL with x0
-pub record Jumps (T : ℕ → Option Instr) (a to next : ℕ) : Type 0 where
+-- JAL that leaves the address behind it in a register: x0 for a jump, x1 for a call that is near
+pub record Jumps (T : ℕ → Option Instr) (link a to next : ℕ) : Type 0 where
   pub v : ℕ
-  pub at : T a ≡ Some (instr.Jal 0 v)
+  pub at : T a ≡ Some (instr.Jal link v)
   pub target : sum32 a v ≡ to
   pub next_is : next ≡ a + 4
 
@@ -76,8 +76,9 @@ abbrev pub ItemAt : (ℕ → Option Instr) → (ℕ → ℕ) → ℕ → Item �
 ItemAt T env seg (Mark l) a next = (env l ≡ a) × (next ≡ a)
 ItemAt T env seg (Plain i) a next = (T a ≡ Some i) × (next ≡ a + 4)
 ItemAt T env seg (Branch t l r to) a next = Short T t l r a (env to) next ⊎ Long T t l r a (env to) next
-ItemAt T env seg (Jump to) a next = Jumps T a (env to) next
+ItemAt T env seg (Jump to) a next = Jumps T 0 a (env to) next
 ItemAt T env seg (Call to) a next = Calls T a (env to) next
+ItemAt T env seg (NearCall to) a next = Jumps T 1 a (env to) next
 ItemAt T env seg (Constant rd v) a next = Loads T a rd v next
 ItemAt T env seg (LabelAddress rd l) a next = Loads T a rd (env l) next
 ItemAt T env seg (DataAddress rd o) a next = Loads T a rd (seg + o) next

@@ -41,6 +41,7 @@ fn names_known(homes: &[usize], item: Item) -> bool
         | Item::Branch { to, .. }
         | Item::Jump { to }
         | Item::Call { to }
+        | Item::NearCall { to }
         | Item::LabelAddress { of: to, .. } => to.number() < homes.len(),
         Item::DataAddress { offset, .. } => offset < 0x1000_0000,
     }

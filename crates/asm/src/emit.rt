@@ -71,11 +71,11 @@ fn check_reach(from: u32, to: u32) -> Result<(), Refusal>
     }
 }
 
-/// The jump from `from` to `to`.
-fn put_jump(code: &mut Vec<u8>, from: u32, to: u32) -> Result<(), Refusal>
+/// The jump from `from` to `to`, which leaves the address behind it in `link`.
+fn put_jump(code: &mut Vec<u8>, link: Five, from: u32, to: u32) -> Result<(), Refusal>
     requires small { (from < 0x70000010) × (to < 0x70000000) }
     requires even { (from % 4 ≡ 0) × (to % 4 ≡ 0) }
-    ensures ok { OnOk result (Writes code.old.items code.new.items (jump_code from to)) }
+    ensures ok { OnOk result (Writes code.old.items code.new.items (jump_code link from to)) }
     ensures err { IfErr result (IfFar (Reach from to → ⊥)) }
     ensures far { (Reach from to → ⊥) → result ≡ Err Refusal.Far }
 {
@@ -83,7 +83,7 @@ fn put_jump(code: &mut Vec<u8>, from: u32, to: u32) -> Result<(), Refusal>
     put(
         code,
         Instr::Jal {
-            rd: Five::new(0),
+            rd: link,
             offset: jump_offset(from, to),
         },
     )
@@ -153,7 +153,7 @@ fn put_branch(
                 offset: BranchOffset::new(8),
             },
         )?;
-        put_jump(code, from + 4, to)
+        put_jump(code, Five::new(0), from + 4, to)
     } else {
         put(
             code,
@@ -214,8 +214,9 @@ fn put_other(
             at,
             address_of(homes, places, to),
         ),
-        Item::Jump { to } => put_jump(code, at, address_of(homes, places, to)),
+        Item::Jump { to } => put_jump(code, Five::new(0), at, address_of(homes, places, to)),
         Item::Call { to } => put_call(code, at, address_of(homes, places, to)),
+        Item::NearCall { to } => put_jump(code, Five::new(1), at, address_of(homes, places, to)),
         Item::Constant { rd, value } => put_load(code, rd, value),
         Item::LabelAddress { rd, of } => put_load(code, rd, address_of(homes, places, of)),
         Item::DataAddress { rd, offset } => put_load(code, rd, data_start + offset),

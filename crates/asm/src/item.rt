@@ -61,6 +61,10 @@ pub enum Item {
     Call {
         to: Label,
     },
+    /// A call that is near: JAL with x1, -1048576 to 1048574 bytes far; 4 bytes.
+    NearCall {
+        to: Label,
+    },
     /// LUI and ADDI that load a 32-bit constant; 8 bytes.
     Constant {
         rd: Five,

@@ -9,18 +9,37 @@ ghost use Rattle.asm.specs.inside.Choice.{longs, shorts, IsTable, IsMeasured, Me
 use crate::item::Item;
 use std::alloc::{AllocError, Global};
 
-/// The bytes of an item where branches are long.
-fn most(item: Item) -> u32
-    ensures { result ≡ spec.size true item }
-{
-    match item {
-        Item::Mark(_) => 0,
-        Item::Plain(_) | Item::Jump { .. } => 4,
-        Item::Branch { .. }
-        | Item::Call { .. }
-        | Item::Constant { .. }
-        | Item::LabelAddress { .. }
-        | Item::DataAddress { .. } => 8,
+impl Item {
+    /// The bytes of the item where branches are long.
+    pub fn most_bytes(self) -> u32
+        ensures { result ≡ spec.size true self }
+    {
+        match self {
+            Item::Mark(_) => 0,
+            Item::Plain(_) | Item::Jump { .. } | Item::NearCall { .. } => 4,
+            Item::Branch { .. }
+            | Item::Call { .. }
+            | Item::Constant { .. }
+            | Item::LabelAddress { .. }
+            | Item::DataAddress { .. } => 8,
+        }
+    }
+
+    /// A call as a near one, any other item as it is.
+    pub fn nearer(self) -> Item
+        ensures { result ≡ spec.nearer self }
+    {
+        match self {
+            Item::Call { to } => Item::NearCall { to },
+            Item::Mark(_)
+            | Item::Plain(_)
+            | Item::Branch { .. }
+            | Item::Jump { .. }
+            | Item::NearCall { .. }
+            | Item::Constant { .. }
+            | Item::LabelAddress { .. }
+            | Item::DataAddress { .. } => self,
+        }
     }
 }
 
@@ -31,7 +50,7 @@ fn least(item: Item) -> u32
 {
     match item {
         Item::Mark(_) => 0,
-        Item::Plain(_) | Item::Jump { .. } | Item::Branch { .. } => 4,
+        Item::Plain(_) | Item::Jump { .. } | Item::NearCall { .. } | Item::Branch { .. } => 4,
         Item::Call { .. }
         | Item::Constant { .. }
         | Item::LabelAddress { .. }
@@ -44,7 +63,7 @@ pub fn size(long: bool, item: Item) -> u32
     ensures value { result ≡ spec.size long item }
     ensures small { result ≤ spec.size true item }
 {
-    if long { most(item) } else { least(item) }
+    if long { item.most_bytes() } else { least(item) }
 }
 
 /// Stores at each number the address of that item, and at last the end.

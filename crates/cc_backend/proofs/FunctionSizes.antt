@@ -3,7 +3,7 @@ use Rattle.std.proofs.Common.{◌≡◌, ◌≤◌, ℕ, zero, suc, ◌+◌, Boo
 use Rattle.std.specs.Prelude.{slice_get}
 use Rattle.std.proofs.lemmas.List.Sums.{sum_by-append}
 use Rattle.asm.specs.declared.item.Item.{Item}
-use Rattle.asm.specs.declared.item.Item.TheVariants.{Mark, Plain, Branch, Jump, Call, Constant, LabelAddress, DataAddress}
+use Rattle.asm.specs.declared.item.Item.TheVariants.{Mark, Plain, Branch, Jump, Call, NearCall, Constant, LabelAddress, DataAddress}
 use Rattle.asm.specs.Layout.{item_at, size, place, longest}
 use Rattle.asm.proofs.Parts.{places_in_parts}
 use Rattle.frames_code.specs.Code.{Function}
@@ -17,6 +17,7 @@ size_within true (Branch t l r to) = omega arith
 size_within false (Branch t l r to) = omega arith
 size_within long (Jump to) = omega arith
 size_within long (Call to) = omega arith
+size_within long (NearCall to) = omega arith
 size_within long (Constant rd v) = omega arith
 size_within long (LabelAddress rd l) = omega arith
 size_within long (DataAddress rd o) = omega arith

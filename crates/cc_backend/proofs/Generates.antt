@@ -28,7 +28,8 @@ use Rattle.frames.specs.Data.{data_of}
 use Rattle.frames.proofs.Whole.{length_data, data_bytes_are}
 use Rattle.frames_regalloc.specs.Renumbered.{IsRenumbered}
 use Rattle.frames_regalloc.proofs.Soundness.{stays_sound}
-use Rattle.select.specs.Program.{program_items, start_items, functions_items, function_items}
+use Rattle.select.specs.Program.{program_items, start_items, functions_items, function_items, shorten_calls, calls_are_near}
+use Rattle.select.proofs.Nearer.{shortened_longest, shortened_append}
 use Rattle.select.proofs.Lengths.{code_is_short}
 use Rattle.select_correct.specs.Reaching.{rows_of}
 use Rattle.select_correct.proofs.Reaching.{jumps_reach}
@@ -116,23 +117,30 @@ module _ (p : typed.Program) (f : flat.Program) (ready : IsReady p) (made : IsFl
       let rows = functions_short 0 (length f.functions) f.functions in
       let nodes = sums_within rows_of (λ g. 128 * g.nodes + 1024) f.functions p.functions same_count
       (λ k h g eh eg. code_fits p made.code f made.lowered form k g h eg eh) in
-      let both = sum_by-append (size true) (start_items f.main) (functions_items 0 (length f.functions) f.functions) in
-      omega (arith, rows, nodes, both, start_short f.main)
+      let all = functions_items 0 (length f.functions) f.functions in
+      let both = sum_by-append (size true) (start_items f.main) (shorten_calls (calls_are_near f) all) in
+      omega (arith, rows, nodes, both, start_short f.main, shortened_longest (calls_are_near f) all)
 
   -- ---- each function's code
 
   pub functions_fit : (long : ℕ → Bool) → FunctionsFit p f long
   functions_fit long k g h eg eh =
       let among = function_among 0 (length f.functions) f.functions k h eh in
-      let own = function_items among.2 among.3 h in
-      let before = start_items f.main ++ among.0 in
-      let all : program_items f ≡ before ++ (own ++ among.1) =
-      ap (λ xs. start_items f.main ++ xs) among.4 ∙ sym (append_assoc (start_items f.main) among.0 (own ++ among.1)) in
-      let short : longest own ≤ 128 * g.nodes + 1024 = le_trans (code_is_short h among.2 among.3) (code_fits p made.code f made.lowered form k g h eg eh) in
-      let part = part_within long text_start before own among.1 in
-      let fits : place long text_start (before ++ (own ++ among.1)) (length before + length own) ≤ place long text_start (before ++ (own ++ among.1)) (length before) + (128 * g.nodes + 1024) =
+      let near = calls_are_near f in
+      let own = shorten_calls near (function_items among.2 among.3 h) in
+      let front = shorten_calls near among.0 in
+      let behind = shorten_calls near among.1 in
+      let before = start_items f.main ++ front in
+      let parts : shorten_calls near (among.0 ++ (function_items among.2 among.3 h ++ among.1)) ≡ front ++ (own ++ behind) =
+      shortened_append near among.0 (function_items among.2 among.3 h ++ among.1) ∙ ap (λ xs. front ++ xs) (shortened_append near (function_items among.2 among.3 h) among.1) in
+      let all : program_items f ≡ before ++ (own ++ behind) =
+      ap (λ xs. start_items f.main ++ shorten_calls near xs) among.4 ∙ (ap (λ xs. start_items f.main ++ xs) parts ∙ sym (append_assoc (start_items f.main) front (own ++ behind))) in
+      let short : longest own ≤ 128 * g.nodes + 1024 =
+      le_trans (shortened_longest near (function_items among.2 among.3 h)) (le_trans (code_is_short h among.2 among.3) (code_fits p made.code f made.lowered form k g h eg eh)) in
+      let part = part_within long text_start before own behind in
+      let fits : place long text_start (before ++ (own ++ behind)) (length before + length own) ≤ place long text_start (before ++ (own ++ behind)) (length before) + (128 * g.nodes + 1024) =
       omega (arith, part, short) in
-      (before, own, among.1, among.2, among.3, all, refl, subst (λ xs. place long text_start xs (length before + length own) ≤ place long text_start xs (length before) + (128 * g.nodes + 1024)) (sym all) fits)
+      (before, own, behind, among.2, among.3, all, refl, subst (λ xs. place long text_start xs (length before + length own) ≤ place long text_start xs (length before) + (128 * g.nodes + 1024)) (sym all) fits)
 
   -- ---- the data
 

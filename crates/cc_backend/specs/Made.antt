@@ -25,7 +25,7 @@ use Rattle.frames_code.specs.Sound as flat_sound
 use Rattle.frames.specs.Translated.{flat_program}
 use Rattle.frames_regalloc.specs.Renumbered.{IsRenumbered}
 use Rattle.frames_opt.specs.Simplified.{IsSimplified}
-use Rattle.select.specs.Program.{program_items, function_items}
+use Rattle.select.specs.Program.{program_items, function_items, shorten_calls, calls_are_near}
 use Rattle.cc_backend.specs.FlatImages.{IsImageOf}
 use Rattle.cc_backend.specs.Runs.{RunsAs}
 
@@ -69,7 +69,7 @@ most_text p = 1024 + sum_by (λ f. 128 * f.nodes + 1024) p.functions
 abbrev pub FunctionsFit : Program → flat.Program → (ℕ → Bool) → Type 0
 FunctionsFit p code long =
     (k : ℕ) (g : Function) (f : flat.Function) → slice_get p.functions k ≡ Some g → slice_get code.functions k ≡ Some f
-    → (before own behind : List Item) × (number at : ℕ) × (program_items code ≡ before ++ (own ++ behind)) × (own ≡ function_items number at f)
+    → (before own behind : List Item) × (number at : ℕ) × (program_items code ≡ before ++ (own ++ behind)) × (own ≡ shorten_calls (calls_are_near code) (function_items number at f))
     × (place long text_start (program_items code) (length before + length own) ≤ place long text_start (program_items code) (length before) + (128 * g.nodes + 1024))
 
 -- How the executable file of a program is made, with the bytes of the frame of each function. It is the image of flat code of the program, with the fewest long

@@ -138,7 +138,7 @@ fn put_item(found: &mut Found, item: Item, at: u32) -> Result<(), AllocError> {
             }
             Ok(())
         }
-        Item::Call { to } => {
+        Item::Call { to } | Item::NearCall { to } => {
             found.references.push(Reference::Call(at, to.number()))?;
             Ok(())
         }

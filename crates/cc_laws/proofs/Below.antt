@@ -12,7 +12,7 @@ use Rattle.rv32.specs.Step.{Machine, register}
 use Rattle.memory_map.specs.MemoryMap.{text_start, stack_end, stack_start}
 use Rattle.elf_out.specs.Layout.{Parts}
 use Rattle.elf_out.specs.Program.{program_space, program_image, is_within, is_data}
-use Rattle.asm.specs.Placed.{Stands}
+use Rattle.select_exec.specs.Standing.{Stands}
 use Rattle.frames_code.specs.declared.code.Instruction.{Instruction}
 use Rattle.frames_code.specs.declared.code.Instruction.TheVariants as instruction
 use Rattle.frames_code.specs.Code.{Function, Program, frame_bytes}
@@ -28,6 +28,7 @@ use Rattle.select_exec.proofs.Worlds.{real_follows}
 use Rattle.select_exec.proofs.Keeping.{runs_keep}
 use Rattle.select_exec.proofs.Placing.{stands_parts}
 use Rattle.select_exec.proofs.Steps.{run_plus}
+use Rattle.select.specs.Program.{shorten_calls, calls_are_near}
 use Rattle.select.specs.Selected.{shortened, exit, return_home}
 use Rattle.select.specs.Program.{functions_items}
 use Rattle.select_correct.specs.Laws.{AreBytes}
@@ -411,9 +412,9 @@ module _ (p : Program) (parts : Parts) (q : IsImageOf p parts) (input : List ℕ
 
       call_fine : (g j : ℕ) → next_of p s ≡ Some (instruction.Call g) → j ≤ most_next p s → GoesAt low (own_light j) → AllFine j
       call_fine g j e le goes =
-          let st = ready2.stands s.frame.function s.frame.at (instruction.Call g) e in
+          let called = ready2.calls s.frame.function s.frame.at g e in
           let known = (function_fits p q.sound s.frame.function).each s.frame.at (instruction.Call g) e in
-          calls_fine F2 G2.env G2.data_at a.r here a.b s.input s.trace (function_at p g) (G2.env g) st.0 low j (address G2 g 0) st.1 (ready2.entry_aligned g known) (ready2.entries g known) (at_most (instruction.Call g) j e le) goes
+          calls_fine F2 G2.env G2.data_at a.r here a.b s.input s.trace (calls_are_near p) (function_at p g) (G2.env g) (address G2 s.frame.function (s.frame.at + 1)) low j (address G2 g 0) called (ready2.entry_aligned g known) (ready2.entries g known) (at_most (instruction.Call g) j e le) goes
 
     called : (g : ℕ) → next_of p s ≡ Some (instruction.Call g) → step p s ≡ running (entered s g)
     called g e = step_is p s ∙ ap (λ o. o >>= act p s) e
@@ -507,7 +508,7 @@ module _ (p : Program) (parts : Parts) (q : IsImageOf p parts) (input : List ℕ
             let st = l.stands in
             let ra = st.2.0 in
             let ra_is : ra ≡ text_start + 16 = omega (arith, st.1.next_is, st.2.1.next_is) in
-            let tail = stands_parts F.text q.assembled.env (whole.data_at p parts q) exit (functions_items 0 (length p.functions) p.functions) ra (whole.past_text p parts q) st.2.2 in
+            let tail = stands_parts F.text q.assembled.env (whole.data_at p parts q) exit (shorten_calls (calls_are_near p) (functions_items 0 (length p.functions) p.functions)) ra (whole.past_text p parts q) st.2.2 in
             let there : ra ≡ at2 = ra_is ∙ sym q2.0.at_is in
             let ending : Stands F.text q.assembled.env (whole.data_at p parts q) exit at2 tail.0 = subst (λ x. Stands F.text q.assembled.env (whole.data_at p parts q) exit x tail.0) there tail.1 in
             let done = exits_done F q.assembled.env (whole.data_at p parts q) tail.0 r2 at2 b2 i2 h2 ending in

@@ -5,7 +5,7 @@ use Rattle.std.proofs.lemmas.Bool.{cases_lt}
 use Rattle.std.proofs.lemmas.List.{append_assoc}
 use Rattle.std.proofs.lemmas.List.Sums.{sum_by-append}
 use Rattle.csem_events.specs.Events.{Event}
-use Rattle.rv32.specs.declared.instr.Instr.TheVariants.{Auipc, Jalr, Branch}
+use Rattle.rv32.specs.declared.instr.Instr.TheVariants.{Auipc, Jal, Jalr, Branch}
 use Rattle.rv32.specs.declared.instr.Instr.TheVariants as instr
 use Rattle.rv32.specs.declared.instr.Test.{Test}
 use Rattle.rv32.specs.declared.instr.Test.TheVariants as test
@@ -15,16 +15,17 @@ use Rattle.rv32.specs.Arithmetic.{operate_immediate_of}
 use Rattle.asm.specs.declared.item.Item.{Item}
 use Rattle.asm.specs.declared.item.Item.TheVariants as item
 use Rattle.asm.specs.Layout.{size, longest}
-use Rattle.asm.specs.Placed.{Short, Long, Calls, Loads, Stands, opposite}
+use Rattle.asm.specs.Placed.{Short, Long, Calls, Loads, opposite}
+use Rattle.select_exec.specs.Standing.{CallAt, Stands}
 use Rattle.frames_code.specs.declared.code.Operand.{Operand}
 use Rattle.frames_code.specs.declared.code.Instruction.{Instruction}
 use Rattle.frames_code.specs.declared.code.Instruction.TheVariants as instruction
 use Rattle.frames_code.specs.Code.{Function, frame_bytes}
 use Rattle.select_exec.specs.Light.{Fixed, Light, Go, Done, Fell, reg, with_reg, sum32, act, light_step, light_run}
 use Rattle.select_exec.proofs.Steps.{run_plus}
-use Rattle.select_exec.proofs.Placing.{stands_parts}
+use Rattle.select_exec.proofs.Standing.{stands_parts}
 use Rattle.select.specs.Selected.{source_of, home_of, fetch, made_in, register_of, address_of, combine, narrow, reach, scale, put_byte, change_sp, saves, restores, keep_return, take_return, entry, leave, exit, byte_home, items_of, shortened, is_same, skips_nothing, add_to}
-use Rattle.select_correct.specs.Costs.{row, item_count, opening_cost}
+use Rattle.select_correct.specs.Costs.{row, item_count, opening_cost, call_cost}
 use Rattle.select_correct.proofs.Lengths.{rows_are_lengths}
 use Rattle.cc_laws.proofs.Quiet.{Words, words, IsQuiet, IsBare, AreQuiet, quiet_both, five, six, ten, eleven, twelve, seventeen, fetch_quiet, keep_quiet, move_quiet, home_off, combine_quiet, narrow_quiet, reach_quiet, reference_quiet, scale_quiet, saving_quiet, restoring_quiet, byte_quiet, change_bare}
 use Rattle.cc_laws.proofs.Stretches.{HasSp, HasPc, IsFine, sp_of, pc_of, fine_low, fine_idle, done_stays, fell_stays, branch_step, at_text, quiet_run, bare_run, bare_fine}
@@ -327,16 +328,23 @@ module _ (F : Fixed) (env : ℕ → ℕ) (seg : ℕ) where
     from_at k = light_run F k (Go r a b i h)
 
     -- where two steps lead to the entry
-    pub calls_fine : (f : Function) (to next low j e : ℕ) → Calls F.text a to next → to % 4 ≡ 0 → Stands F.text env seg (entry f) to e → j ≤ 2 + opening_cost f → GoesAt low (from_at j) → (k : ℕ) → k < j → IsFine F low (from_at k)
-    calls_fine f to next low j e q al st lj g zero lk = inr (Auipc 1 q.high, q.first, tt)
-    calls_fine f to next low j e q al st lj g (suc zero) lk = subst (IsFine F low) (sym (calls_first r a b i h to next q)) (inr (Jalr 1 1 q.low, q.second, tt))
-    calls_fine f to next low zero e q al st lj g (suc (suc k)) lk = absurd (omega (arith, lk))
-    calls_fine f to next low (suc zero) e q al st lj g (suc (suc k)) lk = absurd (omega (arith, lk))
-    calls_fine f to next low (suc (suc j)) e q al st lj g (suc (suc k)) lk =
+    pub calls_fine : (near : Bool) (f : Function) (to next low j e : ℕ) → CallAt near F.text a to next → to % 4 ≡ 0 → Stands F.text env seg (entry f) to e → j ≤ call_cost near + opening_cost f → GoesAt low (from_at j) → (k : ℕ) → k < j → IsFine F low (from_at k)
+    calls_fine false f to next low j e q al st lj g zero lk = inr (Auipc 1 q.high, q.first, tt)
+    calls_fine false f to next low j e q al st lj g (suc zero) lk = subst (IsFine F low) (sym (calls_first r a b i h to next q)) (inr (Jalr 1 1 q.low, q.second, tt))
+    calls_fine false f to next low zero e q al st lj g (suc (suc k)) lk = absurd (omega (arith, lk))
+    calls_fine false f to next low (suc zero) e q al st lj g (suc (suc k)) lk = absurd (omega (arith, lk))
+    calls_fine false f to next low (suc (suc j)) e q al st lj g (suc (suc k)) lk =
         let r2 = with_reg (called r a q.high) 1 (a + 4 + 4) in
         let two : light_step F (light_step F (Go r a b i h)) ≡ Go r2 to b i h = ap (light_step F) (calls_first r a b i h to next q) ∙ calls_second r a b i h to next q al in
         let goes : GoesAt low (light_run F j (Go r2 to b i h)) = subst (λ m. GoesAt low (light_run F j m)) two g in
         subst (λ m. IsFine F low (light_run F k m)) (sym two) (enters_fine r2 to b i h f low j e st (omega (arith, lj)) goes k (omega (arith, lk)))
+    calls_fine true f to next low j e q al st lj g zero lk = inr (Jal 1 q.v, q.at, tt)
+    calls_fine true f to next low zero e q al st lj g (suc k) lk = absurd (omega (arith, lk))
+    calls_fine true f to next low (suc j) e q al st lj g (suc k) lk =
+        let r2 = with_reg r 1 (a + 4) in
+        let one : light_step F (Go r a b i h) ≡ Go r2 to b i h = at_text F r a b i h (Jal 1 q.v) q.at ∙ rw (q.target, al) refl in
+        let goes : GoesAt low (light_run F j (Go r2 to b i h)) = subst (λ m. GoesAt low (light_run F j m)) one g in
+        subst (λ m. IsFine F low (light_run F k m)) (sym one) (enters_fine r2 to b i h f low j e st (omega (arith, lj)) goes k (omega (arith, lk)))
 
   module _ (r : ℕ → ℕ) (a : ℕ) (b : ℕ → ℕ) (i : List ℕ) (h : List Event) where
     abbrev begins_at : ℕ → Light
@@ -356,7 +364,7 @@ module _ (F : Fixed) (env : ℕ → ℕ) (seg : ℕ) where
         let two : light_step F (light_step F (Go r a b i h)) ≡ Go r2 behind b i h =
         ap (light_step F) (at_text F r a b i h (instr.Lui 2 l.high) l.first) ∙ at_text F r1 (a + 4) b i h (instr.Immediate immediate_op.Add 2 2 l.low) l.second ∙ ap (λ x. Go r2 x b i h) there in
         let goes : GoesAt low (light_run F j (Go r2 behind b i h)) = subst (λ m. GoesAt low (light_run F j m)) two g in
-        subst (λ m. IsFine F low (light_run F k m)) (sym two) (calls_fine r2 behind b i h f to next low j e q al st (omega (arith, lj)) goes k (omega (arith, lk)))
+        subst (λ m. IsFine F low (light_run F k m)) (sym two) (calls_fine r2 behind b i h false f to next low j e q al st (omega (arith, lj)) goes k (omega (arith, lk)))
 
   -- ---- the end: the status is in a0, and 93 in a7
 

@@ -11,7 +11,8 @@ use Rattle.rv32.specs.declared.instr.RegisterOp.TheVariants as register_op
 use Rattle.asm.specs.declared.item.Item.{Item}
 use Rattle.asm.specs.declared.item.Item.TheVariants as item
 use Rattle.asm.specs.Layout.{size, longest}
-use Rattle.asm.specs.Placed.{Loads, Stands}
+use Rattle.asm.specs.Placed.{Loads}
+use Rattle.select_exec.specs.Standing.{Stands}
 use Rattle.frames_code.specs.declared.code.Location.{Location}
 use Rattle.frames_code.specs.declared.code.Location.TheVariants as location
 use Rattle.frames_code.specs.declared.code.Operation.{Operation}
@@ -44,6 +45,7 @@ OfItem Q (item.Plain i) = Q i
 OfItem Q (item.Branch t l r to) = ⊥
 OfItem Q (item.Jump to) = ⊥
 OfItem Q (item.Call to) = ⊥
+OfItem Q (item.NearCall to) = ⊥
 OfItem Q (item.Constant rd v) = ((h : ℕ) → Q (Lui rd h)) × ((l : ℕ) → Q (Immediate immediate_op.Add rd rd l))
 OfItem Q (item.LabelAddress rd l) = ((h : ℕ) → Q (Lui rd h)) × ((l : ℕ) → Q (Immediate immediate_op.Add rd rd l))
 OfItem Q (item.DataAddress rd o) = ((h : ℕ) → Q (Lui rd h)) × ((l : ℕ) → Q (Immediate immediate_op.Add rd rd l))
@@ -110,6 +112,7 @@ module _ (Q : Instr → Type 0) (T : ℕ → Option Instr) where
   words env seg (item.Branch t l r to ∷ xs) a e all st = absurd all.0
   words env seg (item.Jump to ∷ xs) a e all st = absurd all.0
   words env seg (item.Call to ∷ xs) a e all st = absurd all.0
+  words env seg (item.NearCall to ∷ xs) a e all st = absurd all.0
   words env seg (item.Constant rd v ∷ xs) a e all st = two_from_here (item.Constant rd v) xs a st.0 e rd v refl st.1 all.0.0 all.0.1 (words env seg xs st.0 e all.1 st.2)
   words env seg (item.LabelAddress rd l ∷ xs) a e all st = two_from_here (item.LabelAddress rd l) xs a st.0 e rd (env l) refl st.1 all.0.0 all.0.1 (words env seg xs st.0 e all.1 st.2)
   words env seg (item.DataAddress rd o ∷ xs) a e all st = two_from_here (item.DataAddress rd o) xs a st.0 e rd (seg + o) refl st.1 all.0.0 all.0.1 (words env seg xs st.0 e all.1 st.2)

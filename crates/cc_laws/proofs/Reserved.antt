@@ -1,5 +1,5 @@
 -- No instruction of a file writes gp or tp.
-use Rattle.std.proofs.Common.{◌≡◌, inl, inr, ⊎_elim, ◌≤◌, ◌<◌, ℕ, zero, suc, ◌+◌, ◌-◌, ◌*◌, ◌%◌, ◌^◌, ◌&&◌, List, [], ◌∷◌, ◌++◌, length, Bool, true, false, Option, Some, None, Ok, refl, sym, ap, ◌∙◌, subst, arith}
+use Rattle.std.proofs.Common.{◌≡◌, inl, inr, ⊎_elim, ◌≤◌, ◌<◌, ℕ, zero, suc, ◌+◌, ◌-◌, ◌*◌, ◌%◌, ◌^◌, ◌&&◌, List, [], ◌∷◌, ◌++◌, length, map, Bool, true, false, Option, Some, None, Ok, refl, sym, ap, ◌∙◌, subst, arith}
 use Rattle.std.specs.Prelude.{◌==◌, if◌then◌else◌, nat_lt, replicate, slice_index, slice_set}
 use Rattle.std.proofs.lemmas.Bool.{cases_lt}
 use Rattle.std.proofs.lemmas.Bool.Decides.{nat_tests}
@@ -23,6 +23,7 @@ use Rattle.rv32.specs.Space.{all_four, word_at}
 use Rattle.rv32.specs.Step.{Machine, Stepped, register, with_register, next, step_of, execute_of, decoded, fetched, trapped, gives, jumps, links, loaded, load_of, stored, store_of}
 use Rattle.asm.specs.declared.item.Item.{Item}
 use Rattle.asm.specs.declared.item.Item.TheVariants as item
+use Rattle.asm.specs.Layout.{nearer}
 use Rattle.asm.specs.Placed.{Stands}
 use Rattle.memory_map.specs.MemoryMap.{text_start}
 use Rattle.loader.specs.File.{file_image}
@@ -47,7 +48,7 @@ use Rattle.select.specs.declared.places.Home.{Home}
 use Rattle.select.specs.declared.places.Home.TheVariants as home
 use Rattle.select.specs.Selected as selected
 use Rattle.select.specs.Selected.{source_of, home_of, fetch, into, keep, made_in, register_of, load_constant, far, load_word, store_word, address_of, move, ending, operate, form_or, combine, narrow, reach, reference, log2_of, shift_or_multiply, scale, element, put_byte, get_byte, change_sp, saves, restores, calls, keep_return, take_return, entry, leave, return_home, byte_home, items_of, set_to, shortened, kept}
-use Rattle.select.specs.Program.{code_items, function_items, functions_items, program_items}
+use Rattle.select.specs.Program.{code_items, function_items, functions_items, shorten_calls, calls_are_near, program_items}
 use Rattle.cc_backend.specs.FlatImages.{IsImageOf}
 use Rattle.cc_backend.proofs.FlatImages as whole
 use Rattle.cc_backend.proofs.FlatImages.{within_low}
@@ -88,6 +89,7 @@ FreesItem (item.Plain i) = Frees i
 FreesItem (item.Branch t l r to) = Unit {0}
 FreesItem (item.Jump to) = Unit {0}
 FreesItem (item.Call to) = Unit {0}
+FreesItem (item.NearCall to) = Unit {0}
 FreesItem (item.Constant rd v) = IsFree rd
 FreesItem (item.LabelAddress rd l) = IsFree rd
 FreesItem (item.DataAddress rd o) = IsFree rd
@@ -319,8 +321,27 @@ functions_free k first [] = tt
 functions_free k first (f ∷ fs) =
     both (function_items k first f) _ (tt, both (entry f) _ (entry_free f) (code_free f first 0 f.code)) (functions_free (k + 1) (first + (length f.code + 1)) fs)
 
+nearer_free : (x : Item) → FreesItem x → FreesItem (nearer x)
+nearer_free (item.Mark l) f = f
+nearer_free (item.Plain i) f = f
+nearer_free (item.Branch t l r to) f = f
+nearer_free (item.Jump to) f = f
+nearer_free (item.Call to) f = f
+nearer_free (item.NearCall to) f = f
+nearer_free (item.Constant rd v) f = f
+nearer_free (item.LabelAddress rd l) f = f
+nearer_free (item.DataAddress rd o) f = f
+
+all_nearer_free : (xs : List Item) → FreesAll xs → FreesAll (map nearer xs)
+all_nearer_free [] f = f
+all_nearer_free (x ∷ xs) f = (nearer_free x f.0, all_nearer_free xs f.1)
+
+shortened_free : (near : Bool) (xs : List Item) → FreesAll xs → FreesAll (shorten_calls near xs)
+shortened_free true xs f = all_nearer_free xs f
+shortened_free false xs f = f
+
 program_free : (p : Program) → FreesAll (program_items p)
-program_free p = (low 2 (omega arith), (tt, (high 17 (omega arith), (tt, functions_free 0 (length p.functions) p.functions))))
+program_free p = (low 2 (omega arith), (tt, (high 17 (omega arith), (tt, shortened_free (calls_are_near p) (functions_items 0 (length p.functions) p.functions) (functions_free 0 (length p.functions) p.functions)))))
 
 -- ---- the text
 
@@ -353,6 +374,8 @@ module _ (T : ℕ → Option Instr) (env : ℕ → ℕ) (seg : ℕ) where
   text_free (item.Call to ∷ xs) a e f st al x ax le lt k u =
       word a x _ k st.1.first (low 1 (omega arith)) al ax le u (λ on.
       word (a + 4) x _ k st.1.second (low 1 (omega arith)) (omega (arith, al)) ax on u (λ past. text_free xs st.0 e f.1 st.2 (omega (arith, st.1.next_is, al)) x ax (omega (arith, st.1.next_is, past)) lt k u))
+  text_free (item.NearCall to ∷ xs) a e f st al x ax le lt k u =
+      word a x _ k st.1.at (low 1 (omega arith)) al ax le u (λ on. text_free xs st.0 e f.1 st.2 (omega (arith, st.1.next_is, al)) x ax (omega (arith, st.1.next_is, on)) lt k u)
   text_free (item.Constant rd v ∷ xs) a e f st al x ax le lt k u =
       word a x _ k st.1.first f.0 al ax le u (λ on.
       word (a + 4) x _ k st.1.second f.0 (omega (arith, al)) ax on u (λ past. text_free xs st.0 e f.1 st.2 (omega (arith, st.1.next_is, al)) x ax (omega (arith, st.1.next_is, past)) lt k u))

@@ -1,6 +1,6 @@
 -- A file's image with all between the data and the end of the stack readable and writable: flat code of any depth that fits is followed there. The run of the file
 -- itself cannot be the same if frames are far below the stack, since what is there stays zero, and no call returns to address zero.
-use Rattle.std.proofs.Common.{◌≡◌, ◌⊎◌, inl, inr, ℕ, zero, suc, ◌+◌, ◌-◌, ◌^◌, ◌<◌, ◌≤◌, List, [], ◌∷◌, length, true, false, refl, sym, ap, ◌∙◌, subst, arith}
+use Rattle.std.proofs.Common.{◌≡◌, ◌⊎◌, inl, inr, ℕ, zero, suc, ◌+◌, ◌-◌, ◌^◌, ◌<◌, ◌≤◌, List, [], ◌∷◌, length, Bool, true, false, refl, sym, ap, ◌∙◌, subst, arith}
 use Rattle.std.specs.Prelude.{nat_le}
 use Rattle.std.proofs.lemmas.Bool.Decides.{nat_tests}
 use Rattle.rv32.specs.Space.{Space, word_at}
@@ -15,6 +15,8 @@ use Rattle.sim.specs.Runs as sim
 use Rattle.sim.specs.Runs.{World, Running, Ended, Trapped, rvrun, start_world}
 use Rattle.select_exec.specs.Light.{Fixed}
 use Rattle.select_exec.specs.Whole.{Permits, fixed}
+use Rattle.select_exec.specs.Standing.{CallAt}
+use Rattle.select.specs.Program.{calls_are_near}
 use Rattle.select.specs.Selected.{return_home}
 use Rattle.select_correct.specs.Matches.{Ground, Ready, Waits, HasRoom, address, file_of, file_below, return_at}
 use Rattle.select_correct.specs.Runs.{Laid, ground_at}
@@ -130,13 +132,16 @@ module _ (p : Program) (parts : Parts) (q : IsImageOf p parts) where
   word_is_zero b zeros a lo hi =
       rw (zeros a lo (omega (arith, hi)), zeros (a + 1) (omega (arith, lo)) (omega (arith, hi)), zeros (a + 2) (omega (arith, lo)) (omega (arith, hi)), zeros (a + 3) (omega (arith, lo)) (omega (arith, hi))) refl
 
+  calls_go_on : (near : Bool) (a to next : ℕ) → CallAt near G.machine.text a to next → a + 4 ≤ next
+  calls_go_on true a to next q = omega (arith, q.next_is)
+  calls_go_on false a to next q = omega (arith, q.next_is)
+
   -- no call returns to address zero
   returns_past_zero : (ws : List Frame) (b s : ℕ → ℕ) (base ra : ℕ) → AreBehindCalls p ws → Waits G ws b s base ra → ra ≡ 0 → ⊥
   returns_past_zero [] b s base ra callers st e = omega (arith, st.3, e)
   returns_past_zero (w ∷ ws) b s base ra callers st e =
       let c = callers.0 in
-      let placed = ready.stands w.function c.0 (instruction.Call c.1) c.3 in
-      let next : address G w.function (c.0 + 1) ≡ address G w.function c.0 + 8 = sym placed.2 ∙ placed.1.next_is in
+      let next = calls_go_on (calls_are_near G.program) (address G w.function c.0) (G.env c.1) (address G w.function (c.0 + 1)) (ready.calls w.function c.0 c.1 c.3) in
       let same : address G w.function w.at ≡ address G w.function (c.0 + 1) = ap (address G w.function) c.2 in
       omega (arith, next, same, st.0.at_is, e)
 

@@ -49,14 +49,12 @@ impl<'a> Sources<'a> {
 
     /// Notes where a file of the set was found.
     pub fn note(&mut self, alloc: Global, name: &str, path: &str) -> Result<(), Fault> {
-        let is_noted = match noted(alloc, name, path) {
-            Ok(source) => self.files.push(source).is_ok(),
-            Err(_) => false,
+        let Ok(source) = noted(alloc, name, path) else {
+            return Err(Fault::memory(alloc));
         };
-        if is_noted {
-            Ok(())
-        } else {
-            Err(Fault::memory(alloc))
+        match self.files.push(source) {
+            Ok(()) => Ok(()),
+            Err(_) => Err(Fault::memory(alloc)),
         }
     }
 

@@ -72,7 +72,7 @@ fn map_of(
     program: &Program<'_>,
     file: &[u8],
 ) -> Result<Option<SymbolTable>, Fault> {
-    let Some(built_from) = sources_of(rt.alloc(), program) else {
+    let Ok(built_from) = sources_of(rt.alloc(), program) else {
         return Err(Fault::memory(rt.alloc()));
     };
     let sources = read_sources(rt, &built_from)?;
@@ -98,18 +98,18 @@ fn table_of(
     }
 }
 
-/// The program of the sources: the first is the main file. `None` where memory runs out.
-fn sources_of<'a>(alloc: Global, program: &Program<'a>) -> Option<Program<'a>> {
+/// The program of the sources: the first is the main file.
+fn sources_of<'a>(alloc: Global, program: &Program<'a>) -> Result<Program<'a>, AllocError> {
     let mut main = "";
     let mut words = Vec::new(alloc);
     for word in &program.words {
         if word.role == Role::File && main.is_empty() {
             main = word.text;
-        } else if words.push(*word).is_err() {
-            return None;
+        } else {
+            words.push(*word)?;
         }
     }
-    Some(Program {
+    Ok(Program {
         main,
         words,
         stack: program.stack,

@@ -210,7 +210,7 @@ fn item_text(
             let to = to.number();
             format!(in alloc; "j L{to}")
         }
-        Item::Call { to } => call_text(alloc, names, program, to.number()),
+        Item::Call { to } | Item::NearCall { to } => call_text(alloc, names, program, to.number()),
         Item::Constant { rd, value } => {
             let (rd, value) = (rd.get(), signed(value));
             format!(in alloc; "li x{rd},{value}")

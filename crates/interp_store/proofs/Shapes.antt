@@ -1,8 +1,8 @@
 -- Arrays as their cells: the part at a path, and the result of a change of cells.
-use Rattle.std.proofs.Common.{◌≡◌, ℕ, zero, suc, ◌+◌, ◌*◌, ◌<◌, ◌≤◌, ◌⊎◌, inl, inr, List, [], ◌∷◌, length, drop, replicate, get_or}
+use Rattle.std.proofs.Common.{◌≡◌, ℕ, zero, suc, ◌+◌, ◌*◌, ◌<◌, ◌≤◌, ◌⊎◌, inl, inr, ⊎_elim, Bool, true, List, [], ◌∷◌, ◌++◌, length, take, drop, replicate, get_or}
 use Rattle.std.proofs.Common.{Option, Some, None, ℤ, refl, sym, ap, ◌∙◌, arith, add-one, drop-cons}
 use Rattle.std.proofs.lemmas.Bool.{lt-ltb, le-ltb, cases_lt}
-use Rattle.std.specs.Prelude.{false, slice_get, slice_set, option_map, IfSome}
+use Rattle.std.specs.Prelude.{false, if◌then◌else◌, slice_get, slice_set, option_map, IfSome}
 use Rattle.typing_spec.specs.Types.{elements_in}
 use Rattle.csem.specs.Machine.{choose}
 use Rattle.csem.specs.Statements.{same_value}
@@ -42,11 +42,6 @@ cell_kept (d ∷ cs) zero (suc j) c h = refl
 cell_kept (d ∷ cs) (suc k) zero c h = refl
 cell_kept (d ∷ cs) (suc k) (suc j) c (inl h) = cell_kept cs k j c (inl (omega arith))
 cell_kept (d ∷ cs) (suc k) (suc j) c (inr h) = cell_kept cs k j c (inr (omega arith))
-
-pub cell_filled : (n : ℕ) (c : ℤ) (k : ℕ) → k < n → cell (replicate n c) k ≡ value_in c
-cell_filled zero c k h = absurd (omega arith)
-cell_filled (suc n) c zero h = refl
-cell_filled (suc n) c (suc k) h = cell_filled n c k (omega arith)
 
 -- ---- products
 
@@ -385,6 +380,57 @@ puts_filled path ls rest cs ds k n v e at size is inside outside =
     apart : (j : ℕ) → (j < k) ⊎ (k + elements_in rest ≤ j) → n ≡ elements_in rest → (j < k) ⊎ (k + n ≤ j)
     apart j (inl s) e = inl s
     apart j (inr s) e = inr (omega arith)
+
+-- ---- numbers of no value behind the last
+
+none_more : (n j : ℕ) → cell (replicate n no_value) j ≡ None
+none_more zero j = refl
+none_more (suc n) zero = refl
+none_more (suc n) (suc j) = none_more n j
+
+grown : (cs : List ℤ) (n j : ℕ) → cell (cs ++ replicate n no_value) j ≡ cell cs j
+grown [] n j = none_more n j
+grown (c ∷ cs) n zero = refl
+grown (c ∷ cs) n (suc j) = grown cs n j
+
+take_whole : (cs : List ℤ) (n : ℕ) → length cs ≤ n → take n cs ≡ cs
+take_whole [] zero le = refl
+take_whole [] (suc n) le = refl
+take_whole (c ∷ cs) zero le = absurd (omega (arith, le))
+take_whole (c ∷ cs) (suc n) le = ap (λ ds. c ∷ ds) (take_whole cs n (omega (arith, le)))
+
+-- more numbers, if there was memory for them, change no element
+pub resized : (b : Bool) (cs ds : List ℤ) (end n : ℕ) → length cs ≤ end → ds ≡ (if b then take end cs ++ replicate n no_value else cs) → (j : ℕ) → cell ds j ≡ cell cs j
+resized true cs ds end n le e j = ap (λ xs. cell xs j) (e ∙ ap (λ xs. xs ++ replicate n no_value) (take_whole cs end le)) ∙ grown cs n j
+resized false cs ds end n le e j = ap (λ xs. cell xs j) e
+
+pushed_last : (cs : List ℤ) (v : ℤ) (k : ℕ) → k ≡ length cs → cell (cs ++ v ∷ []) k ≡ value_in v
+pushed_last [] v zero e = refl
+pushed_last [] v (suc k) e = absurd (omega (arith, e))
+pushed_last (c ∷ cs) v zero e = absurd (omega (arith, e))
+pushed_last (c ∷ cs) v (suc k) e = pushed_last cs v k (omega (arith, e))
+
+pushed_other : (cs : List ℤ) (v : ℤ) (j : ℕ) → (j < length cs) ⊎ (length cs < j) → cell (cs ++ v ∷ []) j ≡ cell cs j
+pushed_other [] v zero h = absurd (⊎_elim (λ lt. omega (arith, lt)) (λ lt. omega (arith, lt)) h)
+pushed_other [] v (suc j) h = refl
+pushed_other (c ∷ cs) v zero h = refl
+pushed_other (c ∷ cs) v (suc j) h = pushed_other cs v j (⊎_elim (λ lt. inl (omega (arith, lt))) (λ lt. inr (omega (arith, lt))) h)
+
+-- element k of cs, which has fewer, is written behind the numbers up to it
+pub puts_behind : (path ls : List ℕ) (cs ms ds : List ℤ) (k : ℕ) (v : ℤ) → behind path ls ≡ Some [] → k ≡ number path ls 0 → length ms ≡ k → ((j : ℕ) → cell ms j ≡ cell cs j) → value_in v ≡ Some v → ds ≡ ms ++ v ∷ [] →
+    shaped ls ds 0 ≡ put_at path (machine.Element (Some v)) (shaped ls cs 0)
+puts_behind path ls cs ms ds k v e at len same is made =
+    puts_filled path ls [] cs ds k 1 v e (omega (arith, at)) refl is
+    (λ j lt. ap (λ xs. cell xs (k + j)) made ∙ pushed_last ms v (k + j) (omega (arith, len, lt)))
+    (λ j o. ap (λ xs. cell xs j) made ∙ (pushed_other ms v j (apart j o) ∙ same j))
+  where
+    apart : (j : ℕ) → (j < k) ⊎ (k + 1 ≤ j) → (j < length ms) ⊎ (length ms < j)
+    apart j (inl s) = inl (omega (arith, s, len))
+    apart j (inr s) = inr (omega (arith, s, len))
+
+-- an array of which no element has a value has no numbers yet
+pub none_yet : (ls : List ℕ) (cs : List ℤ) → cs ≡ [] → shaped ls cs 0 ≡ filled None ls
+none_yet ls cs e = ap (λ xs. shaped ls xs 0) e ∙ filled_cells ls [] 0 None (λ j h. refl)
 
 -- ---- elements of an array that has no rows
 

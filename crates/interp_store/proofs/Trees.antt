@@ -1,14 +1,11 @@
 -- The live objects, and the model that represents them.
 use Rattle.std.proofs.Common.{◌≡◌, ℕ, ℤ, zero, suc, ◌+◌, ◌<◌, ◌≤◌, List, [], ◌∷◌, length, map, take, get_or, replicate, Option, Some, None, refl, sym, ap, subst, ◌∙◌, arith}
 use Rattle.std.specs.Prelude.{slice_get, slice_set, option_map, Result, Ok, Err, IfOk, OnOk}
-use Rattle.typing_spec.specs.Types.{elements_in}
 use Rattle.interp_store.specs.declared.element_tree.Tree.{Tree}
 use Rattle.interp_store.specs.declared.element_tree.Tree.TheVariants.{Element}
 use Rattle.csem.specs.Store as machine
 use Rattle.csem.specs.Store.{at_path}
-use Rattle.interp_store.specs.Cells.{value_in, cell, shaped}
 use Rattle.interp_store.specs.View.{tree_of}
-use Rattle.interp_store.proofs.Shapes.{filled_cells, cell_filled}
 
 pub get_map : (ts : List Tree) (i : ℕ) → slice_get (map tree_of ts) i ≡ option_map tree_of (slice_get ts i)
 get_map [] i = refl
@@ -81,11 +78,3 @@ element_has_none t v (i ∷ path) e = sym (ap (λ t. machine.length_of (at_path 
 
 pub made_as : {E : Type 0} (r : Result Tree E) (a b : machine.Tree) → a ≡ b → IfOk r (λ t. tree_of t ≡ a) → IfOk r (λ t. tree_of t ≡ b)
 made_as r a b e h = let P : machine.Tree → Type 0 = λ m. IfOk r (λ t. tree_of t ≡ m) in subst P e h
-
-pub alike : (lengths : List ℕ) (cs : List ℤ) (n : ℕ) (number : ℤ) (v : Option ℤ) → n ≡ elements_in lengths → cs ≡ replicate n number → value_in number ≡ v →
-    shaped lengths cs 0 ≡ machine.filled v lengths
-alike lengths cs n number v size e is =
-    ap (λ cs. shaped lengths cs 0) e ∙ filled_cells lengths (replicate n number) 0 v (λ j h. ap (cell (replicate n number)) (at j) ∙ cell_filled n number j (omega (arith, size, h)) ∙ is)
-  where
-    at : (j : ℕ) → 0 + j ≡ j
-    at j = omega arith

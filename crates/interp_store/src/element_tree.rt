@@ -6,7 +6,7 @@ ghost use Rattle.csem.specs.Store as machine;
 ghost use Rattle.interp_store.specs.Cells.{shaped};
 ghost use Rattle.interp_store.specs.View.{tree_of};
 
-use crate::grid::{Grid, count, number_for};
+use crate::grid::Grid;
 use std::alloc::{AllocError, Global};
 
 /// An object (6.2.4, 6.2.5p20).
@@ -53,7 +53,7 @@ impl Tree {
 
     /// The element at these subscripts, if there is one, becomes `v`.
     ///
-    /// Errors: an array is there, or `v` is the least number, neither of which is of a typed program.
+    /// Errors: memory ran out; or an array is there, or `v` is the least number, neither of which is of a typed program.
     pub fn set(&mut self, path: &[usize], v: i64) -> Result<(), AllocError>
         ensures { OnOk result (tree_of self.new ≡ put_at path.now (machine.Element (Some v)) (tree_of self.old)) }
     {
@@ -69,7 +69,7 @@ impl Tree {
 
     /// Each element of the part at these subscripts, which has these lengths, becomes `v`.
     ///
-    /// Errors: the part there has other lengths, or `v` is the least number, neither of which is of a typed program.
+    /// Errors: memory ran out; or the part there has other lengths, or `v` is the least number, neither of which is of a typed program.
     pub fn fill(&mut self, path: &[usize], lengths: &[u32], v: i64) -> Result<(), AllocError>
         ensures { OnOk result (tree_of self.new ≡ put_at path.now (filled (Some v) lengths.now) (tree_of self.old)) }
     {
@@ -87,25 +87,16 @@ impl Tree {
         Ok(())
     }
 
-    /// An object of these lengths with each element alike (6.2.4p6, 6.7.9p10).
+    /// An object of these lengths whose value is indeterminate (6.2.4p6).
     ///
     /// Errors: memory ran out.
-    pub fn filled(alloc: Global, value: Option<i64>, lengths: &[u32]) -> Result<Tree, AllocError>
-        ensures { IfOk result (λ t. tree_of t ≡ filled value lengths.now) }
+    pub fn indeterminate(alloc: Global, lengths: &[u32]) -> Result<Tree, AllocError>
+        ensures { IfOk result (λ t. tree_of t ≡ filled None lengths.now) }
     {
         if lengths.is_empty() {
-            return Ok(Tree::Element(value));
+            return Ok(Tree::Element(None));
         }
-        let Some(number) = number_for(value) else {
-            return Err(AllocError);
-        };
-        let Some(n) = count(lengths) else {
-            return Err(AllocError);
-        };
-        match Vec::from_elem(alloc, number, n) {
-            Ok(cells) => Tree::array(alloc, lengths, cells),
-            Err(e) => Err(e),
-        }
+        Tree::array(alloc, lengths, Vec::new(alloc))
     }
 
     /// An array of these lengths with these cells.

@@ -9,7 +9,8 @@ ghost use Rattle.interp_store.specs.View.{grid_of};
 
 use std::alloc::{AllocError, Global};
 
-/// An array: its lengths, from the outermost, and a number for each element, `i64::MIN` where it is indeterminate (3.19.2).
+/// An array: its lengths, from the outermost, and a number for each element, `i64::MIN` where it is indeterminate (3.19.2). The elements behind
+/// the last that has a number are indeterminate, so that an array begins, and begins again, in a time that does not depend on its length.
 #[derive(Drop)]
 pub struct Grid {
     pub lengths: Vec<u32>,
@@ -173,7 +174,6 @@ impl Grid {
     fn place(&self, path: &[usize]) -> Option<usize>
         ensures stands { IfSome result (λ k. cells.behind path.now self.now.lengths.items ≡ Some []) }
         ensures number { IfSome result (λ k. k ≡ cells.number path.now self.now.lengths.items 0) }
-        ensures held { IfSome result (λ k. k < length self.now.cells.items) }
     {
         match behind(self.lengths.as_slice(), path) {
             None => None,
@@ -181,17 +181,26 @@ impl Grid {
                 if !rest.is_empty() {
                     return None;
                 }
-                match number(self.lengths.as_slice(), path) {
-                    None => None,
-                    Some(k) => { if k < self.cells.len() { Some(k) } else { None } }
-                }
+                number(self.lengths.as_slice(), path)
             }
         }
     }
 
+    /// Gives each element before number `end` of all a number.
+    fn reach(&mut self, end: usize) -> Result<(), AllocError>
+        ensures lengths { self.new.lengths ≡ self.old.lengths }
+        ensures same { (j : ℕ) → cells.cell self.new.cells.items j ≡ cells.cell self.old.cells.items j }
+        ensures held { OnOk result (end ≤ length self.new.cells.items) }
+    {
+        if end <= self.cells.len() {
+            return Ok(());
+        }
+        self.cells.resize(end, i64::MIN)
+    }
+
     /// The element at these subscripts becomes `v`.
     ///
-    /// Errors: there is none, or `v` is the least number, neither of which is of a typed program.
+    /// Errors: memory ran out; or there is none, or `v` is the least number, neither of which is of a typed program.
     pub fn set(&mut self, path: &[usize], v: i64) -> Result<(), AllocError>
         ensures { OnOk result (grid_of self.new ≡ machine.put_at path.now (machine.Element (Some v)) (grid_of self.old)) }
     {
@@ -201,7 +210,12 @@ impl Grid {
         if is_no_value(v) {
             return Err(AllocError);
         }
-        self.cells[k] = v;
+        if k < self.cells.len() {
+            self.cells[k] = v;
+            return Ok(());
+        }
+        self.cells.resize(k, i64::MIN)?;
+        self.cells.push(v)?;
         Ok(())
     }
 
@@ -211,7 +225,7 @@ impl Grid {
         ensures stands { IfSome result (λ r. cells.behind path.now self.now.lengths.items ≡ Some lengths.now) }
         ensures first { IfSome result (λ r. r.0 ≡ cells.number path.now self.now.lengths.items 0 * elements_in lengths.now) }
         ensures count { IfSome result (λ r. r.1 ≡ elements_in lengths.now) }
-        ensures held { IfSome result (λ r. r.0 + r.1 ≤ length self.now.cells.items) }
+        ensures small { IfSome result (λ r. r.0 + r.1 < 2 ^ 64) }
     {
         let Some(rest) = behind(self.lengths.as_slice(), path) else {
             return None;
@@ -228,18 +242,15 @@ impl Grid {
         let Some(first) = k.checked_mul(count) else {
             return None;
         };
-        let Some(end) = first.checked_add(count) else {
+        let Some(_) = first.checked_add(count) else {
             return None;
         };
-        if end > self.cells.len() {
-            return None;
-        }
         Some((first, count))
     }
 
     /// Each element of the part of these lengths at these subscripts becomes `v`.
     ///
-    /// Errors: there is no such part, or `v` is the least number, neither of which is of a typed program.
+    /// Errors: memory ran out; or there is no such part, or `v` is the least number, neither of which is of a typed program.
     pub fn fill(&mut self, path: &[usize], lengths: &[u32], v: i64) -> Result<(), AllocError>
         ensures { OnOk result (grid_of self.new ≡ machine.put_at path.now (machine.filled (Some v) lengths.now) (grid_of self.old)) }
     {
@@ -249,6 +260,7 @@ impl Grid {
         if is_no_value(v) {
             return Err(AllocError);
         }
+        self.reach(first + count)?;
         fill_numbers(&mut self.cells, first, count, v);
         Ok(())
     }

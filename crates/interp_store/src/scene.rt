@@ -227,7 +227,7 @@ fn new_object(alloc: Global, objects: &[ObjectType], n: usize) -> Result<Tree, S
 {
     match objects.get(n) {
         None => Ok(Tree::Element(None)),
-        Some(ty) => match Tree::filled(alloc, None, ty.lengths.as_slice()) {
+        Some(ty) => match Tree::indeterminate(alloc, ty.lengths.as_slice()) {
             Ok(object) => Ok(object),
             Err(_) => Err(Stop::Memory),
         },

@@ -63,7 +63,7 @@ fn push_object(store: &mut Store, alloc: Global, ty: &ObjectType) -> Result<(), 
     ensures ok { OnOk result (store_of store.new ≡ store_of store.old ++ indeterminate (object_type_of ty.now) ∷ []) }
     ensures err { IfErr result (λ e. e ≡ Memory) }
 {
-    match Tree::filled(alloc, None, ty.lengths.as_slice()) {
+    match Tree::indeterminate(alloc, ty.lengths.as_slice()) {
         Ok(object) => match store.push(object) {
             Ok(()) => Ok(()),
             Err(_) => Err(Stop::Memory),

@@ -1,6 +1,7 @@
 pub mod Lists
 pub mod Shortened
 pub mod Sound
+pub mod Nearer
 pub mod Programs
 pub mod Lengths
 pub mod Rows

@@ -1,12 +1,12 @@
 -- The items of a sound flat program can be assembled: each label is marked once, and no other is named.
-use Rattle.std.proofs.Common.{◌≡◌, ◌⊎◌, inl, inr, ⊎_elim, ℕ, zero, suc, ◌+◌, ◌-◌, ◌*◌, ◌<◌, ◌≤◌, ◌%◌, ◌^◌, Bool, true, false, List, [], ◌∷◌, ◌++◌, length, Option, Some, None, refl, sym, ap, ◌∙◌, subst, arith, eqb}
+use Rattle.std.proofs.Common.{◌≡◌, ◌⊎◌, inl, inr, ⊎_elim, ℕ, zero, suc, ◌+◌, ◌-◌, ◌<◌, ◌≤◌, ◌%◌, ◌^◌, Bool, true, false, List, [], ◌∷◌, ◌++◌, length, Option, Some, None, refl, sym, ap, ◌∙◌, subst, arith}
 use Rattle.std.specs.Prelude.{if◌then◌else◌, nat_lt, ◌==◌, slice_get}
 use Rattle.std.proofs.lemmas.Bool.{cases_lt}
 use Rattle.std.proofs.lemmas.List.{length-append}
 use Rattle.std.proofs.lemmas.List.Sums.{sum_by-cons}
 use Rattle.rv32.specs.declared.instr.Instr.{Instr}
 use Rattle.asm.specs.declared.item.Item.{Item}
-use Rattle.asm.specs.declared.item.Item.TheVariants.{Mark, Plain, Branch, Jump, Call, Constant, LabelAddress, DataAddress}
+use Rattle.asm.specs.declared.item.Item.TheVariants.{Mark, Plain, Branch, Jump, Call, NearCall, Constant, LabelAddress, DataAddress}
 use Rattle.asm.specs.Layout.{item_at, Refers, IsSound}
 use Rattle.frames_code.specs.declared.code.Operand.{Operand}
 use Rattle.frames_code.specs.declared.code.Operand.TheVariants as operand
@@ -19,14 +19,14 @@ use Rattle.frames_code.specs.declared.code.Conversion.TheVariants as conversion
 use Rattle.frames_code.specs.declared.code.Instruction.{Instruction}
 use Rattle.frames_code.specs.declared.code.Instruction.TheVariants as instruction
 use Rattle.frames_code.specs.Code.{Function, Program, cell_home, area_home, frame_bytes}
-use Rattle.frames_code.specs.Sound.{OperandFits, TargetFits, LocationFits, InstructionFits, FunctionFits, IsSoundProgram, places_of, most_bytes}
+use Rattle.frames_code.specs.Sound.{OperandFits, LocationFits, InstructionFits, FunctionFits, IsSoundProgram, places_of, most_bytes}
 use Rattle.select.specs.declared.places.Source.{Source}
 use Rattle.select.specs.declared.places.Source.TheVariants as source
 use Rattle.select.specs.declared.places.Home.{Home}
 use Rattle.select.specs.declared.places.Home.TheVariants as home
 use Rattle.select.specs.Selected as selected
 use Rattle.select.specs.Selected.{source_of, home_of, fetch, into, keep, made_in, register_of, load_constant, far, load_word, store_word, address_of, move, ending, operate, form_or, combine, compute, narrow, convert, reach, load, store, reference, log2_of, shift_or_multiply, scale, element, branch, put_byte, get_byte, exit, change_sp, saves, restores, calls, keep_return, take_return, entry, leave, return_home, byte_home, items_of, set_to, shortened}
-use Rattle.select.specs.Program.{code_items, function_items, functions_items, start_items, program_items, labels_of}
+use Rattle.select.specs.Program.{code_items, function_items, functions_items, start_items, far_items, labels_of}
 use Rattle.select.proofs.Shortened.{shortened_fits}
 
 bool_cases : {A : Type 0} (b : Bool) → (b ≡ true → A) → (b ≡ false → A) → A
@@ -43,6 +43,7 @@ Unmarked n (Mark l ∷ xs) = ⊥
 Unmarked n (Branch t l r to ∷ xs) = (to < n) × Unmarked n xs
 Unmarked n (Jump to ∷ xs) = (to < n) × Unmarked n xs
 Unmarked n (Call to ∷ xs) = (to < n) × Unmarked n xs
+Unmarked n (NearCall to ∷ xs) = (to < n) × Unmarked n xs
 Unmarked n (LabelAddress rd l ∷ xs) = (l < n) × Unmarked n xs
 Unmarked n (DataAddress rd o ∷ xs) = (o < 0x10000000) × Unmarked n xs
 
@@ -55,6 +56,7 @@ module _ (n : ℕ) where
   both (Branch t l r to ∷ xs) ys p q = (p.0, both xs ys p.1 q)
   both (Jump to ∷ xs) ys p q = (p.0, both xs ys p.1 q)
   both (Call to ∷ xs) ys p q = (p.0, both xs ys p.1 q)
+  both (NearCall to ∷ xs) ys p q = (p.0, both xs ys p.1 q)
   both (LabelAddress rd l ∷ xs) ys p q = (p.0, both xs ys p.1 q)
   both (DataAddress rd o ∷ xs) ys p q = (p.0, both xs ys p.1 q)
 
@@ -247,7 +249,9 @@ module _ (n : ℕ) where
   unmarked_refers (Jump to ∷ xs) zero p lt = p.0
   unmarked_refers (Jump to ∷ xs) (suc k) p lt = unmarked_refers xs k p.1 (omega (arith, lt))
   unmarked_refers (Call to ∷ xs) zero p lt = p.0
+  unmarked_refers (NearCall to ∷ xs) zero p lt = p.0
   unmarked_refers (Call to ∷ xs) (suc k) p lt = unmarked_refers xs k p.1 (omega (arith, lt))
+  unmarked_refers (NearCall to ∷ xs) (suc k) p lt = unmarked_refers xs k p.1 (omega (arith, lt))
   unmarked_refers (LabelAddress rd l ∷ xs) zero p lt = p.0
   unmarked_refers (LabelAddress rd l ∷ xs) (suc k) p lt = unmarked_refers xs k p.1 (omega (arith, lt))
   unmarked_refers (DataAddress rd o ∷ xs) zero p lt = p.0
@@ -265,7 +269,9 @@ module _ (n : ℕ) where
   unmarked_marks (Jump to ∷ xs) zero l p lt e = cc
   unmarked_marks (Jump to ∷ xs) (suc k) l p lt e = unmarked_marks xs k l p.1 (omega (arith, lt)) e
   unmarked_marks (Call to ∷ xs) zero l p lt e = cc
+  unmarked_marks (NearCall to ∷ xs) zero l p lt e = cc
   unmarked_marks (Call to ∷ xs) (suc k) l p lt e = unmarked_marks xs k l p.1 (omega (arith, lt)) e
+  unmarked_marks (NearCall to ∷ xs) (suc k) l p lt e = unmarked_marks xs k l p.1 (omega (arith, lt)) e
   unmarked_marks (LabelAddress rd m ∷ xs) zero l p lt e = cc
   unmarked_marks (LabelAddress rd m ∷ xs) (suc k) l p lt e = unmarked_marks xs k l p.1 (omega (arith, lt)) e
   unmarked_marks (DataAddress rd o ∷ xs) zero l p lt e = cc
@@ -393,7 +399,7 @@ module _ (n : ℕ) where
       (λ y. ⊎_elim (λ z. omega (arith, y, z.0)) (λ z. omega (arith, y, z.0, below)) b)
       (λ y. ⊎_elim (λ z. omega (arith, y.0, z.1, below)) (λ z. omega (arith, y.1, z.0)) b) a))
 
-pub is_sound : (p : Program) → IsSoundProgram p → IsSound (labels_of p) (program_items p)
+pub is_sound : (p : Program) → IsSoundProgram p → IsSound (labels_of p) (far_items p)
 is_sound p s =
     let n = labels_of p in
     let count = length p.functions in

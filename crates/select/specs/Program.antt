@@ -1,7 +1,8 @@
 -- The items of a whole flat program.
-use Rattle.std.specs.Prelude.{ℕ, ◌+◌, List, [], ◌∷◌, ◌++◌, length}
+use Rattle.std.specs.Prelude.{ℕ, ◌+◌, nat_le, if◌then◌else◌, Bool, List, [], ◌∷◌, ◌++◌, length, map}
 use Rattle.memory_map.specs.MemoryMap.{stack_end}
 use Rattle.asm.specs.declared.item.Item.{Item}
+use Rattle.asm.specs.Layout.{longest, nearer}
 use Rattle.asm.specs.declared.item.Item.TheVariants as item
 use Rattle.frames_code.specs.declared.code.Instruction.{Instruction}
 use Rattle.frames_code.specs.Code as flat
@@ -29,8 +30,24 @@ start_items main = item.Constant 2 stack_end ∷ item.Call main ∷ exit
 
 -- The labels: first those of the functions, by their numbers; then, a function after the other, those of its instructions and of
 -- its end.
+abbrev pub far_items : flat.Program → List Item
+far_items p = start_items p.main ++ functions_items 0 (length p.functions) p.functions
+
+-- ---- near calls
+
+abbrev pub shorten_calls : (near : Bool) → List Item → List Item
+shorten_calls near xs = if near then map nearer xs else xs
+
+-- all items together are no longer than the reach of JAL
+abbrev pub are_near : List Item → Bool
+are_near xs = nat_le (longest xs) 1048574
+
+-- then each call of a function is near
+abbrev pub calls_are_near : flat.Program → Bool
+calls_are_near p = are_near (far_items p)
+
 abbrev pub program_items : flat.Program → List Item
-program_items p = start_items p.main ++ functions_items 0 (length p.functions) p.functions
+program_items p = start_items p.main ++ shorten_calls (calls_are_near p) (functions_items 0 (length p.functions) p.functions)
 
 abbrev pub labels_of : flat.Program → ℕ
 labels_of p = length p.functions + places_of p.functions

@@ -5,6 +5,7 @@ mod calls;
 mod combining;
 mod elements;
 pub mod laws;
+mod near;
 mod operations;
 mod places;
 mod program;

@@ -10,6 +10,7 @@ ghost use Rattle.select.specs.Program.{code_items, function_items, functions_ite
 
 use crate::calls::{has_call, put_entry, put_exit, put_get_byte, put_leave, put_put_byte};
 use crate::elements::{put_element, put_load, put_reference, put_store};
+use crate::near::shorten_calls;
 use crate::operations::{put_compute, put_convert, put_move};
 use crate::places::{home_of, source_of};
 use crate::shortening::shortened;
@@ -237,7 +238,9 @@ fn program_code(alloc: Global, program: &FlatProgram) -> Result<Items, AllocErro
 {
     let mut list = Vec::with_capacity(alloc, room_for(&program.functions))?;
     put_start(&mut list, program.main)?;
+    let begun = list.len();
     let labels = put_functions(&mut list, &program.functions)?;
+    shorten_calls(&mut list, begun);
     let Some(items) = Items::new(alloc, list, labels)? else {
         unreachable!()
     };

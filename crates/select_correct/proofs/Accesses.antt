@@ -4,7 +4,7 @@ use Rattle.std.specs.Prelude.{if◌then◌else◌, ◌&&◌, nat_le, slice_get}
 use Rattle.std.proofs.lemmas.Bool.Decides.{nat_tests}
 use Rattle.rv32.specs.declared.instr.Instr.TheVariants as instr
 use Rattle.asm.specs.declared.item.Item.TheVariants as item
-use Rattle.asm.specs.Placed.{Stands}
+use Rattle.select_exec.specs.Standing.{Stands}
 use Rattle.frames_code.specs.declared.code.Operand.{Operand}
 use Rattle.frames_code.specs.declared.code.Target.{Target}
 use Rattle.frames_code.specs.declared.code.Width.{Width}
@@ -21,7 +21,7 @@ use Rattle.select_exec.proofs.Bridge.{and_left, and_right}
 use Rattle.select_exec.proofs.Words.{reg_is, with_same}
 use Rattle.select_exec.proofs.Steps.{comes_now, comes_by}
 use Rattle.select_exec.proofs.ItemSteps.{on_loads}
-use Rattle.select_exec.proofs.Placing.{stands_parts}
+use Rattle.select_exec.proofs.Standing.{stands_parts}
 use Rattle.select.specs.declared.places.Source.{Source}
 use Rattle.select.specs.declared.places.Home.{Home}
 use Rattle.select.specs.Selected.{source_of, home_of, fetch, register_of, made_in, keep, reach, reach_base, reach_offset, load_of, store_of, load, store}

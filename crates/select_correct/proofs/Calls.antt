@@ -16,11 +16,13 @@ use Rattle.select_exec.specs.Light.{Light, Go, reg, with_reg, Comes}
 use Rattle.select_exec.proofs.Bridge.{bool_cases}
 use Rattle.select_exec.proofs.Words.{with_other, word_same}
 use Rattle.select_exec.proofs.Steps.{comes_now, comes_then, on_jump_register}
-use Rattle.select_exec.proofs.ItemSteps.{on_call}
-use Rattle.select_exec.proofs.Placing.{stands_parts}
+use Rattle.select_exec.proofs.ItemSteps.{on_call, on_near_call}
+use Rattle.select_exec.proofs.Standing.{stands_parts}
+use Rattle.select_exec.specs.Standing.{CallAt}
+use Rattle.select.specs.Program.{calls_are_near}
 use Rattle.select.specs.Selected.{kept, is_call, calls, change_sp, return_home, restores, take_return}
 use Rattle.select_correct.specs.Matches.{Ground, Ready, Returns, Holds, ArgumentsShow, Small, Waits, Matched, Matches, HasRoom, address, shown, file_below, file_of, return_at, temporary_at, argument_at}
-use Rattle.select_correct.specs.Costs.{return_cost, frame_cost, opening_cost, row, step_cost}
+use Rattle.select_correct.specs.Costs.{return_cost, frame_cost, opening_cost, row, call_cost, step_cost}
 use Rattle.select_correct.specs.Laws.{Anything, Follows}
 use Rattle.select_correct.proofs.Registers.{kept_above, kept_no_temporary, kept_once}
 use Rattle.select_correct.proofs.Waiting.{waits_same}
@@ -88,13 +90,18 @@ module _ (G : Ground) (s : State) (r b : ℕ → ℕ) (ready : Ready G) (m : Mat
   abbrev pub at_entry : ℕ → Light
   at_entry g = Go (with_reg r 1 end) (G.env g) b s.input s.trace
 
-  pub calls_to : (g : ℕ) → slice_get (fn G s r b ready m).code s.frame.at ≡ Some (instruction.Call g) → Comes G.machine Anything 1 2 (Go r start b s.input s.trace) (λ x. x ≡ at_entry g)
-  calls_to g e =
-      let Q : Light → Type 0 = λ x. x ≡ at_entry g in
-      let st = ready.stands s.frame.function s.frame.at (instruction.Call g) e in
-      let known = fits G s r b ready m (instruction.Call g) e in
-      on_call G.machine Anything Q 0 r start b s.input s.trace tt (G.env g) st.0 (ready.entry_aligned g known) st.1 tt
-      (comes_now G.machine Anything 0 _ Q tt (ap (λ x. Go (with_reg r 1 x) (G.env g) b s.input s.trace) st.2))
+  call_end : (near : Bool) (a to next : ℕ) → CallAt near G.machine.text a to next → (next ≤ a + 8) × (a % 4 ≡ 0 → next % 4 ≡ 0)
+  call_end true a to next q = (omega (arith, q.next_is), λ al. omega (arith, q.next_is, al))
+  call_end false a to next q = (omega (arith, q.next_is), λ al. omega (arith, q.next_is, al))
+
+  called : (near : Bool) (g : ℕ) → g < length G.program.functions → CallAt near G.machine.text start (G.env g) end → Comes G.machine Anything 1 (call_cost near) (Go r start b s.input s.trace) (λ x. x ≡ at_entry g)
+  called true g known q =
+      on_near_call G.machine Anything (λ x. x ≡ at_entry g) 0 r start b s.input s.trace tt (G.env g) end (ready.entry_aligned g known) q (comes_now G.machine Anything 0 _ (λ x. x ≡ at_entry g) tt refl)
+  called false g known q =
+      on_call G.machine Anything (λ x. x ≡ at_entry g) 0 r start b s.input s.trace tt (G.env g) end (ready.entry_aligned g known) q tt (comes_now G.machine Anything 0 _ (λ x. x ≡ at_entry g) tt refl)
+
+  pub calls_to : (g : ℕ) → slice_get (fn G s r b ready m).code s.frame.at ≡ Some (instruction.Call g) → Comes G.machine Anything 1 (call_cost (calls_are_near G.program)) (Go r start b s.input s.trace) (λ x. x ≡ at_entry g)
+  calls_to g e = called (calls_are_near G.program) g (fits G s r b ready m (instruction.Call g) e) (ready.calls s.frame.function s.frame.at g e)
 
   -- its frame opens
   pub opens : (g : ℕ) → (m.sp ≡ G.watch_sp → (end ≡ G.watch_ra) × ((j : ℕ) → file_of r j ≡ G.watch_file j)) → slice_get (fn G s r b ready m).code s.frame.at ≡ Some (instruction.Call g) → HasRoom G (act G.program s (instruction.Call g))
@@ -102,8 +109,7 @@ module _ (G : Ground) (s : State) (r b : ℕ → ℕ) (ready : Ready G) (m : Mat
   opens g seen e room =
       let Q : Light → Type 0 = Matches G (running (entered s g)) in
       let f = function_at G.program g in
-      let st = ready.stands s.frame.function s.frame.at (instruction.Call g) e in
-      let q = st.1 in
+      let q = call_end (calls_are_near G.program) start (G.env g) end (ready.calls s.frame.function s.frame.at g e) in
       let known = fits G s r b ready m (instruction.Call g) e in
       let fit = function_fits G.program ready.sound g in
       let mine = within G ready s r start b m in
@@ -113,8 +119,8 @@ module _ (G : Ground) (s : State) (r b : ℕ → ℕ) (ready : Ready G) (m : Mat
       let up : sp + frame_bytes f ≡ m.sp = omega (arith, room, sum) in
       let win : Within G.floor f sp = record { low = omega (arith, room, sum); top = omega (arith, up, mine.top); aligned = omega (arith, up, mine.aligned, tall) } in
       let here = ready.aligned s.frame.function s.frame.at (instruction.Call g) e in
-      let small : end < 2 ^ 32 = omega (arith, here.1, q.next_is, st.2) in
-      let even : end % 4 ≡ 0 = omega (arith, here.0, q.next_is, st.2) in
+      let small : end < 2 ^ 32 = omega (arith, here.1, q.0) in
+      let even : end % 4 ≡ 0 = q.1 here.0 in
       let r1 = with_reg r 1 end in
       let stays : (k : ℕ) → k ≢ 1 → r1 k ≡ r k = λ k ne. with_other r 1 end k ne in
       let file : (j : ℕ) → file_of r1 j ≡ file_of r j = λ j. stays (kept j) (λ x. omega (arith, x, kept_above j)) in
@@ -152,8 +158,8 @@ module _ (G : Ground) (s : State) (r b : ℕ → ℕ) (ready : Ready G) (m : Mat
   does_call g seen e room =
       let Q : Light → Type 0 = Matches G (running (entered s g)) in
       let opened = opening_cost (function_at G.program g) in
-      let c : Comes G.machine Anything (1 + 1) (2 + opened) (Go r start b s.input s.trace) Q =
-      comes_then G.machine Anything 2 opened (Go r start b s.input s.trace) (λ x. x ≡ at_entry g) Q (calls_to g e) (λ x ex. subst (λ y. Comes G.machine Anything 1 opened y Q) (sym ex) (opens g seen e room)) in
+      let c : Comes G.machine Anything (1 + 1) (call_cost (calls_are_near G.program) + opened) (Go r start b s.input s.trace) Q =
+      comes_then G.machine Anything (call_cost (calls_are_near G.program)) opened (Go r start b s.input s.trace) (λ x. x ≡ at_entry g) Q (calls_to g e) (λ x ex. subst (λ y. Comes G.machine Anything 1 opened y Q) (sym ex) (opens g seen e room)) in
       record { j = c.j; some = omega (arith, c.some); within = c.within; kept = c.kept; good = c.good }
 
   -- ---- Return

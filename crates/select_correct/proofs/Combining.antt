@@ -10,7 +10,7 @@ use Rattle.rv32.specs.declared.instr.RegisterOp.TheVariants as register_op
 use Rattle.rv32.specs.declared.instr.ShiftOp.{ShiftOp}
 use Rattle.rv32.specs.declared.instr.ShiftOp.TheVariants as shift_op
 use Rattle.rv32.specs.Arithmetic.{operate_of, operate_immediate_of, shift_by, signed, one_if}
-use Rattle.asm.specs.Placed.{Stands}
+use Rattle.select_exec.specs.Standing.{Stands}
 use Rattle.csem_events.specs.Events.{Event}
 use Rattle.frames_code.specs.declared.code.Operation.{Operation}
 use Rattle.frames_code.specs.declared.code.Operation.TheVariants as operation
@@ -18,7 +18,7 @@ use Rattle.frames_code.specs.Run as flat
 use Rattle.select_exec.specs.Light.{Fixed, Light, Go, reg, with_reg, Comes}
 use Rattle.select_exec.proofs.Words.{reg_is, with_same}
 use Rattle.select_exec.proofs.Steps.{comes_by, comes_some, on_immediate, on_op, on_shift}
-use Rattle.select_exec.proofs.Placing.{stands_parts}
+use Rattle.select_exec.proofs.Standing.{stands_parts}
 use Rattle.select.specs.declared.places.Source.{Source}
 use Rattle.select.specs.declared.places.Source.TheVariants as source
 use Rattle.select.specs.Selected.{machine_of, ending, operate, short_form, shift_form, constant_form, form_or, combine, set_to, fetch, register_of}

@@ -2,7 +2,7 @@
 use Rattle.std.proofs.Common.{◌≡◌, ℕ, suc, ◌+◌, ◌%◌, ◌^◌, ◌<◌, ◌≤◌, ◌++◌, Some, refl, sym, ap, ◌∙◌, arith}
 use Rattle.std.specs.Prelude.{slice_get}
 use Rattle.rv32.specs.declared.instr.ImmediateOp.TheVariants as immediate_op
-use Rattle.asm.specs.Placed.{Stands}
+use Rattle.select_exec.specs.Standing.{Stands}
 use Rattle.frames_code.specs.declared.code.Operand.{Operand}
 use Rattle.frames_code.specs.declared.code.Operand.TheVariants as operand
 use Rattle.frames_code.specs.declared.code.Target.{Target}
@@ -14,7 +14,7 @@ use Rattle.frames_code.specs.Sound.{TargetFits}
 use Rattle.select_exec.specs.Light.{Light, Go, Done, with_reg, Comes}
 use Rattle.select_exec.proofs.Words.{reg_is}
 use Rattle.select_exec.proofs.Steps.{comes_now, comes_by, on_immediate, on_exit}
-use Rattle.select_exec.proofs.Placing.{stands_parts}
+use Rattle.select_exec.proofs.Standing.{stands_parts}
 use Rattle.select.specs.declared.places.Source.{Source}
 use Rattle.select.specs.declared.places.Home.{Home}
 use Rattle.select.specs.Selected.{source_of, home_of, fetch, register_of, made_in, keep, combine, compute}

@@ -7,7 +7,7 @@ use Rattle.std.proofs.lemmas.Bool.Decides.{nat_tests}
 use Rattle.rv32.specs.declared.instr.RegisterOp.TheVariants as register_op
 use Rattle.rv32.specs.declared.instr.ShiftOp.TheVariants as shift_op
 use Rattle.rv32.specs.Arithmetic.{operate_of, shift_by}
-use Rattle.asm.specs.Placed.{Stands}
+use Rattle.select_exec.specs.Standing.{Stands}
 use Rattle.csem_events.specs.Events.{Event}
 use Rattle.frames_code.specs.declared.code.Operand.{Operand}
 use Rattle.frames_code.specs.declared.code.Target.{Target}
@@ -18,7 +18,7 @@ use Rattle.select_exec.specs.Light.{Fixed, Light, Go, reg, with_reg, Comes}
 use Rattle.select_exec.proofs.Bridge.{bool_cases}
 use Rattle.select_exec.proofs.Words.{reg_is, with_same, with_other}
 use Rattle.select_exec.proofs.Steps.{comes_by, on_shift, on_op}
-use Rattle.select_exec.proofs.Placing.{stands_parts}
+use Rattle.select_exec.proofs.Standing.{stands_parts}
 use Rattle.select.specs.declared.places.Source.{Source}
 use Rattle.select.specs.declared.places.Source.TheVariants as source
 use Rattle.select.specs.declared.places.Home.{Home}

@@ -6,14 +6,14 @@ use Rattle.rv32.specs.declared.instr.ImmediateOp.TheVariants as immediate_op
 use Rattle.rv32.specs.declared.instr.RegisterOp.TheVariants as register_op
 use Rattle.rv32.specs.Arithmetic.{operate_of}
 use Rattle.rv32.specs.Space.{word_at}
-use Rattle.asm.specs.Placed.{Stands}
+use Rattle.select_exec.specs.Standing.{Stands}
 use Rattle.csem_events.specs.Events.{Event}
 use Rattle.frames_code.specs.Code.{Function, cell_home, frame_bytes}
 use Rattle.select_exec.specs.Light.{Fixed, Light, Go, reg, with_reg, with_word, Comes}
 use Rattle.select_exec.proofs.Bridge.{bool_cases}
 use Rattle.select_exec.proofs.Words.{reg_is, with_other, word_off, word_same, word_apart, word_back, word_bytes}
 use Rattle.select_exec.proofs.Steps.{comes_by, comes_some, on_immediate, on_op}
-use Rattle.select_exec.proofs.Placing.{stands_parts}
+use Rattle.select_exec.proofs.Standing.{stands_parts}
 use Rattle.select.specs.Selected.{add_to, operate_on, load_constant, kept, calls, change_sp, return_home, keep_return, take_return, saves, restores, store_word, load_word, entry}
 use Rattle.select_correct.specs.Matches.{Small, file_of, return_at}
 use Rattle.select_correct.specs.Costs.{constant_cost, frame_cost, word_cost, saved_cost, opening_cost, return_cost}

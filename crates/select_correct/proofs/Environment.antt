@@ -15,7 +15,8 @@ use Rattle.rv32.specs.Arithmetic.{operate_of, one_if}
 use Rattle.rv32.specs.Space.{word_at}
 use Rattle.asm.specs.declared.item.Item.{Item}
 use Rattle.asm.specs.declared.item.Item.TheVariants as item
-use Rattle.asm.specs.Placed.{Stands, sum32}
+use Rattle.asm.specs.Placed.{sum32}
+use Rattle.select_exec.specs.Standing.{Stands}
 use Rattle.csem_events.specs.Events.{Event, Got, GotEnd, Put}
 use Rattle.frames_code.specs.declared.code.Operand.TheVariants as operand
 use Rattle.frames_code.specs.declared.code.Instruction.TheVariants as instruction
@@ -25,7 +26,7 @@ use Rattle.select_exec.specs.Light.{Fixed, Light, Go, reg, with_reg, with_byte, 
 use Rattle.select_exec.proofs.Bridge.{bool_cases}
 use Rattle.select_exec.proofs.Words.{with_other, byte_off, byte_back, byte_bytes, word_same}
 use Rattle.select_exec.proofs.Steps.{comes_now, on_immediate, on_op, on_load_byte, on_store_byte, on_branch, on_put, on_get}
-use Rattle.select_exec.proofs.Placing.{stands_parts, after_items}
+use Rattle.select_exec.proofs.Standing.{stands_parts, after_items}
 use Rattle.select.specs.Selected.{add_to, operate_on, load_constant, kept, address_of, byte_home}
 use Rattle.select_correct.specs.Matches.{Ground, Ready, Shows, Matched, Matches, address, shown, temporary_at}
 use Rattle.select_correct.specs.Costs.{row}

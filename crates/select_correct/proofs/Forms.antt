@@ -6,7 +6,7 @@ use Rattle.std.proofs.lemmas.Bool.Decides.{nat_tests}
 use Rattle.rv32.specs.declared.instr.Test.{Test}
 use Rattle.rv32.specs.Arithmetic.{compare_of}
 use Rattle.asm.specs.declared.item.Item.TheVariants as item
-use Rattle.asm.specs.Placed.{Stands}
+use Rattle.select_exec.specs.Standing.{Stands}
 use Rattle.frames_code.specs.declared.code.Operand.{Operand}
 use Rattle.frames_code.specs.declared.code.Operand.TheVariants as operand
 use Rattle.frames_code.specs.declared.code.Target.{Target}
@@ -23,7 +23,7 @@ use Rattle.select_exec.proofs.Bridge.{bool_cases}
 use Rattle.select_exec.proofs.Words.{reg_is}
 use Rattle.select_exec.proofs.Steps.{comes_now, comes_by, comes_some}
 use Rattle.select_exec.proofs.ItemSteps.{on_jump_to, on_either_branch}
-use Rattle.select_exec.proofs.Placing.{stands_parts, after_items}
+use Rattle.select_exec.proofs.Standing.{stands_parts, after_items}
 use Rattle.select.specs.declared.places.Source.{Source}
 use Rattle.select.specs.declared.places.Source.TheVariants as source
 use Rattle.select.specs.declared.places.Home.{Home}

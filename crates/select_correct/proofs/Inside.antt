@@ -3,7 +3,7 @@ use Rattle.std.proofs.Common.{◌≡◌, ℕ, zero, suc, ◌+◌, ◌-◌, ◌%�
 use Rattle.std.specs.Prelude.{if◌then◌else◌, nat_lt, ◌==◌, slice_get}
 use Rattle.rv32.specs.declared.instr.Instr.{Instr}
 use Rattle.asm.specs.declared.item.Item.{Item}
-use Rattle.asm.specs.declared.item.Item.TheVariants.{Mark, Plain, Branch, Jump, Call, Constant, LabelAddress, DataAddress}
+use Rattle.asm.specs.declared.item.Item.TheVariants.{Mark, Plain, Branch, Jump, Call, NearCall, Constant, LabelAddress, DataAddress}
 use Rattle.asm.specs.Layout.{item_at}
 use Rattle.frames_code.specs.declared.code.Location.{Location}
 use Rattle.frames_code.specs.declared.code.Location.TheVariants as location
@@ -31,6 +31,7 @@ Names a b (Jump to) = (a ≤ to) × (to < b)
 Names a b (Mark l) = Unit {0}
 Names a b (Plain i) = Unit {0}
 Names a b (Call to) = Unit {0}
+Names a b (NearCall to) = (a ≤ to) × (to < b)
 Names a b (Constant rd v) = Unit {0}
 Names a b (LabelAddress rd l) = Unit {0}
 Names a b (DataAddress rd o) = Unit {0}
@@ -43,6 +44,7 @@ Inside a b (Jump to ∷ xs) = ((a ≤ to) × (to < b)) × Inside a b xs
 Inside a b (Mark l ∷ xs) = Inside a b xs
 Inside a b (Plain i ∷ xs) = Inside a b xs
 Inside a b (Call to ∷ xs) = Inside a b xs
+Inside a b (NearCall to ∷ xs) = ((a ≤ to) × (to < b)) × Inside a b xs
 Inside a b (Constant rd v ∷ xs) = Inside a b xs
 Inside a b (LabelAddress rd l ∷ xs) = Inside a b xs
 Inside a b (DataAddress rd o ∷ xs) = Inside a b xs
@@ -54,6 +56,7 @@ module _ (a b : ℕ) where
   one_in (Mark l) xs p = (tt, p)
   one_in (Plain i) xs p = (tt, p)
   one_in (Call to) xs p = (tt, p)
+  one_in (NearCall to) xs p = (p.0, p.1)
   one_in (Constant rd v) xs p = (tt, p)
   one_in (LabelAddress rd l) xs p = (tt, p)
   one_in (DataAddress rd o) xs p = (tt, p)
@@ -70,6 +73,7 @@ module _ (a b : ℕ) where
   both (Mark l ∷ xs) ys p q = both xs ys p q
   both (Plain i ∷ xs) ys p q = both xs ys p q
   both (Call to ∷ xs) ys p q = both xs ys p q
+  both (NearCall to ∷ xs) ys p q = (p.0, both xs ys p.1 q)
   both (Constant rd v ∷ xs) ys p q = both xs ys p q
   both (LabelAddress rd l ∷ xs) ys p q = both xs ys p q
   both (DataAddress rd o ∷ xs) ys p q = both xs ys p q

@@ -11,14 +11,14 @@ use Rattle.rv32.specs.declared.instr.StoreKind.TheVariants as store_kind
 use Rattle.rv32.specs.Arithmetic.{operate_of}
 use Rattle.rv32.specs.Space.{all_four, word_at}
 use Rattle.asm.specs.declared.item.Item.TheVariants as item
-use Rattle.asm.specs.Placed.{Stands}
+use Rattle.select_exec.specs.Standing.{Stands}
 use Rattle.csem_events.specs.Events.{Event}
 use Rattle.select_exec.specs.Light.{Fixed, Light, Go, reg, with_reg, with_word, sum32, Comes}
 use Rattle.select_exec.proofs.Bridge.{bool_cases}
 use Rattle.select_exec.proofs.Words.{reg_is, with_same, with_other}
 use Rattle.select_exec.proofs.Steps.{comes_by, on_lui, on_immediate, on_op, on_load, on_store}
 use Rattle.select_exec.proofs.ItemSteps.{on_loads}
-use Rattle.select_exec.proofs.Placing.{stands_parts}
+use Rattle.select_exec.proofs.Standing.{stands_parts}
 use Rattle.select.specs.declared.places.Source.{Source}
 use Rattle.select.specs.declared.places.Source.TheVariants as source
 use Rattle.select.specs.Selected.{add_to, operate_on, load_constant, upper_of, lower_of, far, base_of, load_word, store_word, address_of, set_to, fetch, register_of, into}

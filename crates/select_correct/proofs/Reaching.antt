@@ -1,20 +1,21 @@
 -- Jumps reach in functions whose code is short, and in lists made of parts in which they do.
 use Rattle.std.proofs.Common.{◌≡◌, ⊎_elim, inl, inr, ℕ, zero, suc, ◌+◌, ◌-◌, ◌<◌, ◌≤◌, ◌%◌, ◌^◌, Bool, true, false, List, [], ◌∷◌, ◌++◌, length, Some, refl, sym, ap, ◌∙◌, subst, arith}
 use Rattle.std.specs.Prelude.{if◌then◌else◌, nat_lt, slice_get}
-use Rattle.std.proofs.lemmas.Bool.{cases_lt}
+use Rattle.std.proofs.lemmas.Bool.{cases_lt, leb-true}
 use Rattle.std.proofs.lemmas.List.{length-append}
 use Rattle.std.proofs.lemmas.List.Sums.{sum_by-append}
 use Rattle.asm.specs.declared.item.Item.{Item}
-use Rattle.asm.specs.declared.item.Item.TheVariants.{Mark, Plain, Branch, Jump, Call, Constant, LabelAddress, DataAddress}
-use Rattle.asm.specs.Layout.{item_at, size, place, all_long, longest, Reach, MissesMark, IsSound}
+use Rattle.asm.specs.declared.item.Item.TheVariants.{Mark, Plain, Branch, Jump, Call, NearCall, Constant, LabelAddress, DataAddress}
+use Rattle.asm.specs.Layout.{item_at, size, place, all_long, longest, Reach, MissesMark, AllReach, IsSound}
 use Rattle.asm.proofs.Parts.{places_in_parts}
 use Rattle.asm.proofs.Ends.{ends}
 use Rattle.frames_code.specs.declared.code.Instruction.{Instruction}
 use Rattle.frames_code.specs.Code.{Function, Program, frame_bytes}
 use Rattle.frames_code.specs.Sound.{FunctionFits, IsSoundProgram}
 use Rattle.select.specs.Selected.{entry, items_of, shortened, change_sp, keep_return, saves}
-use Rattle.select.specs.Program.{code_items, function_items, functions_items, start_items, program_items, labels_of}
+use Rattle.select.specs.Program.{code_items, function_items, functions_items, start_items, far_items, shorten_calls, are_near, labels_of}
 use Rattle.select.proofs.Lengths.{code_is_short}
+use Rattle.select.proofs.Nearer.{shortened_longest}
 use Rattle.select.proofs.Sound.{is_sound}
 use Rattle.select_correct.specs.Reaching.{rows_of, IsShortProgram, JumpsReach}
 use Rattle.select_correct.proofs.Inside.{Names, Inside, named, entry_in, code_in}
@@ -55,6 +56,7 @@ LandsFrom base xs a (Jump to) = Lands base xs a to
 LandsFrom base xs a (Mark l) = Unit {0}
 LandsFrom base xs a (Plain i) = Unit {0}
 LandsFrom base xs a (Call to) = Unit {0}
+LandsFrom base xs a (NearCall to) = Lands base xs a to
 LandsFrom base xs a (Constant rd v) = Unit {0}
 LandsFrom base xs a (LabelAddress rd l) = Unit {0}
 LandsFrom base xs a (DataAddress rd o) = Unit {0}
@@ -69,6 +71,7 @@ carried base low xs ys a go (Jump to) p = go a to p
 carried base low xs ys a go (Mark l) p = tt
 carried base low xs ys a go (Plain i) p = tt
 carried base low xs ys a go (Call to) p = tt
+carried base low xs ys a go (NearCall to) p = go a to p
 carried base low xs ys a go (Constant rd v) p = tt
 carried base low xs ys a go (LabelAddress rd l) p = tt
 carried base low xs ys a go (DataAddress rd o) p = tt
@@ -147,6 +150,7 @@ module _ (a b base : ℕ) (xs : List Item) (marks : HasMarks a b xs) (short : lo
   named_lands k lt (Mark l) p = tt
   named_lands k lt (Plain i) p = tt
   named_lands k lt (Call to) p = tt
+  named_lands k lt (NearCall to) p = lands (place all_long base xs k) k to (omega (arith, lt)) (omega arith) (omega arith) p.0 p.1
   named_lands k lt (Constant rd v) p = tt
   named_lands k lt (LabelAddress rd l) p = tt
   named_lands k lt (DataAddress rd o) p = tt
@@ -161,6 +165,7 @@ no_jump base xs a (Jump to) p = absurd (omega (arith, p.1))
 no_jump base xs a (Mark l) p = tt
 no_jump base xs a (Plain i) p = tt
 no_jump base xs a (Call to) p = tt
+no_jump base xs a (NearCall to) p = absurd (omega (arith, p.1))
 no_jump base xs a (Constant rd v) p = tt
 no_jump base xs a (LabelAddress rd l) p = tt
 no_jump base xs a (DataAddress rd o) p = tt
@@ -216,7 +221,7 @@ functions_land n k first (f ∷ fs) fits short base =
     joined base items (functions_items (k + 1) (first + (length f.code + 1)) fs) (function_lands f n k first (fits 0 f refl) (short 0 f refl) base)
     (functions_land n (k + 1) (first + (length f.code + 1)) fs (λ j g e. fits (suc j) g e) (λ j g e. short (suc j) g e) (place all_long base items (length items)))
 
-program_lands : (p : Program) (base : ℕ) → IsSoundProgram p → IsShortProgram p → AllLand base (program_items p)
+program_lands : (p : Program) (base : ℕ) → IsSoundProgram p → IsShortProgram p → AllLand base (far_items p)
 program_lands p base sound short =
     let begun = start_items p.main in
     let count = length p.functions in
@@ -236,11 +241,60 @@ no_miss n base xs k h (Jump to) sound lt p m = m.1 (at_its_mark n base xs (place
 no_miss n base xs k h (Mark l) sound lt p m = m
 no_miss n base xs k h (Plain i) sound lt p m = m
 no_miss n base xs k h (Call to) sound lt p m = m
+no_miss n base xs k h (NearCall to) sound lt p m = m.1 (at_its_mark n base xs (place all_long base xs k) to h sound lt m.0 p)
 no_miss n base xs k h (Constant rd v) sound lt p m = m
 no_miss n base xs k h (LabelAddress rd l) sound lt p m = m
 no_miss n base xs k h (DataAddress rd o) sound lt p m = m
 
-pub jumps_reach : JumpsReach
-jumps_reach p base sound short m =
-    let xs = program_items p in
+-- ---- items that are near each other
+
+-- the items lie between the base and the end
+lies : (base : ℕ) (xs : List Item) (k : ℕ) → k ≤ length xs → (base ≤ place all_long base xs k) × (place all_long base xs k ≤ base + longest xs)
+lies base xs k le =
+    let end : place all_long base xs (length xs) ≡ base + longest xs = ends base xs in
+    let begin : place all_long base xs 0 ≡ base = refl in
+    (omega (arith, begin, place_rises all_long base xs 0 k (omega arith)), omega (arith, end, place_rises all_long base xs k (length xs) le))
+
+within_reach : (base : ℕ) (xs : List Item) (k h d : ℕ) (x : Item) → longest xs ≤ 1048574 → k < length xs → h < length xs → item_at xs k ≡ x → d ≤ size true x → Reach (place all_long base xs k + d) (place all_long base xs h)
+within_reach base xs k h d x few lk lh is le =
+    let a = lies base xs k (omega (arith, lk)) in
+    let b = lies base xs h (omega (arith, lh)) in
+    let next = lies base xs (suc k) (omega (arith, lk)) in
+    let bytes : size true (item_at xs k) ≡ size true x = ap (size true) is in
+    let further : place all_long base xs (suc k) ≡ place all_long base xs k + size true (item_at xs k) = refl in
+    (omega (arith, few, a, b, next, bytes, further, le), omega (arith, few, a, b, next, bytes, further, le))
+
+near_by : (base : ℕ) (xs : List Item) (k h : ℕ) (x : Item) → longest xs ≤ 1048574 → k < length xs → h < length xs → item_at xs k ≡ x → MissesMark base xs k h x → ⊥
+near_by base xs k h (Branch t l r to) few lk lh is m = m.1 (within_reach base xs k h 4 (Branch t l r to) few lk lh is (omega arith))
+near_by base xs k h (Jump to) few lk lh is m = m.1 (at_once (within_reach base xs k h 0 (Jump to) few lk lh is (omega arith)))
+  where
+    at_once : Reach (place all_long base xs k + 0) (place all_long base xs h) → Reach (place all_long base xs k) (place all_long base xs h)
+    at_once r = (omega (arith, r.0), omega (arith, r.1))
+near_by base xs k h (NearCall to) few lk lh is m = m.1 (at_once (within_reach base xs k h 0 (NearCall to) few lk lh is (omega arith)))
+  where
+    at_once : Reach (place all_long base xs k + 0) (place all_long base xs h) → Reach (place all_long base xs k) (place all_long base xs h)
+    at_once r = (omega (arith, r.0), omega (arith, r.1))
+near_by base xs k h (Mark l) few lk lh is m = m
+near_by base xs k h (Plain i) few lk lh is m = m
+near_by base xs k h (Call to) few lk lh is m = m
+near_by base xs k h (Constant rd v) few lk lh is m = m
+near_by base xs k h (LabelAddress rd l) few lk lh is m = m
+near_by base xs k h (DataAddress rd o) few lk lh is m = m
+
+-- calls that are near make the items no longer
+short_items : (p : Program) (near : Bool) → longest (start_items p.main ++ shorten_calls near (functions_items 0 (length p.functions) p.functions)) ≤ longest (far_items p)
+short_items p near =
+    let all = functions_items 0 (length p.functions) p.functions in
+    omega (arith, sum_by-append (size true) (start_items p.main) (shorten_calls near all), sum_by-append (size true) (start_items p.main) all, shortened_longest near all)
+
+reaches : (p : Program) (base : ℕ) → IsSoundProgram p → IsShortProgram p → (near : Bool) → are_near (far_items p) ≡ near → AllReach base (start_items p.main ++ shorten_calls near (functions_items 0 (length p.functions) p.functions))
+reaches p base sound short true is m =
+    let xs = start_items p.main ++ shorten_calls true (functions_items 0 (length p.functions) p.functions) in
+    let few = leb-true (longest (far_items p)) 1048574 is in
+    near_by base xs m.item m.target (item_at xs m.item) (omega (arith, few, short_items p true)) m.inside m.target_inside refl m.misses
+reaches p base sound short false is m =
+    let xs = far_items p in
     no_miss (labels_of p) base xs m.item m.target (item_at xs m.item) (is_sound p sound) m.target_inside (program_lands p base sound short m.item m.inside) m.misses
+
+pub jumps_reach : JumpsReach
+jumps_reach p base sound short = reaches p base sound short (are_near (far_items p)) refl

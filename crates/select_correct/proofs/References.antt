@@ -3,7 +3,7 @@ use Rattle.std.proofs.Common.{◌≡◌, ℕ, zero, suc, ◌+◌, ◌-◌, ◌%�
 use Rattle.std.proofs.lemmas.Bool.Decides.{nat_tests}
 use Rattle.std.specs.Prelude.{slice_get}
 use Rattle.asm.specs.declared.item.Item.TheVariants as item
-use Rattle.asm.specs.Placed.{Stands}
+use Rattle.select_exec.specs.Standing.{Stands}
 use Rattle.frames_code.specs.declared.code.Target.{Target}
 use Rattle.frames_code.specs.declared.code.Location.{Location}
 use Rattle.frames_code.specs.declared.code.Location.TheVariants as location
@@ -15,7 +15,7 @@ use Rattle.select_exec.specs.Light.{Light, Go, reg, with_reg, Comes}
 use Rattle.select_exec.proofs.Words.{reg_is, with_same}
 use Rattle.select_exec.proofs.Steps.{comes_by}
 use Rattle.select_exec.proofs.ItemSteps.{on_loads}
-use Rattle.select_exec.proofs.Placing.{stands_parts}
+use Rattle.select_exec.proofs.Standing.{stands_parts}
 use Rattle.select.specs.declared.places.Home.{Home}
 use Rattle.select.specs.Selected.{source_of, home_of, made_in, keep, address_of}
 use Rattle.select_correct.specs.Matches.{Ground, Matched, Matches, Ready, address, shown}

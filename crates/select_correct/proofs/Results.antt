@@ -10,7 +10,7 @@ use Rattle.rv32.specs.declared.instr.ShiftOp.{ShiftOp}
 use Rattle.rv32.specs.declared.instr.ShiftOp.TheVariants as shift_op
 use Rattle.rv32.specs.Arithmetic.{operate_of, shift_by, one_if}
 use Rattle.rv32.specs.Words.{sign_extended}
-use Rattle.asm.specs.Placed.{Stands}
+use Rattle.select_exec.specs.Standing.{Stands}
 use Rattle.csem_events.specs.Events.{Event}
 use Rattle.frames_code.specs.declared.code.Conversion.{Conversion}
 use Rattle.frames_code.specs.declared.code.Conversion.TheVariants as conversion

@@ -18,8 +18,9 @@ use Rattle.select.specs.declared.places.Source.{Source}
 use Rattle.select.specs.declared.places.Source.TheVariants as source
 use Rattle.select.specs.declared.places.Home.{Home}
 use Rattle.select.specs.declared.places.Home.TheVariants as home
+use Rattle.select.specs.Program.{calls_are_near}
 use Rattle.select.specs.Selected.{source_of, home_of, register_of, made_in, machine_of, constant_form, log2_of, byte_home, return_home, calls, is_same, skips_nothing}
-use Rattle.select_correct.specs.Costs.{far_cost, word_cost, constant_cost, address_cost, set_cost, fetch_cost, keep_cost, into_cost, move_cost, form_cost, second_cost, ending_cost, compute_cost, narrow_cost, reach_cost, reference_cost, product_cost, scale_cost, frame_cost, far_frame, saved_cost, opening_cost, step_cost, most_at, most_if, most_next, most_spent, SpentIsMore, far_source, far_home, far_location, far_saved, RowsAreFew}
+use Rattle.select_correct.specs.Costs.{call_cost, far_cost, word_cost, constant_cost, address_cost, set_cost, fetch_cost, keep_cost, into_cost, move_cost, form_cost, second_cost, ending_cost, compute_cost, narrow_cost, reach_cost, reference_cost, product_cost, scale_cost, frame_cost, far_frame, saved_cost, opening_cost, step_cost, most_at, most_if, most_next, most_spent, SpentIsMore, far_source, far_home, far_location, far_saved, RowsAreFew}
 use Rattle.select_correct.proofs.Fits.{function_fits}
 
 choice_most : (t : Bool) (n : ℕ) → (if t then 0 else n) ≤ n
@@ -119,6 +120,10 @@ saved_near : (f : Function) (n : ℕ) → saved_cost f n ≡ n + far_saved f n
 saved_near f zero = omega arith
 saved_near f (suc n) = omega (arith, saved_near f n)
 
+few_at_call : (near : Bool) → call_cost near ≤ 2
+few_at_call true = omega arith
+few_at_call false = omega arith
+
 pub rows_are_few : RowsAreFew
 rows_are_few p f instruction.Nothing = omega arith
 rows_are_few p f (instruction.Move d x) = omega (arith, move_near (home_of f d) (source_of f x))
@@ -130,7 +135,7 @@ rows_are_few p f (instruction.Address d l) = omega (arith, reference_near f (hom
 rows_are_few p f (instruction.Element d x y size) = omega (arith, fetch_near (source_of f x), fetch_near (source_of f y), scale_most size, keep_near (home_of f d))
 rows_are_few p f (instruction.Jump to) = omega arith
 rows_are_few p f (instruction.Branch t x y to) = omega (arith, fetch_near (source_of f x), fetch_near (source_of f y))
-rows_are_few p f (instruction.Call g) = omega (arith, return_near (calls (function_at p g).code) (return_home (function_at p g)), saved_near (function_at p g) (function_at p g).resident, frame_near (2 ^ 32 - frame_bytes (function_at p g)))
+rows_are_few p f (instruction.Call g) = omega (arith, few_at_call (calls_are_near p), return_near (calls (function_at p g).code) (return_home (function_at p g)), saved_near (function_at p g) (function_at p g).resident, frame_near (2 ^ 32 - frame_bytes (function_at p g)))
 rows_are_few p f instruction.PutByte = omega (arith, address_near (byte_home f))
 rows_are_few p f instruction.GetByte = omega (arith, address_near (byte_home f))
 rows_are_few p f instruction.Exit = omega arith
@@ -205,7 +210,7 @@ module _ (p : Program) (sound : IsSoundProgram p) where
   step_is_more f le (instruction.Element d x y size) = omega (arith, fetch_most (source_of f x), fetch_most (source_of f y), scale_most size, keep_most (home_of f d))
   step_is_more f le (instruction.Jump to) = omega arith
   step_is_more f le (instruction.Branch t x y to) = omega (arith, fetch_most (source_of f x), fetch_most (source_of f y))
-  step_is_more f le (instruction.Call g) = omega (arith, opening_most (function_at p g) (few g))
+  step_is_more f le (instruction.Call g) = omega (arith, few_at_call (calls_are_near p), opening_most (function_at p g) (few g))
   step_is_more f le instruction.PutByte = omega (arith, address_most (byte_home f))
   step_is_more f le instruction.GetByte = omega (arith, address_most (byte_home f))
   step_is_more f le instruction.Exit = omega arith

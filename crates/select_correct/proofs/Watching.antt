@@ -7,9 +7,10 @@ use Rattle.frames_code.specs.Costs.{next_of}
 use Rattle.frames_code.specs.Run.{Value, word, reference, Values, Bytes, Frame, State, Progress, running, ended, stuck, entered, function_at, bytes_of, run}
 use Rattle.select_exec.specs.Light.{Light, Go, Done, Fell, Comes, light_run}
 use Rattle.select_exec.proofs.Steps.{comes_now, comes_then}
+use Rattle.select.specs.Program.{calls_are_near}
 use Rattle.select.specs.Selected.{return_home}
 use Rattle.select_correct.specs.Matches.{Ground, Ready, FrameHolds, Waits, Matched, Matches, HasRoom, IsBelow, address, file_of, file_below, return_at, shown}
-use Rattle.select_correct.specs.Costs.{least_spent, opening_cost, row, most_spent}
+use Rattle.select_correct.specs.Costs.{least_spent, opening_cost, row, call_cost, most_spent}
 use Rattle.select_correct.specs.Laws.{Anything, AreBytes}
 use Rattle.select_correct.specs.Runs.{IsWithin, IsBack, EachCallKeeps}
 use Rattle.select_correct.proofs.Fits.{frame_room}
@@ -30,6 +31,7 @@ module _ (G : Ground) (sp ra : ℕ) (file : ℕ → ℕ) where
     sound = q.sound;
     aligned = q.aligned;
     stands = q.stands;
+    calls = q.calls;
     entries = q.entries;
     entry_aligned = q.entry_aligned;
     stack_read = q.stack_read;
@@ -159,7 +161,7 @@ each_call_keeps G s t f n r b ready m bytes e over et same rooms within =
     let more = opening_cost (function_at p f) + most_spent p n (entered s f) + row (function_at p t.frame.function) instruction.Return in
     let begin = Go r here b s.input s.trace in
     let P : Light → Type 0 = λ x. x ≡ at_entry G s r b ready m f in
-    let c : Comes G.machine Anything (1 + 1) (2 + more) begin (IsBack G r t to) =
-    comes_then G.machine Anything 2 more begin P (IsBack G r t to) (calls_to G s r b ready m f e)
+    let c : Comes G.machine Anything (1 + 1) (call_cost (calls_are_near G.program) + more) begin (IsBack G r t to) =
+    comes_then G.machine Anything (call_cost (calls_are_near G.program)) more begin P (IsBack G r t to) (calls_to G s r b ready m f e)
     (λ x ex. subst (λ y. Comes G.machine Anything 1 more y (IsBack G r t to)) (sym ex) (each_entry_keeps G s t f n r b ready m bytes e over et same rooms within)) in
     record { j = c.j; some = omega (arith, c.some); within = omega (arith, c.within); kept = c.kept; good = c.good }

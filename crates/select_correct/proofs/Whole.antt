@@ -4,7 +4,7 @@ use Rattle.std.specs.Prelude.{slice_get}
 use Rattle.memory_map.specs.MemoryMap.{stack_end}
 use Rattle.rv32.specs.declared.instr.ImmediateOp.TheVariants as immediate_op
 use Rattle.rv32.specs.Space.{word_at}
-use Rattle.asm.specs.Placed.{Stands}
+use Rattle.select_exec.specs.Standing.{Stands}
 use Rattle.csem_events.specs.Events.{Event}
 use Rattle.frames_code.specs.Code.{Program, frame_bytes}
 use Rattle.frames_code.specs.Run.{unset, Progress, running, ended, stuck, run, start, function_at}
@@ -14,7 +14,7 @@ use Rattle.select_exec.proofs.Steps.{comes_now, comes_by, comes_some, comes_then
 use Rattle.select_exec.proofs.ItemSteps.{on_loads, on_call}
 use Rattle.select_exec.proofs.Placing.{stands_parts}
 use Rattle.select.specs.Selected.{kept, exit}
-use Rattle.select.specs.Program.{functions_items}
+use Rattle.select.specs.Program.{functions_items, far_items, shorten_calls, are_near}
 use Rattle.select_correct.specs.Matches.{HasRoom, IsBelow, Ground, ArgumentsShow, Waits, Matches, address, argument_at, file_of}
 use Rattle.select_correct.specs.Costs.{least_spent, opening_cost, most_start, most_spent}
 use Rattle.select_correct.specs.Laws.{Anything, AreBytes}
@@ -124,7 +124,7 @@ ends p F env floor data_at base e r b input q bytes n status left trace over roo
     let here = Go r base b input [] in
     let ra = q.stands.2.0 in
     let ra_is : ra ≡ base + 16 = omega (arith, q.stands.1.next_is, q.stands.2.1.next_is) in
-    let parts = stands_parts F.text env data_at exit (functions_items 0 (length p.functions) p.functions) ra e q.stands.2.2 in
+    let parts = stands_parts F.text env data_at exit (shorten_calls (are_near (far_items p)) (functions_items 0 (length p.functions) p.functions)) ra e q.stands.2.2 in
     let tail : Stands F.text env data_at exit (base + 16) parts.0 = subst (λ x. Stands F.text env data_at exit x parts.0) ra_is parts.1 in
     let two = comes_to p F env floor data_at base e r b input q bytes n rooms in
     let all : Comes F Anything (1 + least_spent p n s + 0) (most_start p + most_spent p n s + 2) here P =

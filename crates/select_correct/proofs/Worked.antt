@@ -1,5 +1,5 @@
 -- Rows: the table of costs on worked examples. Items but a branch in its long form have no way round, so a run takes a quarter of their bytes.
-use Rattle.std.proofs.Common.{◌≡◌, ℕ, ◌+◌, ◌*◌, [], ◌∷◌, refl}
+use Rattle.std.proofs.Common.{◌≡◌, ℕ, ◌+◌, ◌*◌, true, false, [], ◌∷◌, refl}
 use Rattle.std.specs.Int.Count.{count_trailing_zeros}
 use Rattle.rv32.specs.declared.instr.RegisterOp.TheVariants as register_op
 use Rattle.rv32.specs.declared.instr.Test.TheVariants as test
@@ -13,6 +13,7 @@ use Rattle.frames_code.specs.declared.code.Conversion.TheVariants as conversion
 use Rattle.frames_code.specs.declared.code.Instruction.{Instruction}
 use Rattle.frames_code.specs.declared.code.Instruction.TheVariants as instruction
 use Rattle.frames_code.specs.Code.{Function, Program}
+use Rattle.select.specs.Program.{shorten_calls}
 use Rattle.select.specs.Selected.{entry, items_of}
 use Rattle.select_correct.specs.Costs.{opening_cost, row, step_cost, most_at, most_start}
 
@@ -95,13 +96,17 @@ load_by_a_register = refl
 store_in_the_frame : row near (instruction.Store width.Byte (operand.Constant 7) (location.Frame 3)) ≡ 2
 store_in_the_frame = refl
 
--- ---- calls: 4 and the residents, and returns: 3 and the residents
+-- ---- calls: 3 and the residents, and returns: 3 and the residents
 
-call_with_three : step_cost program plain (instruction.Call 1) ≡ 7
+call_with_three : step_cost program plain (instruction.Call 1) ≡ 6
 call_with_three = refl
 
-call_attained : items plain (instruction.Call 1) + longest (entry near) ≡ 4 * 7
+call_attained : longest (shorten_calls true (items_of plain 0 (instruction.Call 1))) + longest (entry near) ≡ 4 * 6
 call_attained = refl
+
+-- where a program is too long for near calls, one more
+far_call_attained : longest (shorten_calls false (items_of plain 0 (instruction.Call 1))) + longest (entry near) ≡ 4 * (6 + 1)
+far_call_attained = refl
 
 return_with_three : row near instruction.Return ≡ 6
 return_with_three = refl
@@ -109,7 +114,7 @@ return_with_three = refl
 return_attained : items near instruction.Return ≡ 4 * 6
 return_attained = refl
 
-call_with_none : step_cost program near (instruction.Call 0) ≡ 4
+call_with_none : step_cost program near (instruction.Call 0) ≡ 3
 call_with_none = refl
 
 return_with_none : row plain instruction.Return ≡ 3

@@ -1,5 +1,5 @@
 -- The number of machine instructions that a run of flat code takes, at least and at most.
-use Rattle.std.specs.Prelude.{◌≡◌, ℕ, zero, suc, ◌+◌, ◌-◌, ◌*◌, ◌%◌, ◌^◌, ◌==◌, ◌≤◌, nat_lt, if◌then◌else◌, Option, Some, None}
+use Rattle.std.specs.Prelude.{◌≡◌, ℕ, Bool, zero, suc, ◌+◌, ◌-◌, ◌*◌, ◌%◌, ◌^◌, ◌==◌, ◌≤◌, nat_lt, if◌then◌else◌, Option, Some, None}
 use Rattle.rv32.specs.declared.instr.Instr.{Instr}
 use Rattle.asm.specs.Layout.{longest}
 use Rattle.frames_code.specs.declared.code.Location.{Location}
@@ -18,6 +18,7 @@ use Rattle.select.specs.declared.places.Source.{Source}
 use Rattle.select.specs.declared.places.Source.TheVariants as source
 use Rattle.select.specs.declared.places.Home.{Home}
 use Rattle.select.specs.declared.places.Home.TheVariants as home
+use Rattle.select.specs.Program.{calls_are_near}
 use Rattle.select.specs.Selected.{source_of, home_of, register_of, made_in, machine_of, constant_form, log2_of, byte_home, return_home, calls, entry, items_of, shortened}
 
 -- ---- at least
@@ -180,9 +181,13 @@ item_count f x = row f x
 abbrev pub RowsAreLengths : Type 0
 RowsAreLengths = (f : Function) (first : ℕ) → (longest (entry f) ≡ 4 * opening_cost f) × ((x : Instruction) → longest (items_of f first x) ≡ 4 * item_count f x)
 
+-- JAL where all of the program is near, else AUIPC and JALR
+abbrev pub call_cost : (near : Bool) → ℕ
+call_cost near = if near then 1 else 2
+
 -- with the entry of a function that is called
 abbrev pub step_cost : Program → Function → Instruction → ℕ
-step_cost p f (instruction.Call g) = row f (instruction.Call g) + opening_cost (function_at p g)
+step_cost p f (instruction.Call g) = call_cost (calls_are_near p) + opening_cost (function_at p g)
 step_cost p f x = row f x
 
 -- instruction number k of function f: none where it only goes on to the next one that needs code

@@ -1,12 +1,14 @@
 -- The relation of the machine's state to that of flat code.
 use Rattle.std.specs.Prelude.{◌≡◌, ◌≤◌, ◌<◌, ℕ, zero, suc, ◌+◌, ◌*◌, ◌-◌, ◌%◌, ◌^◌, nat_lt, true, if◌then◌else◌, List, [], ◌∷◌, length, take, slice_get, Some}
 use Rattle.rv32.specs.Space.{word_at}
-use Rattle.asm.specs.Placed.{Stands}
+use Rattle.select_exec.specs.Standing.{CallAt, Stands}
 use Rattle.frames_code.specs.declared.code.Instruction.{Instruction}
+use Rattle.frames_code.specs.declared.code.Instruction.TheVariants as instruction
 use Rattle.frames_code.specs.Code.{Function, Program, cell_home, area_home, frame_bytes}
 use Rattle.frames_code.specs.Sound.{IsSoundProgram, places_of}
 use Rattle.frames_code.specs.Run.{Value, word, reference, Values, Bytes, Frame, State, Progress, running, ended, stuck, function_at, bytes_of}
 use Rattle.select_exec.specs.Light.{Fixed, Light, Go, Done, Fell}
+use Rattle.select.specs.Program.{calls_are_near}
 use Rattle.select.specs.Selected.{kept, calls, items_of, entry, return_home, shortened}
 
 -- A program whose items are placed, the lowest address of the stack that may be used, and the state at the entry of its outermost call: the stack pointer, the
@@ -140,6 +142,8 @@ pub record Ready (G : Ground) : Type 0 where
   pub aligned : (f k : ℕ) (x : Instruction) → slice_get (function_at G.program f).code k ≡ Some x → (address G f k % 4 ≡ 0) × (address G f k < 2 ^ 31)
   pub stands : (f k : ℕ) (x : Instruction) → slice_get (function_at G.program f).code k ≡ Some x
       → Stands G.machine.text G.env G.data_at (items_of (function_at G.program f) (first_of G.program f) (shortened (function_at G.program f).code k x)) (address G f k) (address G f (k + 1))
+  pub calls : (f k g : ℕ) → slice_get (function_at G.program f).code k ≡ Some (instruction.Call g)
+      → CallAt (calls_are_near G.program) G.machine.text (address G f k) (G.env g) (address G f (k + 1))
   pub entries : (f : ℕ) → f < length G.program.functions → Stands G.machine.text G.env G.data_at (entry (function_at G.program f)) (G.env f) (address G f 0)
   pub entry_aligned : (f : ℕ) → f < length G.program.functions → G.env f % 4 ≡ 0
   pub stack_read : (a : ℕ) → G.floor ≤ a → a < 2 ^ 31 → G.machine.can_read a ≡ true

@@ -47,8 +47,14 @@ module _ (F : Fixed) (I : Light → Type 0) (Q : Light → Type 0) (n : ℕ) (r 
       on_auipc F I Q (suc n) r pc b i h p 1 q.high q.first
       (on_jump_register F I Q n (with_reg r 1 (sum32 pc q.high)) (pc + 4) b i h mid 1 1 q.low to q.second q.target al there)
 
+  -- JAL with x1
+  pub on_near_call : {a0 : ℕ} → (to next : ℕ) → to % 4 ≡ 0 → Jumps F.text 1 pc to next → Comes F I a0 n (Go (with_reg r 1 next) to b i h) Q → Comes F I 1 (suc n) (Go r pc b i h) Q
+  on_near_call {a0} to next al q c =
+      let there : Comes F I a0 n (Go (with_reg r 1 (pc + 4)) to b i h) Q = subst (λ x. Comes F I a0 n (Go (with_reg r 1 x) to b i h) Q) q.next_is c in
+      on_jump F I Q n r pc b i h p 1 q.v to q.at q.target al there
+
   -- JAL with x0
-  pub on_jump_to : {a0 : ℕ} → (to next : ℕ) → to % 4 ≡ 0 → Jumps F.text pc to next → Comes F I a0 n (Go r to b i h) Q → Comes F I 1 (suc n) (Go r pc b i h) Q
+  pub on_jump_to : {a0 : ℕ} → (to next : ℕ) → to % 4 ≡ 0 → Jumps F.text 0 pc to next → Comes F I a0 n (Go r to b i h) Q → Comes F I 1 (suc n) (Go r pc b i h) Q
   on_jump_to to next al q c = on_jump F I Q n r pc b i h p 0 q.v to q.at q.target al c
 
   -- a branch as itself

@@ -3,6 +3,7 @@ pub mod Bridge
 pub mod Fields
 pub mod Worlds
 pub mod Placing
+pub mod Standing
 pub mod ItemSteps
 pub mod Keeping
 pub mod Words

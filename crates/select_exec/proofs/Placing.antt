@@ -3,8 +3,8 @@ use Rattle.std.proofs.Common.{◌≡◌, ◌⊎◌, inl, inr, ℕ, ◌+◌, ◌%
 use Rattle.rv32.specs.declared.instr.Instr.{Instr}
 use Rattle.rv32.specs.declared.instr.Test.{Test}
 use Rattle.asm.specs.declared.item.Item.{Item}
-use Rattle.asm.specs.declared.item.Item.TheVariants.{Mark, Plain, Branch, Jump, Call, Constant, LabelAddress, DataAddress}
-use Rattle.asm.specs.Placed.{Short, Long, Loads, ItemAt, Stands}
+use Rattle.asm.specs.declared.item.Item.TheVariants.{Mark, Plain, Branch, Jump, Call, NearCall, Constant, LabelAddress, DataAddress}
+use Rattle.asm.specs.Placed.{Short, Long, Loads, Jumps, ItemAt, Stands}
 use Rattle.asm.proofs.Standing.{in_parts}
 use Rattle.select_exec.specs.Laws.{AgreeOn}
 
@@ -18,12 +18,13 @@ module _ (T : ℕ → Option Instr) (env : ℕ → ℕ) (seg : ℕ) where
   after_branch t l r a to next al (inl q) = record { on = omega (arith, q.next_is); aligned = omega (arith, q.next_is) }
   after_branch t l r a to next al (inr q) = record { on = omega (arith, q.next_is); aligned = omega (arith, q.next_is) }
 
-  after_item : (x : Item) (a next : ℕ) → a % 4 ≡ 0 → ItemAt T env seg x a next → Onward a next
+  pub after_item : (x : Item) (a next : ℕ) → a % 4 ≡ 0 → ItemAt T env seg x a next → Onward a next
   after_item (Mark l) a next al q = record { on = omega (arith, q.1); aligned = omega (arith, q.1) }
   after_item (Plain i) a next al q = record { on = omega (arith, q.1); aligned = omega (arith, q.1) }
   after_item (Branch t l r to) a next al q = after_branch t l r a (env to) next al q
   after_item (Jump to) a next al q = record { on = omega (arith, q.next_is); aligned = omega (arith, q.next_is) }
   after_item (Call to) a next al q = record { on = omega (arith, q.next_is); aligned = omega (arith, q.next_is) }
+  after_item (NearCall to) a next al q = record { on = omega (arith, q.next_is); aligned = omega (arith, q.next_is) }
   after_item (Constant rd v) a next al q = record { on = omega (arith, q.next_is); aligned = omega (arith, q.next_is) }
   after_item (LabelAddress rd l) a next al q = record { on = omega (arith, q.next_is); aligned = omega (arith, q.next_is) }
   after_item (DataAddress rd o) a next al q = record { on = omega (arith, q.next_is); aligned = omega (arith, q.next_is) }
@@ -65,11 +66,15 @@ module _ (T : ℕ → Option Instr) (env : ℕ → ℕ) (seg : ℕ) where
       next_is = q.next_is;
     })
 
+    jump_in : (link a to next : ℕ) → a % 4 ≡ 0 → AgreeOn T U a next → Jumps T link a to next → Jumps U link a to next
+    jump_in link a to next al g q = record { v = q.v; at = sym (g a (omega arith) (omega (arith, q.next_is)) al) ∙ q.at; target = q.target; next_is = q.next_is }
+
     item_in : (x : Item) (a next : ℕ) → a % 4 ≡ 0 → AgreeOn T U a next → ItemAt T env seg x a next → ItemAt U env seg x a next
     item_in (Mark l) a next al g q = q
     item_in (Plain i) a next al g q = (sym (g a (omega arith) (omega (arith, q.1)) al) ∙ q.0, q.1)
     item_in (Branch t l r to) a next al g q = branch_in t l r a (env to) next al g q
-    item_in (Jump to) a next al g q = record { v = q.v; at = sym (g a (omega arith) (omega (arith, q.next_is)) al) ∙ q.at; target = q.target; next_is = q.next_is }
+    item_in (Jump to) a next al g q = jump_in 0 a (env to) next al g q
+    item_in (NearCall to) a next al g q = jump_in 1 a (env to) next al g q
     item_in (Call to) a next al g q = record {
       high = q.high;
       low = q.low;

@@ -1,4 +1,5 @@
 pub mod Light
+pub mod Standing
 pub mod Whole
 pub mod Laws
 pub mod Worlds

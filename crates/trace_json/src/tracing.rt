@@ -103,11 +103,12 @@ fn run_told(
         &mut trace,
     );
     let (written, lines) = trace.into_writer();
-    if written.is_whole {
-        Ok(ended(status, message, lines))
-    } else {
-        Err(AllocError)
+    // A vector refuses bytes only where memory runs out.
+    let wants_memory = !written.is_whole;
+    if wants_memory {
+        return Err(AllocError);
     }
+    Ok(ended(status, message, lines))
 }
 
 /// The result of a run that ended with this status and message. The port fails to read only where the input is open and used up.

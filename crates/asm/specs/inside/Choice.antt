@@ -1,7 +1,7 @@
 -- The table from labels to items, and how the long branches are chosen over it.
 use Rattle.std.specs.Prelude.{◌≡◌, ◌≤◌, ◌<◌, ℕ, ◌+◌, ◌^◌, Bool, false, if◌then◌else◌, List, slice_index_or, slice_index, slice_set, length, sum_by}
 use Rattle.asm.specs.declared.item.Item.{Item}
-use Rattle.asm.specs.declared.item.Item.TheVariants.{Mark, Plain, Branch, Jump, Call, Constant, LabelAddress, DataAddress}
+use Rattle.asm.specs.declared.item.Item.TheVariants.{Mark, Plain, Branch, Jump, Call, NearCall, Constant, LabelAddress, DataAddress}
 use Rattle.asm.specs.Layout.{item_at, place, all_short, Fits, Within, IsBelowAll, Refers}
 
 abbrev pub IsMark : Item → ℕ → Type 0
@@ -10,6 +10,7 @@ IsMark (Plain i) l = ⊥
 IsMark (Branch t a b to) l = ⊥
 IsMark (Jump to) l = ⊥
 IsMark (Call to) l = ⊥
+IsMark (NearCall to) l = ⊥
 IsMark (Constant rd v) l = ⊥
 IsMark (LabelAddress rd k) l = ⊥
 IsMark (DataAddress rd o) l = ⊥
@@ -29,6 +30,7 @@ IsNoted was now end k (Plain i) = now ≡ was
 IsNoted was now end k (Branch t l r to) = (to < length was) × (now ≡ was)
 IsNoted was now end k (Jump to) = (to < length was) × (now ≡ was)
 IsNoted was now end k (Call to) = (to < length was) × (now ≡ was)
+IsNoted was now end k (NearCall to) = (to < length was) × (now ≡ was)
 IsNoted was now end k (Constant rd v) = (v < 2 ^ 32) × (now ≡ was)
 IsNoted was now end k (LabelAddress rd l) = (l < length was) × (now ≡ was)
 IsNoted was now end k (DataAddress rd o) = (o < 0x10000000) × (now ≡ was)
@@ -40,6 +42,7 @@ IsUnfit homes end (Plain i) = ⊥
 IsUnfit homes end (Branch t l r to) = to < length homes → ⊥
 IsUnfit homes end (Jump to) = to < length homes → ⊥
 IsUnfit homes end (Call to) = to < length homes → ⊥
+IsUnfit homes end (NearCall to) = to < length homes → ⊥
 IsUnfit homes end (Constant rd v) = ⊥
 IsUnfit homes end (LabelAddress rd l) = l < length homes → ⊥
 IsUnfit homes end (DataAddress rd o) = o < 0x10000000 → ⊥
@@ -83,6 +86,7 @@ IsClose homes k (Mark l) = Unit {0}
 IsClose homes k (Plain i) = Unit {0}
 IsClose homes k (Jump to) = Unit {0}
 IsClose homes k (Call to) = Unit {0}
+IsClose homes k (NearCall to) = Unit {0}
 IsClose homes k (Constant rd v) = Unit {0}
 IsClose homes k (LabelAddress rd l) = Unit {0}
 IsClose homes k (DataAddress rd o) = Unit {0}

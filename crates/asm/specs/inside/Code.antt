@@ -5,7 +5,7 @@ use Rattle.rv32.specs.declared.instr.Instr.TheVariants as instr
 use Rattle.rv32.specs.declared.instr.Test.{Test}
 use Rattle.rv32.specs.declared.instr.ImmediateOp.TheVariants as immediate_op
 use Rattle.asm.specs.declared.item.Item.{Item}
-use Rattle.asm.specs.declared.item.Item.TheVariants.{Mark, Plain, Branch, Jump, Call, Constant, LabelAddress, DataAddress}
+use Rattle.asm.specs.declared.item.Item.TheVariants.{Mark, Plain, Branch, Jump, Call, NearCall, Constant, LabelAddress, DataAddress}
 use Rattle.rv32.specs.Words.{decode_of, word_of}
 use Rattle.asm.specs.Layout.{item_at, place, Near, Reach}
 use Rattle.asm.specs.inside.Choice.{longs, IsChosen}
@@ -29,8 +29,8 @@ abbrev pub branch_code : Bool → Test → ℕ → ℕ → ℕ → ℕ → List 
 branch_code false t l r a to = instr.Branch t l r (offset_from a to) ∷ []
 branch_code true t l r a to = instr.Branch (opposite t) l r 8 ∷ instr.Jal 0 (offset_from (a + 4) to) ∷ []
 
-abbrev pub jump_code : ℕ → ℕ → List Instr
-jump_code a to = instr.Jal 0 (offset_from a to) ∷ []
+abbrev pub jump_code : (link a to : ℕ) → List Instr
+jump_code link a to = instr.Jal link (offset_from a to) ∷ []
 
 abbrev pub call_code : ℕ → ℕ → List Instr
 call_code a to = instr.Auipc 1 (upper (offset_from a to)) ∷ instr.Jalr 1 1 (lower (offset_from a to)) ∷ []
@@ -39,8 +39,9 @@ abbrev pub item_code : (ℕ → ℕ) → ℕ → Bool → ℕ → Item → List 
 item_code env seg long a (Mark l) = []
 item_code env seg long a (Plain i) = i ∷ []
 item_code env seg long a (Branch t l r to) = branch_code long t l r a (env to)
-item_code env seg long a (Jump to) = jump_code a (env to)
+item_code env seg long a (Jump to) = jump_code 0 a (env to)
 item_code env seg long a (Call to) = call_code a (env to)
+item_code env seg long a (NearCall to) = jump_code 1 a (env to)
 item_code env seg long a (Constant rd v) = load_code rd v
 item_code env seg long a (LabelAddress rd l) = load_code rd (env l)
 item_code env seg long a (DataAddress rd o) = load_code rd (seg + o)
@@ -61,6 +62,7 @@ NearIfShort long a env (Mark l) = Unit {0}
 NearIfShort long a env (Plain i) = Unit {0}
 NearIfShort long a env (Jump to) = Unit {0}
 NearIfShort long a env (Call to) = Unit {0}
+NearIfShort long a env (NearCall to) = Unit {0}
 NearIfShort long a env (Constant rd v) = Unit {0}
 NearIfShort long a env (LabelAddress rd l) = Unit {0}
 NearIfShort long a env (DataAddress rd o) = Unit {0}
@@ -72,6 +74,7 @@ Misses long a env (Jump to) = Reach a (env to) → ⊥
 Misses long a env (Mark l) = ⊥
 Misses long a env (Plain i) = ⊥
 Misses long a env (Call to) = ⊥
+Misses long a env (NearCall to) = Reach a (env to) → ⊥
 Misses long a env (Constant rd v) = ⊥
 Misses long a env (LabelAddress rd l) = ⊥
 Misses long a env (DataAddress rd o) = ⊥

@@ -2,7 +2,7 @@
 use Rattle.std.specs.Prelude.{ℕ, List}
 use Rattle.std.proofs.Props.{props}
 use Rattle.asm.specs.declared.item.Item.{Item}
-use Rattle.asm.specs.declared.item.Item.TheVariants.{Mark, Plain, Branch, Jump, Call, Constant, LabelAddress, DataAddress}
+use Rattle.asm.specs.declared.item.Item.TheVariants.{Mark, Plain, Branch, Jump, Call, NearCall, Constant, LabelAddress, DataAddress}
 use Rattle.asm.specs.Layout.{Refers}
 use Rattle.asm.specs.inside.Choice.{IsMark, IsTable}
 
@@ -10,6 +10,7 @@ Refers-prop : (n : ℕ) (x : Item) → IsProp (Refers n x)
 Refers-prop n (Branch t l r to) = hlevel props
 Refers-prop n (Jump to) = hlevel props
 Refers-prop n (Call to) = hlevel props
+Refers-prop n (NearCall to) = hlevel props
 Refers-prop n (LabelAddress rd l) = hlevel props
 Refers-prop n (Mark l) = hlevel props
 Refers-prop n (Plain i) = hlevel props
@@ -21,6 +22,7 @@ IsMark-prop (Mark k) l = hlevel props
 IsMark-prop (Branch t a b to) l = hlevel props
 IsMark-prop (Jump to) l = hlevel props
 IsMark-prop (Call to) l = hlevel props
+IsMark-prop (NearCall to) l = hlevel props
 IsMark-prop (LabelAddress rd k) l = hlevel props
 IsMark-prop (Plain i) l = hlevel props
 IsMark-prop (Constant rd v) l = hlevel props

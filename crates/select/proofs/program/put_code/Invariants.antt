@@ -1,4 +1,4 @@
-use Rattle.std.proofs.Common.{◌≡◌, ◌+◌, ◌++◌, ℕ, drop}
+use Rattle.std.proofs.Common.{◌≡◌, ◌++◌, drop}
 use Rattle.frames_code.specs.Code.{function_of}
 use Rattle.select.specs.Program.{code_items}
 use Rattle.select.proofs.program.put_code.Given as goal

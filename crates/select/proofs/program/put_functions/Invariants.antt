@@ -1,4 +1,4 @@
-use Rattle.std.proofs.Common.{◌≡◌, ◌+◌, ◌++◌, ℕ, drop, length, map}
+use Rattle.std.proofs.Common.{◌≡◌, ◌+◌, ◌++◌, drop, length, map}
 use Rattle.frames_code.specs.Code.{function_of}
 use Rattle.frames_code.specs.Sound.{places_of}
 use Rattle.select.specs.Program.{functions_items}
