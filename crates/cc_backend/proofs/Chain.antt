@@ -162,7 +162,7 @@ module _ (weight : ℕ → ℕ) (f : flat.Program) (parts : Parts) (input : List
   system = of_image (frames f) (program_image parts) input
 
   goes_from : (n : ℕ) (x : Doing) → (of_flat f input).Goes n x → AreWithin weight parts.stack (of_flat f input) n
-      → (k : ℕ) × (n < slack f * k) × (k ≤ (of_flat f input).cost n + 4) × system.Goes k x
+      → (k : ℕ) × (n < slack f * k) × (k ≤ (of_flat f input).cost n + 6) × system.Goes k x
   goes_from n x goes fit =
       let s = goes.0 in
       let w = image_goes_on f parts input image bytes n s goes.1

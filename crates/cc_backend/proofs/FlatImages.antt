@@ -223,7 +223,7 @@ calls_keep_convention p parts input q bytes n f s c rooms =
 pub main_keeps_convention : ImageMainKeepsConvention
 main_keeps_convention p parts input q bytes fits =
     let G = ground_at p (F p parts q) q.assembled.env (floor p parts q) (data_at p parts q) text_start (λ k. 0) (space p parts q).byte in
-    serves_more p q.assembled.env (data_at p parts q) (λ k. rvrun k (start_world (program_image parts) input)) (q.assembled.env p.main) (text_start + 16) (start p input) (HasRoomFor G (start p input)) (FitsFor parts.stack p (start p input))
+    serves_more p q.assembled.env (data_at p parts q) (λ k. rvrun k (start_world (program_image parts) input)) (q.assembled.env p.main) (text_start + 24) (start p input) (HasRoomFor G (start p input)) (FitsFor parts.stack p (start p input))
     (λ m each j le. room p parts q (run p j (start p input)) (each j le))
     (convention.main_keeps (permits p parts q) (low p parts q) (apart p parts q) p q.assembled.env (floor p parts q) (data_at p parts q) text_start (past_text p parts q) (λ k. 0) (space p parts q).byte (replicate 32 0) input (laid p parts q) (zero_registers p parts q) bytes
     (room p parts q (running (start p input)) fits))

@@ -68,7 +68,7 @@ functions_short k first (f ∷ fs) =
 past : (n a k : ℕ) → n ≤ a * k → 1 ≤ k → n < suc a * k
 past n a k le some = let whole : suc a * k ≡ a * k + k = suc-mul a k in omega (arith, le, some, whole)
 
-start_short : (main : ℕ) → longest (start_items main) ≡ 24
+start_short : (main : ℕ) → longest (start_items main) ≡ 32
 start_short main = refl
 
 pub code_of : (p : typed.Program) (q : tac.Program) (g f : flat.Program) → IsLowered p q → IsSimplified (flat_program q) g → IsRenumbered g f → IsFlatCodeOf p f

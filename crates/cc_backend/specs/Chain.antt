@@ -111,9 +111,9 @@ RenumberedSimulatesFlat =
     (weight : ℕ → ℕ) (limit : ℕ) (f g : flat.Program) (input : List ℕ) → IsRenumbered f g
     → Simulates step_for_step weight limit (of_flat f input) (of_flat g input)
 
--- 4 instructions before main, and 2 after it; no more steps in a row are without items than the program has places
+-- 6 instructions before main, and 2 after it; no more steps in a row are without items than the program has places
 abbrev pub into_file : flat.Program → Terms
-into_file f = record { more = 4; more_at_end = 6; slack = slack f; least = 1 }
+into_file f = record { more = 6; more_at_end = 8; slack = slack f; least = 1 }
 
 -- where each frame is within the weight of its function, and the calls within the image's stack
 abbrev pub ImageSimulatesFlat : Type 0

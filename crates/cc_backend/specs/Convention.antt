@@ -35,7 +35,7 @@ ImageMainKeepsConvention =
     (p : Program) (parts : Parts) (input : List ℕ) → (q : IsImageOf p parts) → AreBytes input
     → FitStack parts.stack p (running (start p input))
     → KeepsConvention p q.assembled.env (data_start (length parts.text)) (λ k. rvrun k (start_world (program_image parts) input))
-    (q.assembled.env p.main) (text_start + 16) (start p input) (FitsFor parts.stack p (start p input))
+    (q.assembled.env p.main) (text_start + 24) (start p input) (FitsFor parts.stack p (start p input))
 
 -- The frames of the calls that are active in a run of a program's flat code are never more than the greatest sum of weights that the abstract machine reports:
 -- not in its first n steps, where that has used n ticks, and not at all, where that has ended.

@@ -10,10 +10,15 @@ use asm::{Item, item_addresses};
 use elf_out::StackSize;
 use frames::Starts;
 use memory_map::{MAX_IMAGE, TEXT_START, data_start};
+use rv32::Instr;
+use select::GP_OFFSET;
 use srcset::Pos;
 use std::alloc::{AllocError, Global};
 use tac::{CodeScope, CodeStart, code_scopes, code_starts};
 use typed_ast::{Function, Program, Static};
+
+/// x3, the global pointer (RISC-V ELF psABI, "Integer Register Convention").
+const GP: u8 = 3;
 
 /// The address at which the code of the item at a place begins.
 #[derive(Clone, Copy, Debug)]
@@ -59,12 +64,12 @@ pub struct DataObject {
     pub size: u32,
 }
 
-/// An instruction that calls a function, or that loads an address in the data.
+/// An instruction that calls a function, or that reaches the data.
 #[derive(Clone, Copy, Debug)]
 pub enum Reference {
     /// A call, and the number of the function.
     Call(u32, usize),
-    /// A load of an address, and that address.
+    /// An access to the data, or the instruction that ends the load of an address there, and that address.
     Data(u32, u32),
 }
 
@@ -142,11 +147,36 @@ fn put_item(found: &mut Found, item: Item, at: u32) -> Result<(), AllocError> {
             found.references.push(Reference::Call(at, to.number()))?;
             Ok(())
         }
-        Item::DataAddress { offset, .. } => {
-            found.references.push(Reference::Data(at, offset))?;
+        Item::DataAddress { rd, offset } => {
+            if rd.get() == GP {
+                return Ok(());
+            }
+            let second = at.wrapping_add(4);
+            found.references.push(Reference::Data(second, offset))?;
+            Ok(())
+        }
+        Item::Plain(instr) => {
+            if let Some(offset) = reached_from_gp(instr) {
+                found.references.push(Reference::Data(at, offset))?;
+            }
             Ok(())
         }
         _ => Ok(()),
+    }
+}
+
+/// The offset in the data of what an instruction reaches from gp, or its address. Only accesses to statics and sums name gp.
+fn reached_from_gp(instr: Instr) -> Option<u32> {
+    let (base, distance) = match instr {
+        Instr::Load { base, offset, .. } => (base, offset),
+        Instr::Store { base, offset, .. } => (base, offset),
+        Instr::Immediate { left, right, .. } => (left, right),
+        _ => return None,
+    };
+    if base.get() == GP {
+        Some(distance.get().wrapping_add(GP_OFFSET))
+    } else {
+        None
     }
 }
 

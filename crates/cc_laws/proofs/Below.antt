@@ -29,7 +29,7 @@ use Rattle.select_exec.proofs.Keeping.{runs_keep}
 use Rattle.select_exec.proofs.Placing.{stands_parts}
 use Rattle.select_exec.proofs.Steps.{run_plus}
 use Rattle.select.specs.Program.{shorten_calls, calls_are_near}
-use Rattle.select.specs.Selected.{shortened, exit, return_home}
+use Rattle.select.specs.Selected.{gp_offset, shortened, exit, return_home}
 use Rattle.select.specs.Program.{functions_items}
 use Rattle.select_correct.specs.Laws.{AreBytes}
 use Rattle.select_correct.specs.Matches.{Ground, Ready, FrameHolds, Waits, Matched, Matches, HasRoom, address, first_of, file_of, file_below, return_at}
@@ -315,6 +315,7 @@ module _ (p : Program) (parts : Parts) (q : IsImageOf p parts) (input : List ℕ
             sp = m.sp;
             at_is = m.at_is;
             sp_is = m.sp_is;
+            gp_is = m.gp_is;
             low = omega (arith, m.low, hi);
             bytes = m.bytes;
             frame = frame_back f s.frame.cells s.frame.area c m.sp (file_of r2) m.frame;
@@ -506,9 +507,9 @@ module _ (p : Program) (parts : Parts) (q : IsImageOf p parts) (input : List ℕ
             let F = F2 low hi lt in
             let l = following.laid p parts q low a.b hi lt own_text in
             let st = l.stands in
-            let ra = st.2.0 in
-            let ra_is : ra ≡ text_start + 16 = omega (arith, st.1.next_is, st.2.1.next_is) in
-            let tail = stands_parts F.text q.assembled.env (whole.data_at p parts q) exit (shorten_calls (calls_are_near p) (functions_items 0 (length p.functions) p.functions)) ra (whole.past_text p parts q) st.2.2 in
+            let ra = st.2.2.0 in
+            let ra_is : ra ≡ text_start + 24 = omega (arith, st.1.next_is, st.2.1.next_is, st.2.2.1.next_is) in
+            let tail = stands_parts F.text q.assembled.env (whole.data_at p parts q) exit (shorten_calls (calls_are_near p) (functions_items 0 (length p.functions) p.functions)) ra (whole.past_text p parts q) st.2.2.2 in
             let there : ra ≡ at2 = ra_is ∙ sym q2.0.at_is in
             let ending : Stands F.text q.assembled.env (whole.data_at p parts q) exit at2 tail.0 = subst (λ x. Stands F.text q.assembled.env (whole.data_at p parts q) exit x tail.0) there tail.1 in
             let done = exits_done F q.assembled.env (whole.data_at p parts q) tail.0 r2 at2 b2 i2 h2 ending in
@@ -552,8 +553,8 @@ module _ (p : Program) (parts : Parts) (q : IsImageOf p parts) (input : List ℕ
       let c = begins p F q.assembled.env low (whole.data_at p parts q) text_start (whole.past_text p parts q) r b input l room in
       let goes = goes_at 0 list r text_start b input [] refl shows small low hi lt (start p input) (light 0 list r text_start b input [] refl shows small low hi lt c.j) c.good in
       let main = q.sound.has_main in
-      let fine = starts_fine F q.assembled.env (whole.data_at p parts q) r text_start b input [] (function_at p p.main) stack_end l.stands.0 (q.assembled.env p.main) l.stands.2.0 low c.j (address G p.main 0)
-      l.stands.1 l.stands.2.1 (ready.entry_aligned p.main main) (ready.entries p.main main) c.within goes in
+      let fine = starts_fine F q.assembled.env (whole.data_at p parts q) r text_start b input [] (function_at p p.main) stack_end l.stands.0 (whole.data_at p parts q + gp_offset) l.stands.2.0 (q.assembled.env p.main) l.stands.2.2.0 low c.j (address G p.main 0)
+      l.stands.1 l.stands.2.1 l.stands.2.2.1 (ready.entry_aligned p.main main) (ready.entries p.main main) c.within goes in
       let not_fell = goes_on_so 0 list r text_start b input [] refl shows small low hi lt (start p input) (light 0 list r text_start b input [] refl shows small low hi lt c.j) c.good in
       record {
         k = 0 + c.j;

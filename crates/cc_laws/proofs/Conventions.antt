@@ -56,7 +56,7 @@ module _ (stack : ℕ) (p : Program) (file frames : List ℕ) (made : IsFileOf s
 
   main : MainIsKept made (program_image made.parts) input
   main =
-      serves_more code (labels made) (data_of made) (λ k. run_of (program_image made.parts) input k) (labels made code.main) (text_start + 16) (flat.start code input) (FitsFor made.parts.stack code (flat.start code input)) Always
+      serves_more code (labels made) (data_of made) (λ k. run_of (program_image made.parts) input k) (labels made code.main) (text_start + 24) (flat.start code input) (FitsFor made.parts.stack code (flat.start code input)) Always
       (λ m all j le. fits j) (main_keeps_convention code made.parts input made.image_is bytes (fits 0))
 
   pub convention : CallsAreKept made (program_image made.parts) input × MainIsKept made (program_image made.parts) input

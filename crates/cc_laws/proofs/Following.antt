@@ -144,6 +144,7 @@ module _ (p : Program) (parts : Parts) (q : IsImageOf p parts) where
           sp = m.sp;
           at_is = m.at_is;
           sp_is = m.sp_is;
+          gp_is = m.gp_is;
           low = le;
           bytes = m.bytes;
           frame = frame_same f s.frame.cells s.frame.area c m.sp (file_of r) m.frame;

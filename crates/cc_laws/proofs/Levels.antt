@@ -350,21 +350,35 @@ module _ (F : Fixed) (env : ℕ → ℕ) (seg : ℕ) where
     abbrev begins_at : ℕ → Light
     begins_at k = light_run F k (Go r a b i h)
 
-    -- the stack pointer is set, and main is called
-    pub starts_fine : (f : Function) (v behind to next low j e : ℕ) → Loads F.text a 2 v behind → Calls F.text behind to next → to % 4 ≡ 0 → Stands F.text env seg (entry f) to e → j ≤ 4 + opening_cost f → GoesAt low (begins_at j) → (k : ℕ) → k < j → IsFine F low (begins_at k)
-    starts_fine f v behind to next low j e l q al st lj g zero lk = inr (instr.Lui 2 l.high, l.first, tt)
-    starts_fine f v behind to next low j e l q al st lj g (suc zero) lk =
-        subst (IsFine F low) (sym (at_text F r a b i h (instr.Lui 2 l.high) l.first)) (inr (instr.Immediate immediate_op.Add 2 2 l.low, l.second, tt))
-    starts_fine f v behind to next low zero e l q al st lj g (suc (suc k)) lk = absurd (omega (arith, lk))
-    starts_fine f v behind to next low (suc zero) e l q al st lj g (suc (suc k)) lk = absurd (omega (arith, lk))
-    starts_fine f v behind to next low (suc (suc j)) e l q al st lj g (suc (suc k)) lk =
-        let r1 = with_reg r 2 l.high in
-        let r2 = with_reg r1 2 (operate_immediate_of immediate_op.Add (reg r1 2) l.low) in
+    abbrev loaded : (rd v behind : ℕ) → Loads F.text a rd v behind → ℕ → ℕ
+    loaded rd v behind l = let r1 = with_reg r rd l.high in with_reg r1 rd (operate_immediate_of immediate_op.Add (reg r1 rd) l.low)
+
+    -- a register is loaded with a constant, and what follows is fine
+    loads_fine : (rd v behind low j : ℕ) (l : Loads F.text a rd v behind) → GoesAt low (begins_at j)
+        → ((n : ℕ) → suc (suc n) ≡ j → GoesAt low (light_run F n (Go (loaded rd v behind l) behind b i h)) → (m : ℕ) → m < n → IsFine F low (light_run F m (Go (loaded rd v behind l) behind b i h)))
+        → (k : ℕ) → k < j → IsFine F low (begins_at k)
+    loads_fine rd v behind low j l g rest zero lk = inr (instr.Lui rd l.high, l.first, tt)
+    loads_fine rd v behind low j l g rest (suc zero) lk =
+        subst (IsFine F low) (sym (at_text F r a b i h (instr.Lui rd l.high) l.first)) (inr (instr.Immediate immediate_op.Add rd rd l.low, l.second, tt))
+    loads_fine rd v behind low zero l g rest (suc (suc k)) lk = absurd (omega (arith, lk))
+    loads_fine rd v behind low (suc zero) l g rest (suc (suc k)) lk = absurd (omega (arith, lk))
+    loads_fine rd v behind low (suc (suc j)) l g rest (suc (suc k)) lk =
+        let r1 = with_reg r rd l.high in
+        let r2 = loaded rd v behind l in
         let there : a + 4 + 4 ≡ behind = omega (arith, l.next_is) in
         let two : light_step F (light_step F (Go r a b i h)) ≡ Go r2 behind b i h =
-        ap (light_step F) (at_text F r a b i h (instr.Lui 2 l.high) l.first) ∙ at_text F r1 (a + 4) b i h (instr.Immediate immediate_op.Add 2 2 l.low) l.second ∙ ap (λ x. Go r2 x b i h) there in
+        ap (light_step F) (at_text F r a b i h (instr.Lui rd l.high) l.first) ∙ at_text F r1 (a + 4) b i h (instr.Immediate immediate_op.Add rd rd l.low) l.second ∙ ap (λ x. Go r2 x b i h) there in
         let goes : GoesAt low (light_run F j (Go r2 behind b i h)) = subst (λ m. GoesAt low (light_run F j m)) two g in
-        subst (λ m. IsFine F low (light_run F k m)) (sym two) (calls_fine r2 behind b i h false f to next low j e q al st (omega (arith, lj)) goes k (omega (arith, lk)))
+        subst (λ m. IsFine F low (light_run F k m)) (sym two) (rest j refl goes k (omega (arith, lk)))
+
+  -- sp and gp are set, and main is called
+  pub starts_fine : (r : ℕ → ℕ) (a : ℕ) (b : ℕ → ℕ) (i : List ℕ) (h : List Event) (f : Function) (v behind gp past to next low j e : ℕ) → Loads F.text a 2 v behind → Loads F.text behind 3 gp past → Calls F.text past to next → to % 4 ≡ 0
+      → Stands F.text env seg (entry f) to e → j ≤ 6 + opening_cost f → GoesAt low (light_run F j (Go r a b i h)) → (k : ℕ) → k < j → IsFine F low (light_run F k (Go r a b i h))
+  starts_fine r a b i h f v behind gp past to next low j e one two q al st lj g k lk =
+      loads_fine r a b i h 2 v behind low j one g (λ n en gn m lm.
+      let r1 = loaded r a b i h 2 v behind one in
+      loads_fine r1 behind b i h 3 gp past low n two gn (λ n2 en2 gn2 m2 lm2.
+      calls_fine (loaded r1 behind b i h 3 gp past two) past b i h false f to next low n2 e q al st (omega (arith, en, en2, lj)) gn2 m2 lm2) m lm) k lk
 
   -- ---- the end: the status is in a0, and 93 in a7
 

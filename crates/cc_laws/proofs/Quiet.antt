@@ -27,7 +27,7 @@ use Rattle.select.specs.declared.places.Source.TheVariants as source
 use Rattle.select.specs.declared.places.Home.{Home}
 use Rattle.select.specs.declared.places.Home.TheVariants as home
 use Rattle.select.specs.Selected as selected
-use Rattle.select.specs.Selected.{source_of, home_of, fetch, into, keep, made_in, register_of, load_constant, far, load_word, store_word, address_of, move, ending, operate, form_or, combine, narrow, reach, reference, log2_of, shift_or_multiply, scale, change_sp, saves, restores, calls, keep_return, take_return, return_home, byte_home, set_to, kept}
+use Rattle.select.specs.Selected.{is_near_gp, source_of, home_of, fetch, into, keep, made_in, register_of, load_constant, far, load_word, store_word, address_of, move, ending, operate, form_or, combine, narrow, reach, reference, log2_of, shift_or_multiply, scale, change_sp, saves, restores, calls, keep_return, take_return, return_home, byte_home, set_to, kept}
 
 -- ---- words from an address on
 
@@ -304,12 +304,12 @@ narrow_quiet conversion.ToSignedHalf rd x f = (f, (f, tt))
 narrow_quiet conversion.ToTruth rd x f = (f, tt)
 
 pub reach_quiet : (f : Function) (l : Location) → AreQuiet (reach f l)
-reach_quiet f (location.Statics o) = ((λ h. six, λ l. six), tt)
+reach_quiet f (location.Statics o) = quiet_either (is_near_gp o) [] _ tt ((λ h. six, λ l. six), tt)
 reach_quiet f (location.Frame o) = far_quiet 6 (area_home f + o) six
 reach_quiet f (location.At x) = fetch_quiet 6 (source_of f x) six
 
 pub reference_quiet : (f : Function) (d : Home) (l : Location) → IsOff (made_in d) → AreQuiet (reference f d l)
-reference_quiet f d (location.Statics o) g = ((λ h. g, λ l. g), keep_quiet d)
+reference_quiet f d (location.Statics o) g = (quiet_one (is_near_gp o) _ _ g (λ h. g, λ l. g), keep_quiet d)
 reference_quiet f d (location.Frame o) g = quiet_both (address_of (made_in d) (area_home f + o)) _ (address_quiet (made_in d) (area_home f + o) g) (keep_quiet d)
 reference_quiet f d (location.At x) g = move_quiet d (source_of f x) g
 

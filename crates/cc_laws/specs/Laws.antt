@@ -151,7 +151,7 @@ CallsAreKept made image input =
 abbrev pub MainIsKept : {stack : ℕ} {p : Program} {file frames : List ℕ} → IsFileOf stack p file frames → Image → (input : List ℕ) → Type 0
 MainIsKept made image input =
     KeepsConvention made.code (labels made) (data_of made) (λ k. run_of image input k)
-    (labels made made.code.main) (text_start + 16) (flat.start made.code input) Always
+    (labels made made.code.main) (text_start + 24) (flat.start made.code input) Always
 
 -- this holds of each file made of a program, on every input on which the program stays defined
 abbrev pub FilesKeepConvention : Type 0

@@ -100,7 +100,8 @@ pub fn reads_as_it_goes()
     ensures { ReadsAsItGoes }
 {}
 
-/// A file made of a program never writes gp and tp (RISC-V ELF psABI, "Integer Register Convention"): they stay 0, whatever the program does.
+/// Whatever a program does, its file never writes tp, which stays 0, and writes gp only in the third and the fourth instruction of its text (RISC-V ELF psABI,
+/// "Integer Register Convention").
 pub fn files_leave_reserved()
     ensures { FilesLeaveReserved }
 {}

@@ -1,7 +1,6 @@
 -- The theorem about the compiler in one statement: what is promised of each file that it returns.
 use Rattle.std.specs.Prelude.{◌≡◌, ◌≤◌, ℕ, ◌+◌, ◌*◌, List, reverse}
 use Rattle.rv32.specs.declared.state.Cause.{Cause}
-use Rattle.rv32.specs.Step.{register}
 use Rattle.srcset.specs.Files.{Files}
 use Rattle.loader.specs.File.{Image}
 use Rattle.sim.specs.Runs as sim
@@ -14,6 +13,7 @@ use Rattle.cc_backend.specs.Made.{IsFileOf}
 use Rattle.cc.specs.declared.compiling.Built.{Built}
 use Rattle.cc.specs.Made.{IsMade}
 use Rattle.cc_laws.specs.Laws.{StaysDefined, HasImage, run_of, done_in, IsBeginning, IsInside, TouchesNothingBelow, IsLaidOut, CallsAreKept, MainIsKept}
+use Rattle.cc_laws.specs.Reserved.{AreReserved}
 use Rattle.cc_laws.specs.Words.{CallsPassWords}
 use Rattle.cc_laws.specs.Overflow.{IsAlwaysDefined, GoesUpToOverflow}
 use Rattle.cc_laws.specs.Frames.{StaysWithinFrames, RunsWithinFrames}
@@ -43,8 +43,8 @@ pub record OnInput {stack : ℕ} {p : Program} {file frames : List ℕ} (made : 
       → (k : ℕ) × (done_in (run_of image input k) ≡ (answer n p input).trace) × ((j : ℕ) → j ≤ k → IsBeginning (done_in (run_of image input j)) (answer n p input).trace)
   pub in_time : (n status : ℕ) → (answer n p input).ending ≡ Ended status → (answer n p input).greatest ≤ stack
       → (k : ℕ) × (w : World) × (k ≤ 64 * n + 64) × (run_of image input k ≡ sim.Ended status w) × (reverse w.trace ≡ (answer n p input).trace)
-  -- gp and tp stay 0, whatever the program does
-  pub reserved : (k : ℕ) (w : World) → run_of image input k ≡ Running w → (register w.machine 3 ≡ 0) × (register w.machine 4 ≡ 0)
+  -- gp is set by the start alone, and tp stays 0, whatever the program does
+  pub reserved : AreReserved (λ k w. run_of image input k ≡ Running w)
 
 -- for each file that the compiler returns; `compiles` of `IsMade` states of which program
 abbrev pub TheTheorem : Type 0

@@ -126,10 +126,10 @@ impl Listing<'_> {
         }
     }
 
-    /// The load of an address in the data whose second instruction is at this address. Calls are in the order of rising addresses.
+    /// The access to the data, or the load of an address there, that the instruction at this address ends. Calls are in the order of rising addresses.
     fn loaded(&mut self, address: u32) -> Option<DataLoad> {
         let load = self.table.loads.get(self.loads).copied()?;
-        if load.at.wrapping_add(4) != address {
+        if load.at != address {
             return None;
         }
         self.loads = self.loads.saturating_add(1);

@@ -24,7 +24,7 @@ use Rattle.select.specs.declared.places.Source.TheVariants as source
 use Rattle.select.specs.declared.places.Home.{Home}
 use Rattle.select.specs.declared.places.Home.TheVariants as home
 use Rattle.select.specs.Selected as selected
-use Rattle.select.specs.Selected.{source_of, home_of, fetch, into, keep, made_in, register_of, load_constant, far, load_word, store_word, address_of, move, ending, operate, form_or, combine, narrow, reach, reference, log2_of, shift_or_multiply, scale, operate_on, put_byte, get_byte, change_sp, saves, restores, calls, keep_return, take_return, entry, leave, return_home, byte_home, items_of, set_to, shortened}
+use Rattle.select.specs.Selected.{is_near_gp, static_address, source_of, home_of, fetch, into, keep, made_in, register_of, load_constant, far, load_word, store_word, address_of, move, ending, operate, form_or, combine, narrow, reach, reference, log2_of, shift_or_multiply, scale, operate_on, put_byte, get_byte, change_sp, saves, restores, calls, keep_return, take_return, entry, leave, return_home, byte_home, items_of, set_to, shortened}
 use Rattle.select.specs.Program.{code_items, function_items}
 use Rattle.select.proofs.Shortened.{shortened_bytes}
 use Rattle.select.specs.Bytes.{word_bytes, fetch_bytes, keep_bytes, into_bytes, move_bytes, reach_bytes, reference_bytes, scale_bytes, saved_bytes, entry_bytes, instruction_bytes, CodeIsShort}
@@ -113,12 +113,12 @@ narrow_short conversion.ToSignedHalf rd a = omega arith
 narrow_short conversion.ToTruth rd a = omega arith
 
 reach_short : (f : Function) (l : Location) → longest (reach f l) ≤ reach_bytes f l
-reach_short f (location.Statics o) = omega arith
+reach_short f (location.Statics o) = either (is_near_gp o) [] _ 8 (omega arith) (omega arith)
 reach_short f (location.Frame o) = far_short 6 (area_home f + o)
 reach_short f (location.At x) = fetch_short 6 (source_of f x)
 
 reference_short : (f : Function) (d : Home) (l : Location) → longest (reference f d l) ≤ reference_bytes f d l
-reference_short f d (location.Statics o) = both (item.DataAddress (made_in d) o ∷ []) (keep d) 8 _ (omega arith) (keep_short d)
+reference_short f d (location.Statics o) = both (static_address (made_in d) o ∷ []) (keep d) 8 _ (one_of (is_near_gp o) _ _ 8 (omega arith) (omega arith)) (keep_short d)
 reference_short f d (location.Frame o) = both (address_of (made_in d) (area_home f + o)) (keep d) 12 _ (address_short (made_in d) (area_home f + o)) (keep_short d)
 reference_short f d (location.At x) = move_short d (source_of f x)
 

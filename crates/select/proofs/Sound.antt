@@ -25,7 +25,7 @@ use Rattle.select.specs.declared.places.Source.TheVariants as source
 use Rattle.select.specs.declared.places.Home.{Home}
 use Rattle.select.specs.declared.places.Home.TheVariants as home
 use Rattle.select.specs.Selected as selected
-use Rattle.select.specs.Selected.{source_of, home_of, fetch, into, keep, made_in, register_of, load_constant, far, load_word, store_word, address_of, move, ending, operate, form_or, combine, compute, narrow, convert, reach, load, store, reference, log2_of, shift_or_multiply, scale, element, branch, put_byte, get_byte, exit, change_sp, saves, restores, calls, keep_return, take_return, entry, leave, return_home, byte_home, items_of, set_to, shortened}
+use Rattle.select.specs.Selected.{is_near_gp, static_address, source_of, home_of, fetch, into, keep, made_in, register_of, load_constant, far, load_word, store_word, address_of, move, ending, operate, form_or, combine, compute, narrow, convert, reach, load, store, reference, log2_of, shift_or_multiply, scale, element, branch, put_byte, get_byte, exit, change_sp, saves, restores, calls, keep_return, take_return, entry, leave, return_home, byte_home, items_of, set_to, shortened}
 use Rattle.select.specs.Program.{code_items, function_items, functions_items, start_items, far_items, labels_of}
 use Rattle.select.proofs.Shortened.{shortened_fits}
 
@@ -142,13 +142,16 @@ module _ (n : ℕ) where
   narrow_un conversion.ToSignedHalf rd a = tt
   narrow_un conversion.ToTruth rd a = tt
 
+  static_un : (rd o : ℕ) → o < 0x10000000 → Unmarked n (static_address rd o ∷ [])
+  static_un rd o fit = one_of (is_near_gp o) _ _ tt fit
+
   reach_un : (f : Function) (l : Location) → LocationFits f l → Unmarked n (reach f l)
-  reach_un f (location.Statics o) fit = (fit, tt)
+  reach_un f (location.Statics o) fit = either (is_near_gp o) [] _ tt (fit, tt)
   reach_un f (location.Frame o) fit = far_un 6 (area_home f + o)
   reach_un f (location.At x) fit = fetch_un 6 (source_of f x) (small_source f x fit)
 
   reference_un : (f : Function) (d : Home) (l : Location) → frame_bytes f ≤ most_bytes → LocationFits f l → Unmarked n (reference f d l)
-  reference_un f d (location.Statics o) small fit = (fit, keep_un d)
+  reference_un f d (location.Statics o) small fit = both (static_address (made_in d) o ∷ []) _ (static_un (made_in d) o fit) (keep_un d)
   reference_un f d (location.Frame o) small fit = both (address_of (made_in d) (area_home f + o)) _ (address_un (made_in d) (area_home f + o) (omega (arith, small, fit))) (keep_un d)
   reference_un f d (location.At x) small fit = move_un d (source_of f x) (small_source f x fit)
 
@@ -404,7 +407,7 @@ is_sound p s =
     let n = labels_of p in
     let count = length p.functions in
     let functions = functions_marks n count (omega arith) 0 count p.functions (omega arith) (omega arith) s.each in
-    let whole = behind n (λ l. Span n 0 (0 + count) l ⊎ Span n count (count + places_of p.functions) l) (start_items p.main) (functions_items 0 count p.functions) (omega arith, (omega (arith, s.has_main), tt)) functions in
+    let whole = behind n (λ l. Span n 0 (0 + count) l ⊎ Span n count (count + places_of p.functions) l) (start_items p.main) (functions_items 0 count p.functions) (omega arith, (omega arith, (omega (arith, s.has_main), tt))) functions in
     record {
       refers = whole.refers;
       marked = λ l lt. whole.all l (⊎_elim (λ y. inl (omega arith, omega (arith, y))) (λ y. inr (y, omega (arith, lt))) (cases_lt l count));

@@ -8,7 +8,7 @@ use Rattle.frames_code.specs.declared.code.Instruction.{Instruction}
 use Rattle.frames_code.specs.Code as flat
 use Rattle.frames_code.specs.Code.{Function}
 use Rattle.frames_code.specs.Sound.{places_of}
-use Rattle.select.specs.Selected.{entry, exit, items_of, shortened}
+use Rattle.select.specs.Selected.{entry, exit, gp_offset, items_of, shortened}
 
 -- the items of a function's instructions from number k on, each after its mark; the function's end has a mark too
 abbrev pub code_items : Function → ℕ → ℕ → List Instruction → List Item
@@ -24,9 +24,9 @@ abbrev pub functions_items : ℕ → ℕ → List Function → List Item
 functions_items k first [] = []
 functions_items k first (f ∷ fs) = function_items k first f ++ functions_items (k + 1) (first + (length f.code + 1)) fs
 
--- the program begins at the stack's end with a call of main, and ends with main's result as its status
+-- the program begins at the stack's end, with gp among the statics, by a call of main, and ends with main's result as its status
 abbrev pub start_items : ℕ → List Item
-start_items main = item.Constant 2 stack_end ∷ item.Call main ∷ exit
+start_items main = item.Constant 2 stack_end ∷ item.DataAddress 3 gp_offset ∷ item.Call main ∷ exit
 
 -- The labels: first those of the functions, by their numbers; then, a function after the other, those of its instructions and of
 -- its end.

@@ -90,6 +90,21 @@ store_word s o = far 7 o ++ (item.Plain (instr.Store store_kind.Word s (base_of 
 abbrev pub address_of : ℕ → ℕ → List Item
 address_of rd o = if nat_lt o 0x800 then add_to rd 2 o ∷ [] else load_constant rd o ∷ operate_on register_op.Add rd rd 2 ∷ []
 
+-- ---- statics
+
+-- gp (x3) points 2048 bytes past the begin of the statics, so that 12 bits with a sign reach the first 4096 of them
+abbrev pub gp_offset : ℕ
+gp_offset = 0x800
+
+abbrev pub is_near_gp : ℕ → Bool
+is_near_gp o = nat_lt o 0x1000
+
+abbrev pub from_gp : ℕ → ℕ
+from_gp o = (o + (2 ^ 32 - gp_offset)) % 2 ^ 32
+
+abbrev pub static_address : ℕ → ℕ → Item
+static_address rd o = if is_near_gp o then add_to rd 3 (from_gp o) else item.DataAddress rd o
+
 -- ---- operands and targets
 
 -- where an operand's value is; zero is in x0
@@ -208,17 +223,17 @@ convert c d x = fetch 5 x ++ (narrow c (made_in d) (register_of 5 x) ++ keep d)
 
 -- the items before an access to an element, its base register, and its offset in bytes; x6 is free
 abbrev pub reach : Function → Location → List Item
-reach f (location.Statics o) = item.DataAddress 6 o ∷ []
+reach f (location.Statics o) = if is_near_gp o then [] else item.DataAddress 6 o ∷ []
 reach f (location.Frame o) = far 6 (area_home f + o)
 reach f (location.At x) = fetch 6 (source_of f x)
 
 abbrev pub reach_base : Function → Location → ℕ
-reach_base f (location.Statics o) = 6
+reach_base f (location.Statics o) = if is_near_gp o then 3 else 6
 reach_base f (location.Frame o) = base_of 6 (area_home f + o)
 reach_base f (location.At x) = register_of 6 (source_of f x)
 
 abbrev pub reach_offset : Function → Location → ℕ
-reach_offset f (location.Statics o) = 0
+reach_offset f (location.Statics o) = if is_near_gp o then from_gp o else 0
 reach_offset f (location.Frame o) = lower_of (area_home f + o)
 reach_offset f (location.At x) = 0
 
@@ -243,7 +258,7 @@ abbrev pub store : Function → Width → Source → Location → List Item
 store f w x l = fetch 5 x ++ (reach f l ++ (item.Plain (instr.Store (store_of w) (register_of 5 x) (reach_base f l) (reach_offset f l)) ∷ []))
 
 abbrev pub reference : Function → Home → Location → List Item
-reference f d (location.Statics o) = item.DataAddress (made_in d) o ∷ keep d
+reference f d (location.Statics o) = static_address (made_in d) o ∷ keep d
 reference f d (location.Frame o) = address_of (made_in d) (area_home f + o) ++ keep d
 reference f d (location.At x) = move d (source_of f x)
 

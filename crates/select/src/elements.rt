@@ -10,8 +10,8 @@ ghost use Rattle.select.specs.inside.Ranges.{SourceIsNear, HomeIsNear};
 use crate::operations::put_move;
 use crate::places::{Home, Source, source_of};
 use crate::words::{
-    address_of, base_of, fetch, keep, lower_of, made_in, operate_on, put, put_far, put_one,
-    register_of, set_to,
+    address_of, base_of, fetch, from_gp, global_pointer, is_near_gp, keep, lower_of, made_in,
+    operate_on, put, put_far, put_one, register_of, set_to, static_address,
 };
 use asm::Item;
 use frames_code::{Function, Location, Width};
@@ -55,13 +55,19 @@ fn put_reach(
 {
     let free = Five::new(6);
     match location {
-        Location::Statics(offset) => put_one(
-            items,
-            Item::DataAddress {
-                rd: free,
-                offset: *offset as u32,
-            },
-        ),
+        Location::Statics(offset) => {
+            if is_near_gp(*offset) {
+                Ok(())
+            } else {
+                put_one(
+                    items,
+                    Item::DataAddress {
+                        rd: free,
+                        offset: *offset as u32,
+                    },
+                )
+            }
+        }
         Location::Frame(offset) => put_far(items, free, function.area_home() + *offset as u32),
         Location::At(operand) => fetch(items, free, &source_of(function, *operand)),
     }
@@ -76,7 +82,13 @@ fn reach_base(function: &Function, location: &Location) -> Five
 {
     let free = Five::new(6);
     match location {
-        Location::Statics(_) => free,
+        Location::Statics(offset) => {
+            if is_near_gp(*offset) {
+                global_pointer()
+            } else {
+                free
+            }
+        }
         Location::Frame(offset) => base_of(free, function.area_home() + *offset as u32),
         Location::At(operand) => register_of(free, &source_of(function, *operand)),
     }
@@ -89,7 +101,13 @@ fn reach_offset(function: &Function, location: &Location) -> Short
     ensures { result ≡ selected.reach_offset (function_of function.now) location.now }
 {
     match location {
-        Location::Statics(_) => Short::new(0),
+        Location::Statics(offset) => {
+            if is_near_gp(*offset) {
+                from_gp(*offset)
+            } else {
+                Short::new(0)
+            }
+        }
         Location::Frame(offset) => lower_of(function.area_home() + *offset as u32),
         Location::At(_) => Short::new(0),
     }
@@ -161,11 +179,7 @@ pub fn put_reference(
 {
     match location {
         Location::Statics(offset) => {
-            let address = Item::DataAddress {
-                rd: made_in(home),
-                offset: *offset as u32,
-            };
-            put_one(items, address)?;
+            put_one(items, static_address(made_in(home), *offset))?;
             keep(items, home)
         }
         Location::Frame(offset) => {

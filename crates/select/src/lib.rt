@@ -13,3 +13,4 @@ mod shortening;
 mod words;
 
 pub use program::select;
+pub use words::GP_OFFSET;

@@ -14,7 +14,7 @@ use crate::near::shorten_calls;
 use crate::operations::{put_compute, put_convert, put_move};
 use crate::places::{home_of, source_of};
 use crate::shortening::shortened;
-use crate::words::{fetch, put, put_one, register_of, stack_pointer};
+use crate::words::{GP_OFFSET, fetch, global_pointer, put, put_one, register_of, stack_pointer};
 use asm::{Item, Items, Label};
 use frames_code::{FlatProgram, Function, Instruction, Operand};
 use memory_map::STACK_END;
@@ -186,7 +186,7 @@ fn put_function(
     put_code(items, function, calls, first)
 }
 
-/// Sets the stack pointer, calls main, and ends the program with its result.
+/// Sets the stack pointer and the global pointer, calls main, and ends the program with its result.
 fn put_start(items: &mut Vec<Item>, main: usize) -> Result<(), AllocError>
     ensures { OnOk result (items.new.items ≡ items.old.items ++ start_items main) }
 {
@@ -196,6 +196,10 @@ fn put_start(items: &mut Vec<Item>, main: usize) -> Result<(), AllocError>
             Item::Constant {
                 rd: stack_pointer(),
                 value: STACK_END,
+            },
+            Item::DataAddress {
+                rd: global_pointer(),
+                offset: GP_OFFSET,
             },
             Item::Call {
                 to: Label::new(main),

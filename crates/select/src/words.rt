@@ -44,6 +44,47 @@ pub fn stack_pointer() -> Five
     Five::new(2)
 }
 
+/// x3, the global pointer (RISC-V ELF psABI, "Integer Register Convention"). From the program's start on it points `GP_OFFSET` bytes past the
+/// begin of the statics.
+pub fn global_pointer() -> Five
+    ensures { result ≡ 3 }
+{
+    Five::new(3)
+}
+
+/// In bytes. With 12 bits with a sign, an access then reaches the first 4096 bytes of the statics from gp.
+pub const GP_OFFSET: u32 = 0x800;
+
+/// Whether a static, by its offset in bytes, is within that reach.
+pub fn is_near_gp(offset: usize) -> bool
+    ensures { result ≡ selected.is_near_gp offset }
+{
+    offset < 0x1000
+}
+
+/// How far it is then from gp, -2048 to 2047 bytes.
+pub fn from_gp(offset: usize) -> Short
+    requires { offset < 0x10000000 }
+    ensures { result ≡ selected.from_gp offset }
+{
+    Short::new((offset as u32).wrapping_sub(GP_OFFSET))
+}
+
+/// `rd` becomes the address of a static.
+pub fn static_address(rd: Five, offset: usize) -> Item
+    requires { offset < 0x10000000 }
+    ensures { result ≡ selected.static_address rd offset }
+{
+    if is_near_gp(offset) {
+        add_to(rd, global_pointer(), from_gp(offset))
+    } else {
+        Item::DataAddress {
+            rd,
+            offset: offset as u32,
+        }
+    }
+}
+
 /// `rd` becomes the sum of `left` and a value.
 pub fn add_to(rd: Five, left: Five, value: Short) -> Item
     ensures { result ≡ selected.add_to rd left value }

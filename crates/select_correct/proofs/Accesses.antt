@@ -1,6 +1,7 @@
 -- The machine follows flat code: loads and stores of elements.
 use Rattle.std.proofs.Common.{◌≡◌, ℕ, zero, suc, List, ◌+◌, ◌%◌, ◌^◌, ◌<◌, ◌≤◌, ◌∷◌, ◌++◌, [], ◌⊎◌, inl, inr, ⊎_elim, Some, Bool, true, false, refl, sym, ap, ◌∙◌, arith, eqb}
 use Rattle.std.specs.Prelude.{if◌then◌else◌, ◌&&◌, nat_le, slice_get}
+use Rattle.std.proofs.lemmas.Bool.{ltb-true}
 use Rattle.std.proofs.lemmas.Bool.Decides.{nat_tests}
 use Rattle.rv32.specs.declared.instr.Instr.TheVariants as instr
 use Rattle.asm.specs.declared.item.Item.TheVariants as item
@@ -17,23 +18,23 @@ use Rattle.frames_code.specs.Sound.{TargetFits, LocationFits}
 use Rattle.frames_code.specs.Run.{Value, word, reference, Reference, Memory, Frame, Bytes, changed_among, reference_in, size_of, element_in, with_element, unset, next, State, Progress, running, stuck, value, word_at, gives_word, place, memory, with_memory, with_frames, loaded, stored, act, ◌>>=◌}
 use Rattle.frames_code.specs.Run as flat
 use Rattle.select_exec.specs.Light.{Light, Go, reg, with_reg, sum32, Comes}
-use Rattle.select_exec.proofs.Bridge.{and_left, and_right}
+use Rattle.select_exec.proofs.Bridge.{bool_cases, and_left, and_right}
 use Rattle.select_exec.proofs.Words.{reg_is, with_same}
 use Rattle.select_exec.proofs.Steps.{comes_now, comes_by}
 use Rattle.select_exec.proofs.ItemSteps.{on_loads}
 use Rattle.select_exec.proofs.Standing.{stands_parts}
 use Rattle.select.specs.declared.places.Source.{Source}
 use Rattle.select.specs.declared.places.Home.{Home}
-use Rattle.select.specs.Selected.{source_of, home_of, fetch, register_of, made_in, keep, reach, reach_base, reach_offset, load_of, store_of, load, store}
-use Rattle.select_correct.specs.Matches.{Ground, Matched, Matches, Ready, address, shown}
+use Rattle.select.specs.Selected.{is_near_gp, from_gp, source_of, home_of, fetch, register_of, made_in, keep, reach, reach_base, reach_offset, load_of, store_of, load, store}
+use Rattle.select_correct.specs.Matches.{gp_of, Ground, Matched, Matches, Ready, address, shown}
 use Rattle.select_correct.specs.Costs.{fetch_cost, keep_cost, reach_cost, row}
 use Rattle.select_correct.specs.Laws.{Anything, Follows}
-use Rattle.select_correct.proofs.Registers.{Off, Only, off_none, off_only, off_then, off_last, off_sp, only_one, only_reg}
+use Rattle.select_correct.proofs.Registers.{Off, Only, off_none, off_only, off_then, off_last, off_sp, off_gp, only_none, only_one, only_reg}
 use Rattle.select_correct.proofs.Places.{SourceHolds, source_stays, onward, far_runs, fetches}
 use Rattle.select_correct.proofs.Fits.{frame_room}
 use Rattle.select_correct.proofs.Frames.{within, operand_holds}
 use Rattle.select_correct.proofs.Forms.{used, word_some, fn, open_stack, fits, no_more, made_above, finishes}
-use Rattle.select_correct.proofs.References.{reference_some, frame_shown}
+use Rattle.select_correct.proofs.References.{from_gp_reaches, reference_some, frame_shown}
 use Rattle.select_correct.proofs.Bytes.{element_held, element_small, put_held, put_off, put_bytes, put_here, element_here, aligned_for, loads_element, stores_element}
 use Rattle.select_correct.proofs.Areas.{start_of, shown_in, memory_lives, matched_put}
 
@@ -98,14 +99,29 @@ module _ (G : Ground) (s : State) (r b : ℕ → ℕ) (ready : Ready G) (m : Mat
       let held : Reference = record { list = 0; offset = o } in
       let same : held ≡ v = cc in
       let w = G.data_at + o in
-      let q = st.1 in
+      let is : w < 2 ^ 32 → w ≡ shown G (reference v.list v.offset) = λ small. sym (shown_in G 0 o small) ∙ ap (λ (y : Reference). shown G (reference y.list y.offset)) same in
+      bool_cases (is_near_gp o)
+      (λ t.
+      let now : here ≡ mid = rw t at st in
+      let near : o < 0x1000 = ltb-true o 0x1000 t in
+      let gp : r1 3 ≡ gp_of G = off_gp 5 r r1 off (λ x. omega (arith, x)) ∙ m.gp_is in
+      let small : w < 2 ^ 32 = omega (arith, near, ready.data_below, ready.floor_below) in
+      let sum : sum32 (reg r1 (reach_base (fn G s r b ready m) (location.Statics o))) (reach_offset (fn G s r b ready m) (location.Statics o)) ≡ w =
+      rw t (ap (λ x. (x + from_gp o) % 2 ^ 32) gp ∙ from_gp_reaches G ready o near) in
+      let count : reach_cost (fn G s r b ready m) (location.Statics o) ≡ 0 = rw t refl in
+      comes_by G.machine Anything n (reach_cost (fn G s r b ready m) (location.Statics o) + n) (Go r1 here b s.input s.trace) Q (omega (arith, count))
+      (onward G.machine G.env G.data_at s.input s.trace Q {a0 = 1} n here mid r1 b now (next_to r1 (only_none 6 r1) (sum ∙ is small))))
+      (λ t.
+      let far : Stands G.machine.text G.env G.data_at (item.DataAddress 6 o ∷ []) here mid = rw t at st in
+      let q = far.1 in
       let small : w < 2 ^ 32 = omega (arith, q.value) in
-      let is : w ≡ shown G (reference v.list v.offset) = sym (shown_in G 0 o small) ∙ ap (λ (y : Reference). shown G (reference y.list y.offset)) same in
       let r2 = with_reg r1 6 w in
-      let sum : sum32 (reg r2 6) 0 ≡ w = omega (arith, small) in
-      comes_by G.machine Anything (suc (suc n)) (2 + n) (Go r1 here b s.input s.trace) Q (omega arith)
-      (on_loads G.machine Anything Q n r1 here b s.input s.trace tt 6 w st.0 refl q tt
-      (onward G.machine G.env G.data_at s.input s.trace Q {a0 = 1} n st.0 mid r2 b st.2 (next_to r2 (only_one 6 w r1) (sum ∙ is))))
+      let sum0 : sum32 (reg r2 6) 0 ≡ w = omega (arith, small) in
+      let sum : sum32 (reg r2 (reach_base (fn G s r b ready m) (location.Statics o))) (reach_offset (fn G s r b ready m) (location.Statics o)) ≡ w = rw t sum0 in
+      let count : reach_cost (fn G s r b ready m) (location.Statics o) ≡ 2 = rw t refl in
+      comes_by G.machine Anything (suc (suc n)) (reach_cost (fn G s r b ready m) (location.Statics o) + n) (Go r1 here b s.input s.trace) Q (omega (arith, count))
+      (on_loads G.machine Anything Q n r1 here b s.input s.trace tt 6 w far.0 refl q tt
+      (onward G.machine G.env G.data_at s.input s.trace Q {a0 = 1} n far.0 mid r2 b far.2 (next_to r2 (only_one 6 w r1) (sum ∙ is small)))))
   reaches Q n (location.Frame o) v fit e r1 off here mid st next_to =
       let f = fn G s r b ready m in
       let p = area_home f + o in

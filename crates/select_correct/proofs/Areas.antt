@@ -10,7 +10,7 @@ use Rattle.frames_code.specs.Code.{Function, cell_home, area_home, frame_bytes}
 use Rattle.frames_code.specs.Run.{reference, Values, Bytes, Frame, Memory, State, unset, next, function_at, bytes_of, name_of, arrays, memory, memory_among, changed_among, with_memory}
 use Rattle.select.specs.Selected.{calls, return_home}
 use Rattle.select_correct.specs.Matches.{Ground, Ready, Returns, FrameHolds, Holds, Waits, Matched, address, shown, file_below, file_of, return_at}
-use Rattle.select_correct.proofs.Registers.{Off, off_kept_free, off_sp, off_ra, off_temporary}
+use Rattle.select_correct.proofs.Registers.{Off, off_kept_free, off_sp, off_ra, off_gp, off_temporary}
 use Rattle.select_correct.proofs.Waiting.{if_same, waits_same, waits_sum}
 use Rattle.select_correct.proofs.Fits.{Within, frame_room, function_fits}
 use Rattle.select_correct.proofs.Frames.{sum_is, within, small_same, temporaries_same}
@@ -179,6 +179,7 @@ module _ (G : Ground) (ready : Ready G) (s : State) (r : ℕ → ℕ) (at : ℕ)
         sp = m.sp;
         at_is = e;
         sp_is = off_sp 5 r r2 o (λ x. omega (arith, x)) ∙ m.sp_is;
+        gp_is = off_gp 5 r r2 o (λ x. omega (arith, x)) ∙ m.gp_is;
         low = m.low;
         bytes = bytes;
         frame = record {

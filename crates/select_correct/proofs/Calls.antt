@@ -21,7 +21,7 @@ use Rattle.select_exec.proofs.Standing.{stands_parts}
 use Rattle.select_exec.specs.Standing.{CallAt}
 use Rattle.select.specs.Program.{calls_are_near}
 use Rattle.select.specs.Selected.{kept, is_call, calls, change_sp, return_home, restores, take_return}
-use Rattle.select_correct.specs.Matches.{Ground, Ready, Returns, Holds, ArgumentsShow, Small, Waits, Matched, Matches, HasRoom, address, shown, file_below, file_of, return_at, temporary_at, argument_at}
+use Rattle.select_correct.specs.Matches.{gp_of, Ground, Ready, Returns, Holds, ArgumentsShow, Small, Waits, Matched, Matches, HasRoom, address, shown, file_below, file_of, return_at, temporary_at, argument_at}
 use Rattle.select_correct.specs.Costs.{return_cost, frame_cost, opening_cost, row, call_cost, step_cost}
 use Rattle.select_correct.specs.Laws.{Anything, Follows}
 use Rattle.select_correct.proofs.Registers.{kept_above, kept_no_temporary, kept_once}
@@ -43,11 +43,11 @@ calls_there (x ∷ code) (suc k) g e = or_true (is_call x) (calls code) (calls_t
 
 module _ (G : Ground) (ready : Ready G) where
   -- a frame has opened over the calls that wait
-  pub opened_matched : (g sp : ℕ) (temporaries arguments : Values) (waiting : List Frame) (statics : Bytes) (input : List ℕ) (trace : List Event) (r b r2 b2 : ℕ → ℕ) → Within G.floor (function_at G.program g) sp → Small (file_of r)
+  pub opened_matched : (g sp : ℕ) (temporaries arguments : Values) (waiting : List Frame) (statics : Bytes) (input : List ℕ) (trace : List Event) (r b r2 b2 : ℕ → ℕ) → Within G.floor (function_at G.program g) sp → r 3 ≡ gp_of G → Small (file_of r)
       → ((k : ℕ) (v : Value) → temporaries k ≡ Some v → (k < 8) × (shown G v < 2 ^ 32) × (r (10 + k) ≡ shown G v)) → ArgumentsShow G (function_at G.program g) arguments b sp → Holds statics G.data_at 0 (length G.program.statics) b
       → Waits G waiting b (file_of r) (sp + frame_bytes (function_at G.program g)) (r 1) → Opened (function_at G.program g) sp r b r2 b2
       → Matched G (record { frame = record { function = g; at = 0; cells = unset; area = unset }; temporaries = temporaries; arguments = arguments; waiting = waiting; statics = statics; input = input; trace = trace }) r2 (address G g 0) b2
-  opened_matched g sp temporaries arguments waiting statics input trace r b r2 b2 win small ts xs globals st o =
+  opened_matched g sp temporaries arguments waiting statics input trace r b r2 b2 win gp small ts xs globals st o =
       let f = function_at G.program g in
       let below : (j : ℕ) → file_below f b2 sp (file_of r2) j ≡ file_of r j = λ j. bool_cases (nat_lt j f.resident)
       (λ t. rw t (o.homes_are j (ltb-true j f.resident t)))
@@ -57,6 +57,7 @@ module _ (G : Ground) (ready : Ready G) where
         sp = sp;
         at_is = refl;
         sp_is = o.sp_is;
+        gp_is = o.gp_stays ∙ gp;
         low = win.low;
         bytes = o.bytes;
         frame = record {
@@ -141,6 +142,7 @@ module _ (G : Ground) (s : State) (r b : ℕ → ℕ) (ready : Ready G) (m : Mat
       let held : r (10 + k) ≡ shown G v = rw t at old.2 in
       (ltb-true k 8 t, old.1, stays (10 + k) (λ x. omega (arith, x)) ∙ held))
       (λ t. let no : None ≡ Some v = rw t at ek in cc) in
+      let gp1 : r1 3 ≡ gp_of G = stays 3 (λ x. omega (arith, x)) ∙ m.gp_is in
       let xs : ArgumentsShow G f (from_eight s.temporaries) b sp = λ k v ek. bool_cases (nat_lt k 8)
       (λ t. let no : None ≡ Some v = rw t at ek in cc)
       (λ t.
@@ -152,7 +154,7 @@ module _ (G : Ground) (s : State) (r b : ℕ → ℕ) (ready : Ready G) (m : Mat
       (old.1, omega (arith, there, lies.top), ap (word_at b) there ∙ held)) in
       enters G.machine G.env G.data_at s.input s.trace Q f sp win (record { reads = λ a lo hi. ready.stack_read a (omega (arith, lo, win.low)) hi; writes = λ a lo hi. ready.stack_written a (omega (arith, lo, win.low)) hi }) m.sp (G.env g) (address G g 0) r1 b fit.all up (omega (arith, mine.top)) fit.small m.sp_is words small m.bytes (ready.entries g known) (λ r2 b2 o.
       comes_now G.machine Anything 0 _ Q tt
-      (opened_matched G ready g sp (below_eight s.temporaries) (from_eight s.temporaries) (w ∷ s.waiting) s.statics s.input s.trace r1 b r2 b2 win words ts xs m.statics waits1 o, refl, refl))
+      (opened_matched G ready g sp (below_eight s.temporaries) (from_eight s.temporaries) (w ∷ s.waiting) s.statics s.input s.trace r1 b r2 b2 win gp1 words ts xs m.statics waits1 o, refl, refl))
 
   pub does_call : (g : ℕ) → (m.sp ≡ G.watch_sp → (end ≡ G.watch_ra) × ((j : ℕ) → file_of r j ≡ G.watch_file j)) → slice_get (fn G s r b ready m).code s.frame.at ≡ Some (instruction.Call g) → HasRoom G (act G.program s (instruction.Call g)) → Comes G.machine Anything 1 (step_cost G.program (fn G s r b ready m) (instruction.Call g)) (Go r start b s.input s.trace) (Matches G (act G.program s (instruction.Call g)))
   does_call g seen e room =
@@ -166,7 +168,7 @@ module _ (G : Ground) (s : State) (r b : ℕ → ℕ) (ready : Ready G) (m : Mat
 
   -- the frame closes: the registers are those that the frame below sees
   pub leaves : (Q : Light → Type 0) → slice_get (fn G s r b ready m).code s.frame.at ≡ Some instruction.Return → return_at (fn G s r b ready m) b m.sp (r 1) % 4 ≡ 0 → return_at (fn G s r b ready m) b m.sp (r 1) < 2 ^ 32
-      → ((r2 : ℕ → ℕ) → r2 2 ≡ m.sp + frame_bytes (fn G s r b ready m) → ((j : ℕ) → file_of r2 j ≡ file_below (fn G s r b ready m) b m.sp (file_of r) j) → r2 10 ≡ r 10 → Comes G.machine Anything 0 0 (Go r2 (return_at (fn G s r b ready m) b m.sp (r 1)) b s.input s.trace) Q)
+      → ((r2 : ℕ → ℕ) → r2 2 ≡ m.sp + frame_bytes (fn G s r b ready m) → ((j : ℕ) → file_of r2 j ≡ file_below (fn G s r b ready m) b m.sp (file_of r) j) → r2 10 ≡ r 10 → r2 3 ≡ r 3 → Comes G.machine Anything 0 0 (Go r2 (return_at (fn G s r b ready m) b m.sp (r 1)) b s.input s.trace) Q)
       → Comes G.machine Anything 1 (row (fn G s r b ready m) instruction.Return) (Go r start b s.input s.trace) Q
   leaves Q e al small next_to =
       let f = fn G s r b ready m in
@@ -194,7 +196,8 @@ module _ (G : Ground) (s : State) (r b : ℕ → ℕ) (ready : Ready G) (m : Mat
       same ∙ bool_cases (nat_lt j f.resident)
       (λ t. rw t (z.given j (ltb-true j f.resident t)))
       (λ t. rw t (z.others (kept j) (λ c lt x. omega (arith, kept_once j c x, lt, ltb-false j f.resident t)))))
-      (q.each 10 (λ x. omega (arith, x)) (λ x. omega (arith, x)) ∙ (only.each 10 (λ x. omega (arith, x)) ∙ z.others 10 (λ j lt x. kept_no_temporary j 0 (omega arith) (sym x))))))))
+      (q.each 10 (λ x. omega (arith, x)) (λ x. omega (arith, x)) ∙ (only.each 10 (λ x. omega (arith, x)) ∙ z.others 10 (λ j lt x. kept_no_temporary j 0 (omega arith) (sym x))))
+      (q.each 3 (λ x. omega (arith, x)) (λ x. omega (arith, x)) ∙ (only.each 3 (λ x. omega (arith, x)) ∙ z.others 3 (λ j lt x. omega (arith, x, kept_above j))))))))
 
   abbrev below : ℕ → ℕ
   below = file_below (fn G s r b ready m) b m.sp (file_of r)
@@ -211,13 +214,13 @@ module _ (G : Ground) (s : State) (r b : ℕ → ℕ) (ready : Ready G) (m : Mat
       used (word_of_operand s (operand.Temporary 0)) (λ v. ended (v % 2 ^ 8) s.input s.trace) R (no_more G s r b ready m 1 (row (fn G s r b ready m) instruction.Return) (Go r start b s.input s.trace) (omega arith)) (λ v ev.
       let Q : Light → Type 0 = Matches G (ended (v % 2 ^ 8) s.input s.trace) in
       let held : r 10 ≡ v = (m.temporaries 0 (word v) (word_some (value s (operand.Temporary 0)) v ev)).2 in
-      leaves Q e (omega (arith, st.3, ready.return_aligned)) (omega (arith, st.3, ready.return_small)) (λ r2 e2 ef e10.
+      leaves Q e (omega (arith, st.3, ready.return_aligned)) (omega (arith, st.3, ready.return_small)) (λ r2 e2 ef e10 e3.
       let status : r2 10 % 2 ^ 8 ≡ v % 2 ^ 8 = ap (λ x. x % 2 ^ 8) (e10 ∙ held) in
       comes_now G.machine Anything 0 _ Q tt
       (record { at_is = st.3; sp_is = e2 ∙ st.0; file_is = λ j. ef j ∙ st.2 j; bytes_are = λ k le. st.4 k (omega (arith, le, st.0)); status_is = status }, refl, refl)))
   returns_to (w ∷ ws) st e =
       let Q : Light → Type 0 = Matches G (returned s (w ∷ ws)) in
-      leaves Q e st.0.aligned st.0.small (λ r2 e2 ef e10.
+      leaves Q e st.0.aligned st.0.small (λ r2 e2 ef e10 e3.
       let f = function_at G.program w.function in
       let st2 : Waits G (w ∷ ws) b (file_of r2) base back_to = waits_same G (w ∷ ws) b b below (file_of r2) base back_to (λ k le. refl) ef st in
       let stored : return_at f b base (r2 1) ≡ word_at b (base + return_home f) = rw st2.0.calls refl in
@@ -226,6 +229,7 @@ module _ (G : Ground) (s : State) (r b : ℕ → ℕ) (ready : Ready G) (m : Mat
           sp = base;
           at_is = st2.0.at_is;
           sp_is = e2;
+          gp_is = e3 ∙ m.gp_is;
           low = omega (arith, m.low);
           bytes = m.bytes;
           frame = record { aligned = st2.1.aligned; small = st2.1.small; cells = st2.1.cells; area = st2.1.area };

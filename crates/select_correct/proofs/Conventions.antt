@@ -19,9 +19,9 @@ use Rattle.select_exec.proofs.Steps.{comes_now, comes_then, run_plus}
 use Rattle.select_exec.proofs.ItemSteps.{on_loads, on_call}
 use Rattle.select_exec.proofs.Worlds.{real_follows}
 use Rattle.select_exec.proofs.Placing.{after_items}
-use Rattle.select.specs.Selected.{kept}
+use Rattle.select.specs.Selected.{kept, gp_offset}
 use Rattle.select.specs.Program.{program_items}
-use Rattle.select_correct.specs.Matches.{Ground, Ready, Waits, Matched, Matches, HasRoom, address, shown, file_of, file_below, return_at}
+use Rattle.select_correct.specs.Matches.{gp_of, Ground, Ready, Waits, Matched, Matches, HasRoom, address, shown, file_of, file_below, return_at}
 use Rattle.select_correct.specs.Laws.{Anything, AreBytes}
 use Rattle.select_correct.specs.Costs.{opening_cost, row, most_spent}
 use Rattle.select_correct.specs.Runs.{Laid, Entered, IsWithin, IsBack, ground_at}
@@ -37,7 +37,7 @@ use Rattle.select_correct.proofs.Standing.{register_shown, in_register, on_stack
 use Rattle.select_correct.proofs.Real.{shown as standing}
 use Rattle.select_correct.proofs.Keeping.{kept_low}
 use Rattle.select_correct.proofs.Watching.{each_entry_keeps}
-use Rattle.select_correct.proofs.Whole.{unwatched, entries, comes_to}
+use Rattle.select_correct.proofs.Whole.{start_keeps, unwatched, entries, comes_to}
 
 -- ---- runs in parts
 
@@ -106,7 +106,7 @@ module _ (G : Ground) (s : State) (r b : ℕ → ℕ) (ready : Ready G) (m : Mat
   comes_out : (r0 : ℕ → ℕ) → r0 2 ≡ G.sp → ((j : ℕ) → file_of r0 j ≡ G.file j) → (ws : List Frame) → Waits G ws b below base back_to → bytes_of G.program ws ≡ 0 → next_of G.program s ≡ Some instruction.Return
       → Comes G.machine Anything 1 (row (function_at G.program s.frame.function) instruction.Return) (Go r (address G s.frame.function s.frame.at) b s.input s.trace) (IsBack G r0 s G.ra)
   comes_out r0 e2 ef [] st none e =
-      leaves G s r b ready m (IsBack G r0 s G.ra) e (omega (arith, st.3, ready.return_aligned)) (omega (arith, st.3, ready.return_small)) (λ r2 es es12 e10.
+      leaves G s r b ready m (IsBack G r0 s G.ra) e (omega (arith, st.3, ready.return_aligned)) (omega (arith, st.3, ready.return_small)) (λ r2 es es12 e10 e3.
       comes_now G.machine Anything 0 _ (IsBack G r0 s G.ra) tt (st.3, es ∙ (st.0 ∙ sym e2), λ j. es12 j ∙ (st.2 j ∙ sym (ef j)), λ v h. e10 ∙ (m.temporaries 0 v h).2, refl, refl))
   comes_out r0 e2 ef (w ∷ ws) st none e = absurd (omega (arith, none, frame_room (function_at G.program w.function)))
 
@@ -157,6 +157,7 @@ module _ (P : Permits) (low : (a : ℕ) → P.can_execute a ≡ true → a < 2 ^
     pub ra : r1 1 ≡ back
     pub sp : r1 2 + bytes_of p c.waiting ≡ stack_end
     pub aligned : r1 2 % 16 ≡ 0
+    pub gp : r1 3 ≡ gp_of G
     pub registers : (j : ℕ) (x : Value) → c.temporaries j ≡ Some x → (j < 8) × (r1 (10 + j) ≡ shown G x)
     pub further : (j : ℕ) (x : Value) → c.arguments (8 + j) ≡ Some x → word_at b1 (r1 2 + 4 * j) ≡ shown G x
     pub most : ℕ
@@ -200,6 +201,7 @@ module _ (P : Permits) (low : (a : ℕ) → P.can_execute a ≡ true → a < 2 ^
           pc = refl;
           ra = ra ∙ g.ra;
           aligned = ap (λ x. x % 16) sp ∙ g.aligned;
+          gp = held 3 (omega arith) (omega arith) ∙ g.gp;
           registers = λ j x ex. let old = g.registers j x ex in (old.0, held (10 + j) (omega arith) (omega (arith, old.0)) ∙ (old.1 ∙ passed_is x));
           stack = λ j x ex. ap (λ a. word_at g.b1 (a + 4 * j)) sp ∙ (g.further j x ex ∙ passed_is x);
           trace = refl;
@@ -245,6 +247,7 @@ module _ (P : Permits) (low : (a : ℕ) → P.can_execute a ≡ true → a < 2 ^
         ra = with_same r1 1 end (omega arith);
         sp = omega (arith, sp, sum);
         aligned = ap (λ x. x % 16) sp ∙ m1.frame.aligned;
+        gp = stays 3 (omega arith) ∙ m1.gp_is;
         registers = λ j x ex. bool_cases (nat_lt j 8)
             (λ t.
             let before : s.temporaries j ≡ Some x = rw t at ex in
@@ -267,24 +270,28 @@ module _ (P : Permits) (low : (a : ℕ) → P.can_execute a ≡ true → a < 2 ^
 
   -- ---- main
 
-  begun_main : AreBytes input → HasRoom G (running (start p input)) → Begun p.main (base + 16) (start p input)
+  begun_main : AreBytes input → HasRoom G (running (start p input)) → Begun p.main (base + 24) (start p input)
   begun_main bytes room =
       let st = q.stands in
       let one = st.1 in
-      let call = st.2.1 in
-      let ra = st.2.0 in
-      let ra_is : ra ≡ base + 16 = omega (arith, one.next_is, call.next_is) in
+      let points = st.2.1 in
+      let call = st.2.2.1 in
+      let ra = st.2.2.0 in
+      let ra_is : ra ≡ base + 24 = omega (arith, one.next_is, points.next_is, call.next_is) in
       let r1 = with_reg r 2 stack_end in
-      let r2 = with_reg r1 1 ra in
-      let here = Go r2 (env p.main) b input [] in
-      let file : (j : ℕ) → file_of r2 j ≡ file_of r j = λ j. with_other r1 1 ra (kept j) (λ x. omega (arith, x, kept_above j)) ∙ with_other r 2 stack_end (kept j) (λ x. omega (arith, x, kept_above j)) in
-      let c : Comes F Anything 1 4 begin (λ x. x ≡ here) =
-      on_loads F Anything (λ x. x ≡ here) 2 r base b input [] tt 2 stack_end st.0 refl one tt
-      (on_call F Anything (λ x. x ≡ here) 0 r1 st.0 b input [] tt (env p.main) ra (ready.entry_aligned p.main ready.sound.has_main) call tt
-      (comes_now F Anything 0 here (λ x. x ≡ here) tt refl)) in
-      let main_entered : Entered G p.main unset unset (slice_get p.statics) r2 (env p.main) b = record {
+      let r2 = with_reg r1 3 (data_at + gp_offset) in
+      let r3 = with_reg r2 1 ra in
+      let here = Go r3 (env p.main) b input [] in
+      let file : (j : ℕ) → file_of r3 j ≡ file_of r j = start_keeps r (data_at + gp_offset) ra in
+      let c : Comes F Anything 1 6 begin (λ x. x ≡ here) =
+      on_loads F Anything (λ x. x ≡ here) 4 r base b input [] tt 2 stack_end st.0 refl one tt
+      (on_loads F Anything (λ x. x ≡ here) 2 r1 st.0 b input [] tt 3 (data_at + gp_offset) st.2.0 refl points tt
+      (on_call F Anything (λ x. x ≡ here) 0 r2 st.2.0 b input [] tt (env p.main) ra (ready.entry_aligned p.main ready.sound.has_main) call tt
+      (comes_now F Anything 0 here (λ x. x ≡ here) tt refl))) in
+      let main_entered : Entered G p.main unset unset (slice_get p.statics) r3 (env p.main) b = record {
         at_is = refl;
         sp_is = refl;
+        gp_is = refl;
         aligned = refl;
         ra_is = ra_is;
         file_is = file;
@@ -297,15 +304,16 @@ module _ (P : Permits) (low : (a : ℕ) → P.can_execute a ≡ true → a < 2 ^
         unwatched = omega arith;
       } in
       let opened : Comes F Anything 1 (opening_cost (function_at p p.main)) here (Matches G (running (start p input))) =
-      entries G p.main unset unset (slice_get p.statics) input [] r2 (env p.main) b ready ready.sound.has_main main_entered room in
+      entries G p.main unset unset (slice_get p.statics) input [] r3 (env p.main) b ready ready.sound.has_main main_entered room in
       record {
         k = c.j;
-        r1 = r2;
+        r1 = r3;
         b1 = b;
         at = c.good;
-        ra = with_same r1 1 ra (omega arith) ∙ ra_is;
+        ra = with_same r2 1 ra (omega arith) ∙ ra_is;
         sp = refl;
         aligned = refl;
+        gp = refl;
         registers = λ j x ex. cc;
         further = λ j x ex. cc;
         most = opening_cost (function_at p p.main);
@@ -314,8 +322,8 @@ module _ (P : Permits) (low : (a : ℕ) → P.can_execute a ≡ true → a < 2 ^
             let s = start p input in
             let d = comes_then F Anything (opening_cost (function_at p p.main)) (most_spent p m s) here (Matches G (running s)) (Matches G (run p m s)) opened
             (λ m2 x. matched_steps G ready m s m2 x bytes rooms (λ j lt. unwatched G (omega arith) (omega arith) (run p j s))) in
-            let out = comes_then F Anything (opening_cost (function_at p p.main) + most_spent p m s) (row (function_at p t.frame.function) instruction.Return) here (Matches G (run p m s)) (IsBack G r2 t (base + 16)) d
-            (λ m2 x. returns_out G ready r2 refl file t (own_bytes p (start p input) m t inner) et m2 (subst (λ y. Matches G y m2) inner.runs x)) in
+            let out = comes_then F Anything (opening_cost (function_at p p.main) + most_spent p m s) (row (function_at p t.frame.function) instruction.Return) here (Matches G (run p m s)) (IsBack G r3 t (base + 24)) d
+            (λ m2 x. returns_out G ready r3 refl file t (own_bytes p (start p input) m t inner) et m2 (subst (λ y. Matches G y m2) inner.runs x)) in
             (out.j, out.good);
       }
 
@@ -332,5 +340,5 @@ calls_keep P low apart p env floor data_at base e r b list input q shows bytes n
 
 pub main_keeps : MainKeepsConvention
 main_keeps P low apart p env floor data_at base e r b list input q shows bytes room =
-    keeps P low apart p env floor data_at base e r b list input q shows p.main (base + 16) (start p input)
+    keeps P low apart p env floor data_at base e r b list input q shows p.main (base + 24) (start p input)
     (begun_main P low apart p env floor data_at base e r b list input q shows bytes room) bytes

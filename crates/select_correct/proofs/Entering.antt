@@ -52,6 +52,7 @@ pub record Opened (f : Function) (sp : ℕ) (r b r2 b2 : ℕ → ℕ) : Type 0 w
   pub temporaries_stay : (k : ℕ) → k < 8 → r2 (10 + k) ≡ r (10 + k)
   pub homes_are : (j : ℕ) → j < f.resident → word_at b2 (sp + cell_home f j) ≡ r (kept j)
   pub ra_is : return_at f b2 sp (r2 1) ≡ r 1
+  pub gp_stays : r2 3 ≡ r 3
   pub off : (k : ℕ) → (k < sp) ⊎ (sp + frame_bytes f ≤ k) → b2 k ≡ b k
   pub bytes : (k : ℕ) → b2 k < 2 ^ 8
 
@@ -208,6 +209,7 @@ module _ (F : Fixed) (env : ℕ → ℕ) (seg : ℕ) (i : List ℕ) (h : List Ev
           temporaries_stay = λ k lt. only3.each (10 + k) (λ x. omega (arith, x)) ∙ (only.each (10 + k) (λ x. omega (arith, x)) ∙ z.each (10 + k) (λ x. omega (arith, x)) (λ x. omega (arith, x)));
           homes_are = λ j lt. s.given j lt ∙ kept2 j;
           ra_is = stays ∙ (q.ra_is ∙ ra1);
+          gp_stays = only3.each 3 (λ x. omega (arith, x)) ∙ (only.each 3 (λ x. omega (arith, x)) ∙ z.each 3 (λ x. omega (arith, x)) (λ x. omega (arith, x)));
           off = λ k side. s.off k (⊎_elim (λ lt. inl (omega (arith, lt))) (λ ge. inr (omega (arith, ge, room, all))) side) ∙ q.off k (⊎_elim (λ lt. inl (omega (arith, lt, room))) (λ ge. inr (omega (arith, ge, room))) side);
           bytes = s.bytes;
         })))))

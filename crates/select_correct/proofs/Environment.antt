@@ -51,6 +51,7 @@ retraced G s r at b input trace m = record {
   sp = m.sp;
   at_is = m.at_is;
   sp_is = m.sp_is;
+  gp_is = m.gp_is;
   low = m.low;
   bytes = m.bytes;
   frame = m.frame;
@@ -119,8 +120,9 @@ module _ (G : Ground) (s : State) (r b : ℕ → ℕ) (ready : Ready G) (m : Mat
       let file : (j : ℕ) → r2 (kept j) ≡ r (kept j) = λ j. q.each (kept j) (kept_no_temporary j 0 (omega arith)) (kept_no_temporary j 1 (omega arith)) (kept_no_temporary j 2 (omega arith)) (kept_no_temporary j 7 (omega arith)) in
       let sp2 : r2 2 ≡ r 2 = q.each 2 (λ x. omega (arith, x)) (λ x. omega (arith, x)) (λ x. omega (arith, x)) (λ x. omega (arith, x)) in
       let ra1 : r2 1 ≡ r 1 = q.each 1 (λ x. omega (arith, x)) (λ x. omega (arith, x)) (λ x. omega (arith, x)) (λ x. omega (arith, x)) in
+      let gp1 : r2 3 ≡ r 3 = q.each 3 (λ x. omega (arith, x)) (λ x. omega (arith, x)) (λ x. omega (arith, x)) (λ x. omega (arith, x)) in
       let far : (c : ℕ) → word_at b2 (m.sp + cell_home f c) ≡ word_at b (m.sp + cell_home f c) = λ c. word_same b b2 (m.sp + cell_home f c) (λ k lo hi. off k (λ x. omega (arith, x, lo))) in
-      on_with G ready s r start b m (s.frame.at + 1) end s.frame.cells temporaries unset r2 b2 refl sp2 ra1 (small_same G ready s r start b m r2 file) bytes
+      on_with G ready s r start b m (s.frame.at + 1) end s.frame.cells temporaries unset r2 b2 refl sp2 ra1 gp1 (small_same G ready s r start b m r2 file) bytes
       (λ c v ec. let old = m.frame.cells c v ec in (old.0, old.1, if_same (nat_lt c f.resident) (r (kept c)) (r2 (kept c)) _ _ (file c) (far c) ∙ old.2))
       ts none_left (λ j. if_same (nat_lt j f.resident) _ _ (r (kept j)) (r2 (kept j)) (far j) (file j))
       (λ k side. off k (λ x. ⊎_elim (λ lt. omega (arith, lt, x)) (λ ge. omega (arith, ge, x)) side))

@@ -17,7 +17,7 @@ use Rattle.select_exec.proofs.Words.{reg_is, word_off, word_same, word_apart, wo
 use Rattle.select.specs.declared.places.Home.TheVariants as home
 use Rattle.select.specs.Selected.{kept, calls, source_of, home_of, return_home}
 use Rattle.select_correct.specs.Matches.{Ground, Matched, Ready, Shows, Small, Waits, address, file_of, cell_at, file_below, return_at, temporary_at, argument_at, shown}
-use Rattle.select_correct.proofs.Registers.{Off, kept_above, kept_no_temporary, kept_once, off_kept, off_kept_free, off_temporary, off_sp, off_ra}
+use Rattle.select_correct.proofs.Registers.{Off, kept_above, kept_no_temporary, kept_once, off_kept, off_kept_free, off_temporary, off_sp, off_ra, off_gp}
 use Rattle.select_correct.proofs.Waiting.{if_same, waits_same, waits_sum}
 use Rattle.select_correct.proofs.Places.{SourceHolds, Lies}
 use Rattle.select_correct.proofs.Fits.{Within, frame_room, cell_lies, temporary_lies, argument_lies, words_apart}
@@ -41,10 +41,10 @@ module _ (G : Ground) (ready : Ready G) (s : State) (r : ℕ → ℕ) (at : ℕ)
   }
 
   -- everything except what is named is unchanged, where only bytes before the frame's arrays change
-  pub on_with : (a at2 : ℕ) (cells temporaries arguments : Values) (r2 b2 : ℕ → ℕ) → at2 ≡ address G s.frame.function a → r2 2 ≡ r 2 → r2 1 ≡ r 1 → Small (file_of r2) → ((k : ℕ) → b2 k < 2 ^ 8)
+  pub on_with : (a at2 : ℕ) (cells temporaries arguments : Values) (r2 b2 : ℕ → ℕ) → at2 ≡ address G s.frame.function a → r2 2 ≡ r 2 → r2 1 ≡ r 1 → r2 3 ≡ r 3 → Small (file_of r2) → ((k : ℕ) → b2 k < 2 ^ 8)
       → Shows G the.cells cells (cell_at the b2 m.sp (file_of r2)) → Shows G (8 + the.outgoing) temporaries (temporary_at r2 b2 m.sp) → ((k : ℕ) (v : Value) → arguments k ≡ Some v → s.arguments k ≡ Some v)
       → ((j : ℕ) → file_below the b2 m.sp (file_of r2) j ≡ file_below the b m.sp (file_of r) j) → ((k : ℕ) → (k < m.sp) ⊎ (m.sp + area_home the ≤ k) → b2 k ≡ b k) → Matched G (now_at a cells temporaries arguments) r2 at2 b2
-  on_with a at2 cells temporaries arguments r2 b2 e e2 e1 small bytes cs ts sub below same =
+  on_with a at2 cells temporaries arguments r2 b2 e e2 e1 e3 small bytes cs ts sub below same =
       let room = frame_room the in
       let behind : (k : ℕ) → m.sp + area_home the ≤ k → b2 k ≡ b k = λ k le. same k (inr le) in
       let ret : return_at the b2 m.sp (r2 1) ≡ return_at the b m.sp (r 1) = if_same (calls the.code) _ _ (r 1) (r2 1) (word_same b b2 (m.sp + return_home the) (λ k lo hi. behind k (omega (arith, lo, room)))) e1 in
@@ -52,6 +52,7 @@ module _ (G : Ground) (ready : Ready G) (s : State) (r : ℕ → ℕ) (at : ℕ)
         sp = m.sp;
         at_is = e;
         sp_is = e2 ∙ m.sp_is;
+        gp_is = e3 ∙ m.gp_is;
         low = m.low;
         bytes = bytes;
         frame = record {
@@ -87,7 +88,7 @@ module _ (G : Ground) (ready : Ready G) (s : State) (r : ℕ → ℕ) (at : ℕ)
   pub moved : (a at2 : ℕ) (arguments : Values) (r2 : ℕ → ℕ) → Off 5 r r2 → at2 ≡ address G s.frame.function a → ((k : ℕ) (v : Value) → arguments k ≡ Some v → s.arguments k ≡ Some v) → Matched G (now_at a s.frame.cells s.temporaries arguments) r2 at2 b
   moved a at2 arguments r2 o e sub =
       let f = off_kept_free r r2 o in
-      on_with a at2 s.frame.cells s.temporaries arguments r2 b e (off_sp 5 r r2 o (λ x. omega (arith, x))) (off_ra 5 r r2 o (λ x. omega (arith, x))) (small_same r2 f) m.bytes (cells_same r2 f)
+      on_with a at2 s.frame.cells s.temporaries arguments r2 b e (off_sp 5 r r2 o (λ x. omega (arith, x))) (off_ra 5 r r2 o (λ x. omega (arith, x))) (off_gp 5 r r2 o (λ x. omega (arith, x))) (small_same r2 f) m.bytes (cells_same r2 f)
       (temporaries_same r2 b (λ k lt. off_temporary 5 r r2 o k (λ x. omega (arith, x))) (λ k lo hi. refl)) sub
       (λ j. if_same (nat_lt j the.resident) _ _ (r (kept j)) (r2 (kept j)) refl (f j)) (λ k side. refl)
 
@@ -139,7 +140,7 @@ module _ (G : Ground) (ready : Ready G) (s : State) (r : ℕ → ℕ) (at : ℕ)
     to_temporary : (k : ℕ) → k < 8 → Off (10 + k) r r2 → r2 (10 + k) ≡ shown G w → Matched G (now_at a s.frame.cells (with_at s.temporaries k w) arguments) r2 at2 b
     to_temporary k lt o ew =
         let f : (j : ℕ) → r2 (kept j) ≡ r (kept j) = λ j. off_kept (10 + k) r r2 o j (kept_no_temporary j k lt) in
-        on_with a at2 s.frame.cells (with_at s.temporaries k w) arguments r2 b e (off_sp (10 + k) r r2 o (λ x. omega (arith, x))) (off_ra (10 + k) r r2 o (λ x. omega (arith, x))) (small_same r2 f) m.bytes (cells_same r2 f)
+        on_with a at2 s.frame.cells (with_at s.temporaries k w) arguments r2 b e (off_sp (10 + k) r r2 o (λ x. omega (arith, x))) (off_ra (10 + k) r r2 o (λ x. omega (arith, x))) (off_gp (10 + k) r r2 o (λ x. omega (arith, x))) (small_same r2 f) m.bytes (cells_same r2 f)
         (λ i v ei.
         bool_cases (eqb i k)
         (λ t.
@@ -162,7 +163,7 @@ module _ (G : Ground) (ready : Ready G) (s : State) (r : ℕ → ℕ) (at : ℕ)
         let b2 = with_word b here (shown G w) in
         let f = off_kept_free r r2 o in
         let far : (c : ℕ) → word_at b2 (m.sp + cell_home the c) ≡ word_at b (m.sp + cell_home the c) = λ c. word_apart b here (shown G w) (m.sp + cell_home the c) (inl (omega (arith, ge, lt))) in
-        on_with a at2 s.frame.cells (with_at s.temporaries k w) arguments r2 b2 e (off_sp 5 r r2 o (λ x. omega (arith, x))) (off_ra 5 r r2 o (λ x. omega (arith, x))) (small_same r2 f) (word_bytes b here (shown G w) small m.bytes)
+        on_with a at2 s.frame.cells (with_at s.temporaries k w) arguments r2 b2 e (off_sp 5 r r2 o (λ x. omega (arith, x))) (off_ra 5 r r2 o (λ x. omega (arith, x))) (off_gp 5 r r2 o (λ x. omega (arith, x))) (small_same r2 f) (word_bytes b here (shown G w) small m.bytes)
         (λ c v ec. let old = m.frame.cells c v ec in (old.0, old.1, if_same (nat_lt c the.resident) (r (kept c)) (r2 (kept c)) _ _ (f c) (far c) ∙ old.2))
         (λ i v ei.
         bool_cases (eqb i k)
@@ -189,7 +190,7 @@ module _ (G : Ground) (ready : Ready G) (s : State) (r : ℕ → ℕ) (at : ℕ)
     to_register : (c : ℕ) → c < the.cells → nat_lt c the.resident ≡ true → Off (kept c) r r2 → r2 (kept c) ≡ shown G w → Matched G (now_at a (with_at s.frame.cells c w) s.temporaries arguments) r2 at2 b
     to_register c lt res o ew =
         let f : (j : ℕ) → j ≢ c → r2 (kept j) ≡ r (kept j) = λ j ne. off_kept (kept c) r r2 o j (λ x. ne (kept_once j c x)) in
-        on_with a at2 (with_at s.frame.cells c w) s.temporaries arguments r2 b e (off_sp (kept c) r r2 o (λ x. omega (arith, x, kept_above c))) (off_ra (kept c) r r2 o (λ x. omega (arith, x, kept_above c)))
+        on_with a at2 (with_at s.frame.cells c w) s.temporaries arguments r2 b e (off_sp (kept c) r r2 o (λ x. omega (arith, x, kept_above c))) (off_ra (kept c) r r2 o (λ x. omega (arith, x, kept_above c))) (off_gp (kept c) r r2 o (λ x. omega (arith, x, kept_above c)))
         (λ j. bool_cases (eqb j c)
         (λ t.
         let is : j ≡ c = grind (arith, nat_tests) in
@@ -228,7 +229,7 @@ module _ (G : Ground) (ready : Ready G) (s : State) (r : ℕ → ℕ) (at : ℕ)
         let f = off_kept_free r r2 o in
         let far : (d : ℕ) → d ≢ c → word_at b2 (m.sp + cell_home the d) ≡ word_at b (m.sp + cell_home the d) = λ d ne.
         word_apart b here (shown G w) (m.sp + cell_home the d) (words_apart m.sp (cell_home the c) (cell_home the d) (omega arith) (omega arith) (λ x. ne (omega (arith, x)))) in
-        on_with a at2 (with_at s.frame.cells c w) s.temporaries arguments r2 b2 e (off_sp 5 r r2 o (λ x. omega (arith, x))) (off_ra 5 r r2 o (λ x. omega (arith, x))) (small_same r2 f) (word_bytes b here (shown G w) small m.bytes)
+        on_with a at2 (with_at s.frame.cells c w) s.temporaries arguments r2 b2 e (off_sp 5 r r2 o (λ x. omega (arith, x))) (off_ra 5 r r2 o (λ x. omega (arith, x))) (off_gp 5 r r2 o (λ x. omega (arith, x))) (small_same r2 f) (word_bytes b here (shown G w) small m.bytes)
         (λ d v ed.
         bool_cases (eqb d c)
         (λ t.

@@ -20,7 +20,7 @@ use Rattle.select.specs.declared.places.Source.TheVariants as source
 use Rattle.select.specs.declared.places.Home.{Home}
 use Rattle.select.specs.declared.places.Home.TheVariants as home
 use Rattle.select.specs.Selected as selected
-use Rattle.select.specs.Selected.{source_of, home_of, fetch, into, keep, made_in, register_of, load_constant, far, load_word, store_word, address_of, move, ending, operate, form_or, combine, narrow, reach, reference, log2_of, shift_or_multiply, scale, element, put_byte, get_byte, change_sp, saves, restores, calls, keep_return, take_return, entry, leave, return_home, byte_home, items_of, set_to, shortened}
+use Rattle.select.specs.Selected.{is_near_gp, static_address, source_of, home_of, fetch, into, keep, made_in, register_of, load_constant, far, load_word, store_word, address_of, move, ending, operate, form_or, combine, narrow, reach, reference, log2_of, shift_or_multiply, scale, element, put_byte, get_byte, change_sp, saves, restores, calls, keep_return, take_return, entry, leave, return_home, byte_home, items_of, set_to, shortened}
 use Rattle.select.specs.Program.{code_items}
 use Rattle.select.proofs.Shortened.{shortened_fits}
 
@@ -146,12 +146,12 @@ module _ (a b : ℕ) where
   narrow_in conversion.ToTruth rd x = tt
 
   reach_in : (f : Function) (l : Location) → Inside a b (reach f l)
-  reach_in f (location.Statics o) = tt
+  reach_in f (location.Statics o) = either (is_near_gp o) [] _ tt tt
   reach_in f (location.Frame o) = far_in 6 (area_home f + o)
   reach_in f (location.At x) = fetch_in 6 (source_of f x)
 
   reference_in : (f : Function) (d : Home) (l : Location) → Inside a b (reference f d l)
-  reference_in f d (location.Statics o) = keep_in d
+  reference_in f d (location.Statics o) = both (static_address (made_in d) o ∷ []) _ (one_of (is_near_gp o) _ _ tt tt) (keep_in d)
   reference_in f d (location.Frame o) = both (address_of (made_in d) (area_home f + o)) _ (address_in (made_in d) (area_home f + o)) (keep_in d)
   reference_in f d (location.At x) = move_in d (source_of f x)
 

@@ -21,7 +21,7 @@ use Rattle.select.specs.declared.places.Source.{Source}
 use Rattle.select.specs.declared.places.Source.TheVariants as source
 use Rattle.select.specs.declared.places.Home.{Home}
 use Rattle.select.specs.declared.places.Home.TheVariants as home
-use Rattle.select.specs.Selected.{source_of, home_of, kept, machine_of, constant_form, fetch, into, keep, made_in, register_of, load_constant, far, load_word, store_word, address_of, move, ending, operate, form_or, combine, narrow, operate_on, reach, reach_base, reach_offset, load_of, reference, log2_of, shift_or_multiply, scale, scaled_in, put_byte, change_sp, saves, restores, calls, keep_return, take_return, entry, leave, return_home, byte_home, items_of, set_to}
+use Rattle.select.specs.Selected.{is_near_gp, static_address, source_of, home_of, kept, machine_of, constant_form, fetch, into, keep, made_in, register_of, load_constant, far, load_word, store_word, address_of, move, ending, operate, form_or, combine, narrow, operate_on, reach, reach_base, reach_offset, load_of, reference, log2_of, shift_or_multiply, scale, scaled_in, put_byte, change_sp, saves, restores, calls, keep_return, take_return, entry, leave, return_home, byte_home, items_of, set_to}
 use Rattle.select_correct.specs.Costs.{far_cost, word_cost, constant_cost, address_cost, set_cost, fetch_cost, keep_cost, into_cost, move_cost, form_cost, second_cost, ending_cost, compute_cost, narrow_cost, reach_cost, reference_cost, product_cost, scale_cost, frame_cost, saved_cost, return_cost, opening_cost, row, RowsAreLengths, item_count}
 
 both : (xs ys : List Item) (a b : ℕ) → longest xs ≡ 4 * a → longest ys ≡ 4 * b → longest (xs ++ ys) ≡ 4 * (a + b)
@@ -111,12 +111,12 @@ narrow_long conversion.ToSignedHalf rd a = refl
 narrow_long conversion.ToTruth rd a = refl
 
 reach_long : (f : Function) (l : Location) → longest (reach f l) ≡ 4 * reach_cost f l
-reach_long f (location.Statics o) = refl
+reach_long f (location.Statics o) = either (is_near_gp o) [] _ 0 2 refl refl
 reach_long f (location.Frame o) = far_long 6 (area_home f + o)
 reach_long f (location.At x) = fetch_long 6 (source_of f x)
 
 reference_long : (f : Function) (d : Home) (l : Location) → longest (reference f d l) ≡ 4 * reference_cost f d l
-reference_long f d (location.Statics o) = both (item.DataAddress (made_in d) o ∷ []) (keep d) 2 _ refl (keep_long d)
+reference_long f d (location.Statics o) = both (static_address (made_in d) o ∷ []) (keep d) _ _ (one_of (is_near_gp o) _ _ 1 2 refl refl) (keep_long d)
 reference_long f d (location.Frame o) = both (address_of (made_in d) (area_home f + o)) (keep d) _ _ (address_long (made_in d) (area_home f + o)) (keep_long d)
 reference_long f d (location.At x) = move_long d (source_of f x)
 

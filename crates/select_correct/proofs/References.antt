@@ -1,7 +1,9 @@
 -- The machine follows flat code: references to locations and to elements.
 use Rattle.std.proofs.Common.{◌≡◌, ℕ, zero, suc, ◌+◌, ◌-◌, ◌%◌, ◌^◌, ◌<◌, ◌≤◌, ◌∷◌, ◌++◌, Option, Some, None, false, refl, sym, ap, ◌∙◌, arith, eqb}
+use Rattle.std.proofs.lemmas.Bool.{ltb-true}
 use Rattle.std.proofs.lemmas.Bool.Decides.{nat_tests}
-use Rattle.std.specs.Prelude.{slice_get}
+use Rattle.std.specs.Prelude.{if◌then◌else◌, slice_get}
+use Rattle.rv32.specs.declared.instr.ImmediateOp.TheVariants as immediate_op
 use Rattle.asm.specs.declared.item.Item.TheVariants as item
 use Rattle.select_exec.specs.Standing.{Stands}
 use Rattle.frames_code.specs.declared.code.Target.{Target}
@@ -13,19 +15,24 @@ use Rattle.frames_code.specs.Sound.{TargetFits}
 use Rattle.frames_code.specs.Run.{Value, word, reference, Reference, reference_in, unset, State, Progress, value, gives, name_of, act}
 use Rattle.select_exec.specs.Light.{Light, Go, reg, with_reg, Comes}
 use Rattle.select_exec.proofs.Words.{reg_is, with_same}
-use Rattle.select_exec.proofs.Steps.{comes_by}
+use Rattle.select_exec.proofs.Bridge.{bool_cases}
+use Rattle.select_exec.proofs.Steps.{comes_by, on_immediate}
 use Rattle.select_exec.proofs.ItemSteps.{on_loads}
 use Rattle.select_exec.proofs.Standing.{stands_parts}
 use Rattle.select.specs.declared.places.Home.{Home}
-use Rattle.select.specs.Selected.{source_of, home_of, made_in, keep, address_of}
-use Rattle.select_correct.specs.Matches.{Ground, Matched, Matches, Ready, address, shown}
+use Rattle.select.specs.Selected.{is_near_gp, from_gp, static_address, add_to, source_of, home_of, made_in, keep, address_of}
+use Rattle.select_correct.specs.Matches.{gp_of, Ground, Matched, Matches, Ready, address, shown}
 use Rattle.select_correct.specs.Costs.{address_cost, keep_cost, move_cost, row}
 use Rattle.select_correct.specs.Laws.{Anything, Follows}
 use Rattle.select_correct.proofs.Registers.{off_none, off_last, only_one}
-use Rattle.select_correct.proofs.Places.{addresses}
+use Rattle.select_correct.proofs.Places.{onward, addresses}
 use Rattle.select_correct.proofs.Fits.{frame_room}
 use Rattle.select_correct.proofs.Frames.{sum_is, within, operand_holds}
 use Rattle.select_correct.proofs.Forms.{used, fn, fits, no_more, made_above, finishes, move_some, moves_at}
+
+-- a static near gp is reached from there
+pub from_gp_reaches : (G : Ground) → Ready G → (o : ℕ) → o < 0x1000 → (gp_of G + from_gp o) % 2 ^ 32 ≡ G.data_at + o
+from_gp_reaches G ready o near = omega (arith, near, ready.data_below, ready.floor_below)
 
 pub reference_some : (o : Option Value) (x : Reference) → reference_in o ≡ Some x → o ≡ Some (reference x.list x.offset)
 reference_some None x e = cc
@@ -81,8 +88,8 @@ module _ (G : Ground) (s : State) (r b : ℕ → ℕ) (ready : Ready G) (m : Mat
       finishes G s r b ready m unset none_left d v fit small hm eh r2 (off_last rd r r r2 (off_none 5 r) only) (reg_is r2 rd pos ∙ (held ∙ sym is)) one.0 one.2)
 
   -- an address in the statics
-  statics_at : (d : Target) (o : ℕ) → TargetFits (fn G s r b ready m) d → (hm : Home) → home_of (fn G s r b ready m) d ≡ hm → Stands G.machine.text G.env G.data_at (item.DataAddress (made_in hm) o ∷ keep hm) start end
-      → Comes G.machine Anything 1 (2 + keep_cost hm) (Go r start b s.input s.trace) (Matches G (gives d s (reference 0 o)))
+  statics_at : (d : Target) (o : ℕ) → TargetFits (fn G s r b ready m) d → (hm : Home) → home_of (fn G s r b ready m) d ≡ hm → Stands G.machine.text G.env G.data_at (static_address (made_in hm) o ∷ keep hm) start end
+      → Comes G.machine Anything 1 ((if is_near_gp o then 1 else 2) + keep_cost hm) (Go r start b s.input s.trace) (Matches G (gives d s (reference 0 o)))
   statics_at d o fit hm eh st =
       let v = reference 0 o in
       let Q : Light → Type 0 = Matches G (gives d s v) in
@@ -90,15 +97,30 @@ module _ (G : Ground) (s : State) (r b : ℕ → ℕ) (ready : Ready G) (m : Mat
       let above : 5 ≤ rd = made_above G s r b ready m d hm eh in
       let pos : 0 < rd = omega (arith, above) in
       let w = G.data_at + o in
-      let q = st.1 in
-      let small : w < 2 ^ 32 = omega (arith, q.value) in
-      let is : shown G v ≡ w = omega (arith, small) in
+      let is : w < 2 ^ 32 → shown G v ≡ w = λ small. omega (arith, small) in
       let r2 = with_reg r rd w in
-      let held : reg r2 rd ≡ shown G v = reg_is r2 rd pos ∙ (with_same r rd w pos ∙ sym is) in
+      let held : w < 2 ^ 32 → reg r2 rd ≡ shown G v = λ small. reg_is r2 rd pos ∙ (with_same r rd w pos ∙ sym (is small)) in
+      let only = off_last rd r r r2 (off_none 5 r) (only_one rd w r) in
+      bool_cases (is_near_gp o)
+      (λ t.
+      let one : Stands G.machine.text G.env G.data_at (add_to rd 3 (from_gp o) ∷ keep hm) start end = rw t at st in
+      let near : o < 0x1000 = ltb-true o 0x1000 t in
+      let small : w < 2 ^ 32 = omega (arith, near, ready.data_below, ready.floor_below) in
+      let sum : (r 3 + from_gp o) % 2 ^ 32 ≡ w = ap (λ x. (x + from_gp o) % 2 ^ 32) m.gp_is ∙ from_gp_reaches G ready o near in
+      let count : (if is_near_gp o then 1 else 2) ≡ 1 = rw t refl in
+      comes_by G.machine Anything (suc (keep_cost hm)) ((if is_near_gp o then 1 else 2) + keep_cost hm) (Go r start b s.input s.trace) Q (omega (arith, count))
+      (on_immediate G.machine Anything Q (keep_cost hm) r start b s.input s.trace tt immediate_op.Add rd 3 (from_gp o) w one.1.0 sum
+      (onward G.machine G.env G.data_at s.input s.trace Q {a0 = 0} (keep_cost hm) (start + 4) one.0 r2 b (sym one.1.1)
+      (finishes G s r b ready m unset none_left d v fit (omega (arith, is small, small)) hm eh r2 only (held small) one.0 one.2))))
+      (λ t.
+      let far : Stands G.machine.text G.env G.data_at (item.DataAddress rd o ∷ keep hm) start end = rw t at st in
+      let q = far.1 in
+      let small : w < 2 ^ 32 = omega (arith, q.value) in
       let none : eqb rd 0 ≡ false = grind (arith, nat_tests) in
-      comes_by G.machine Anything (suc (suc (keep_cost hm))) (2 + keep_cost hm) (Go r start b s.input s.trace) Q (omega arith)
-      (on_loads G.machine Anything Q (keep_cost hm) r start b s.input s.trace tt rd w st.0 none q tt
-      (finishes G s r b ready m unset none_left d v fit (omega (arith, is, small)) hm eh r2 (off_last rd r r r2 (off_none 5 r) (only_one rd w r)) held st.0 st.2))
+      let count : (if is_near_gp o then 1 else 2) ≡ 2 = rw t refl in
+      comes_by G.machine Anything (suc (suc (keep_cost hm))) ((if is_near_gp o then 1 else 2) + keep_cost hm) (Go r start b s.input s.trace) Q (omega (arith, count))
+      (on_loads G.machine Anything Q (keep_cost hm) r start b s.input s.trace tt rd w far.0 none q tt
+      (finishes G s r b ready m unset none_left d v fit (omega (arith, is small, small)) hm eh r2 only (held small) far.0 far.2)))
 
   does_address : (d : Target) (l : Location) → slice_get (fn G s r b ready m).code s.frame.at ≡ Some (instruction.Address d l) → Comes G.machine Anything 1 (row (fn G s r b ready m) (instruction.Address d l)) (Go r start b s.input s.trace) (Matches G (act G.program s (instruction.Address d l)))
   does_address d (location.Statics o) e =

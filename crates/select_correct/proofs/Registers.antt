@@ -78,6 +78,9 @@ off_sp d r r2 o ne = o.each 2 (λ e. omega (arith, e)) (λ e. omega (arith, e)) 
 pub off_ra : (d : ℕ) (r r2 : ℕ → ℕ) → Off d r r2 → d ≢ 1 → r2 1 ≡ r 1
 off_ra d r r2 o ne = o.each 1 (λ e. omega (arith, e)) (λ e. omega (arith, e)) (λ e. omega (arith, e)) (λ e. ne (omega (arith, e)))
 
+pub off_gp : (d : ℕ) (r r2 : ℕ → ℕ) → Off d r r2 → d ≢ 3 → r2 3 ≡ r 3
+off_gp d r r2 o ne = o.each 3 (λ e. omega (arith, e)) (λ e. omega (arith, e)) (λ e. omega (arith, e)) (λ e. ne (omega (arith, e)))
+
 -- ---- as they are read
 
 pub only_reg : (x q : ℕ) (r r2 : ℕ → ℕ) → Only x r r2 → q ≢ x → reg r2 q ≡ reg r q

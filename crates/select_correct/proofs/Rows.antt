@@ -108,10 +108,10 @@ program = record {
 }
 
 abbrev words : List Instr
-words = instr.Lui 2 2147483648 ∷ instr.Immediate immediate_op.Add 2 2 0 ∷ instr.Auipc 1 16 ∷ instr.Jalr 1 1 0 ∷ instr.Immediate immediate_op.Add 17 0 93 ∷ instr.Ecall ∷ instr.Immediate immediate_op.Add 2 2 4294967280 ∷ instr.Store store_kind.Word 1 2 12 ∷ instr.Immediate immediate_op.Add 10 0 5 ∷ instr.Jal 1 16 ∷ instr.Load load_kind.Word 1 2 12 ∷ instr.Immediate immediate_op.Add 2 2 16 ∷ instr.Jalr 0 1 0 ∷ instr.Immediate immediate_op.Add 2 2 4294967280 ∷ instr.Store store_kind.Word 8 2 4 ∷ instr.Immediate immediate_op.Add 8 10 0 ∷ instr.Immediate immediate_op.Add 10 8 2 ∷ instr.Load load_kind.Word 8 2 4 ∷ instr.Immediate immediate_op.Add 2 2 16 ∷ instr.Jalr 0 1 0 ∷ []
+words = instr.Lui 2 2147483648 ∷ instr.Immediate immediate_op.Add 2 2 0 ∷ instr.Lui 3 135168 ∷ instr.Immediate immediate_op.Add 3 3 4294965248 ∷ instr.Auipc 1 16 ∷ instr.Jalr 1 1 0 ∷ instr.Immediate immediate_op.Add 17 0 93 ∷ instr.Ecall ∷ instr.Immediate immediate_op.Add 2 2 4294967280 ∷ instr.Store store_kind.Word 1 2 12 ∷ instr.Immediate immediate_op.Add 10 0 5 ∷ instr.Jal 1 16 ∷ instr.Load load_kind.Word 1 2 12 ∷ instr.Immediate immediate_op.Add 2 2 16 ∷ instr.Jalr 0 1 0 ∷ instr.Immediate immediate_op.Add 2 2 4294967280 ∷ instr.Store store_kind.Word 8 2 4 ∷ instr.Immediate immediate_op.Add 8 10 0 ∷ instr.Immediate immediate_op.Add 10 8 2 ∷ instr.Load load_kind.Word 8 2 4 ∷ instr.Immediate immediate_op.Add 2 2 16 ∷ instr.Jalr 0 1 0 ∷ []
 
 abbrev labels : List ℕ
-labels = 69656 ∷ 69684 ∷ 69664 ∷ 69668 ∷ 69672 ∷ 69684 ∷ 69692 ∷ 69696 ∷ 69700 ∷ 69712 ∷ []
+labels = 69664 ∷ 69692 ∷ 69672 ∷ 69676 ∷ 69680 ∷ 69692 ∷ 69700 ∷ 69704 ∷ 69708 ∷ 69720 ∷ []
 
 abbrev F : Fixed
 F = record { text = λ a. slice_get words ((a - 69632) / 4); can_read = λ a. true; can_write = λ a. true }
@@ -152,10 +152,10 @@ functions_fit (suc (suc k)) f e = cc
 sound : IsSoundProgram program
 sound = record { has_main = omega arith; each = functions_fit; statics = omega arith; countable = omega arith }
 
-laid : Laid program F env 0x7FF00000 0x20000 69632 69712 none none
+laid : Laid program F env 0x7FF00000 0x20000 69632 69720 none none
 laid = record {
   sound = sound;
-  stands = (69640, record { high = 2147483648; low = 0; first = refl; second = refl; value = refl; next_is = refl }, (69648, record { high = 16; low = 0; first = refl; second = refl; target = refl; next_is = refl }, (69652, (refl, refl), (69656, (refl, refl), (69656, (refl, refl), (69660, (refl, refl), (69664, (refl, refl), (69664, (refl, refl), (69668, (refl, refl), (69668, (refl, refl), (69672, record { v = 16; at = refl; target = refl; next_is = refl }, (69672, (refl, refl), (69676, (refl, refl), (69680, (refl, refl), (69684, (refl, refl), (69684, (refl, refl), (69684, (refl, refl), (69688, (refl, refl), (69692, (refl, refl), (69692, (refl, refl), (69696, (refl, refl), (69696, (refl, refl), (69700, (refl, refl), (69700, (refl, refl), (69704, (refl, refl), (69708, (refl, refl), (69712, (refl, refl), (69712, (refl, refl), refl))))))))))))))))))))))))))));
+  stands = (69640, record { high = 2147483648; low = 0; first = refl; second = refl; value = refl; next_is = refl }, (69648, record { high = 135168; low = 4294965248; first = refl; second = refl; value = refl; next_is = refl }, (69656, record { high = 16; low = 0; first = refl; second = refl; target = refl; next_is = refl }, (69660, (refl, refl), (69664, (refl, refl), (69664, (refl, refl), (69668, (refl, refl), (69672, (refl, refl), (69672, (refl, refl), (69676, (refl, refl), (69676, (refl, refl), (69680, record { v = 16; at = refl; target = refl; next_is = refl }, (69680, (refl, refl), (69684, (refl, refl), (69688, (refl, refl), (69692, (refl, refl), (69692, (refl, refl), (69692, (refl, refl), (69696, (refl, refl), (69700, (refl, refl), (69700, (refl, refl), (69704, (refl, refl), (69704, (refl, refl), (69708, (refl, refl), (69708, (refl, refl), (69712, (refl, refl), (69716, (refl, refl), (69720, (refl, refl), (69720, (refl, refl), refl)))))))))))))))))))))))))))));
   aligned = refl;
   low = omega arith;
   stack_read = λ a lo hi. refl;
@@ -188,12 +188,12 @@ unfolding step
 over = refl
 
 -- the laws say that it ends with 7 ..
-by_the_laws : Comes F Anything 1 (6 + (1 + 3 + 1 + 1 + 3 + 3) + 2) (Go none 69632 none [] []) (λ m. m ≡ Done 7 [])
+by_the_laws : Comes F Anything 1 (8 + (1 + 3 + 1 + 1 + 3 + 3) + 2) (Go none 69632 none [] []) (λ m. m ≡ Done 7 [])
 unfolding step
-by_the_laws = ends program F env 0x7FF00000 0x20000 69632 69712 none none [] laid (λ k c e. cc) 6 7 [] [] over rooms
+by_the_laws = ends program F env 0x7FF00000 0x20000 69632 69720 none none [] laid (λ k c e. cc) 6 7 [] [] over rooms
 
 -- .. and so it does
-by_running : light_run F 20 (Go none 69632 none [] []) ≡ Done 7 []
+by_running : light_run F 22 (Go none 69632 none [] []) ≡ Done 7 []
 by_running = refl
 
 -- ---- the call within it: from where main calls to where plus_two returns
@@ -244,4 +244,4 @@ stays_within (suc (suc k)) le = let z : k ≡ 0 = omega (arith, le) in subst (λ
 call_keeps : (r b : ℕ → ℕ) → Matched G at_call r (address G 0 1) b → Comes F Anything 1 (3 + (1 + 1) + 3) (Go r (address G 0 1) b [] []) (IsBack G r at_return (address G 0 2))
 unfolding step
 call_keeps r b m =
-    each_call_keeps G at_call at_return 1 2 r b (is_ready program F env 0x7FF00000 0x20000 69632 69712 none none laid) m (λ k c e. cc) refl comes_to_return refl refl inner_rooms stays_within
+    each_call_keeps G at_call at_return 1 2 r b (is_ready program F env 0x7FF00000 0x20000 69632 69720 none none laid) m (λ k c e. cc) refl comes_to_return refl refl inner_rooms stays_within

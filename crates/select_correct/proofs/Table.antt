@@ -19,7 +19,7 @@ use Rattle.select.specs.declared.places.Source.TheVariants as source
 use Rattle.select.specs.declared.places.Home.{Home}
 use Rattle.select.specs.declared.places.Home.TheVariants as home
 use Rattle.select.specs.Program.{calls_are_near}
-use Rattle.select.specs.Selected.{source_of, home_of, register_of, made_in, machine_of, constant_form, log2_of, byte_home, return_home, calls, is_same, skips_nothing}
+use Rattle.select.specs.Selected.{is_near_gp, source_of, home_of, register_of, made_in, machine_of, constant_form, log2_of, byte_home, return_home, calls, is_same, skips_nothing}
 use Rattle.select_correct.specs.Costs.{call_cost, far_cost, word_cost, constant_cost, address_cost, set_cost, fetch_cost, keep_cost, into_cost, move_cost, form_cost, second_cost, ending_cost, compute_cost, narrow_cost, reach_cost, reference_cost, product_cost, scale_cost, frame_cost, far_frame, saved_cost, opening_cost, step_cost, most_at, most_if, most_next, most_spent, SpentIsMore, far_source, far_home, far_location, far_saved, RowsAreFew}
 use Rattle.select_correct.proofs.Fits.{function_fits}
 
@@ -107,12 +107,12 @@ move_near (home.Register r) x = omega (arith, into_near x)
 move_near (home.Frame o) x = omega (arith, fetch_near x)
 
 reach_near : (f : Function) (l : Location) → reach_cost f l ≤ 2 + far_location f l
-reach_near f (location.Statics o) = omega arith
+reach_near f (location.Statics o) = choice_most (is_near_gp o) 2
 reach_near f (location.Frame o) = omega arith
 reach_near f (location.At x) = fetch_near (source_of f x)
 
 reference_near : (f : Function) (d : Home) (l : Location) → reference_cost f d l ≤ 3 + (far_location f l + far_home d)
-reference_near f d (location.Statics o) = omega (arith, keep_near d)
+reference_near f d (location.Statics o) = omega (arith, one_or_more (is_near_gp o) 2 (omega arith), keep_near d)
 reference_near f d (location.Frame o) = omega (arith, keep_near d, address_near (area_home f + o))
 reference_near f d (location.At x) = move_near d (source_of f x)
 
@@ -179,12 +179,12 @@ move_most (home.Register r) x = omega (arith, into_most x)
 move_most (home.Frame o) x = omega (arith, fetch_most x, far_most o)
 
 reach_most : (f : Function) (l : Location) → reach_cost f l ≤ 3
-reach_most f (location.Statics o) = omega arith
+reach_most f (location.Statics o) = omega (arith, choice_most (is_near_gp o) 2)
 reach_most f (location.Frame o) = omega (arith, far_most (area_home f + o))
 reach_most f (location.At x) = fetch_most (source_of f x)
 
 reference_most : (f : Function) (d : Home) (l : Location) → reference_cost f d l ≤ 6
-reference_most f d (location.Statics o) = omega (arith, keep_most d)
+reference_most f d (location.Statics o) = omega (arith, one_or_more (is_near_gp o) 2 (omega arith), keep_most d)
 reference_most f d (location.Frame o) = omega (arith, keep_most d, address_most (area_home f + o))
 reference_most f d (location.At x) = move_most d (source_of f x)
 

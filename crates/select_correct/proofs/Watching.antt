@@ -66,6 +66,7 @@ module _ (G : Ground) (sp ra : ℕ) (file : ℕ → ℕ) where
         sp = m.sp;
         at_is = m.at_is;
         sp_is = m.sp_is;
+        gp_is = m.gp_is;
         low = m.low;
         bytes = m.bytes;
         frame = frame_watched f s.frame.cells s.frame.area b m.sp (file_of r) m.frame;
@@ -91,7 +92,7 @@ module _ (G : Ground) (s : State) (r b : ℕ → ℕ) (ready : Ready G) (m : Mat
   comes_back r0 e2 ef [] st eb some e = absurd (omega (arith, some))
   comes_back r0 e2 ef (w ∷ ws) st eb some e =
       let q = st.0.seen eb in
-      leaves G s r b ready m (IsBack G r0 s G.watch_ra) e st.0.aligned st.0.small (λ r2 es es12 e10.
+      leaves G s r b ready m (IsBack G r0 s G.watch_ra) e st.0.aligned st.0.small (λ r2 es es12 e10 e3.
       comes_now G.machine Anything 0 _ (IsBack G r0 s G.watch_ra) tt (q.0, es ∙ (eb ∙ e2), λ j. es12 j ∙ (q.1 j ∙ ef j), λ v h. e10 ∙ (m.temporaries 0 v h).2, refl, refl))
 
 module _ (G : Ground) (ready : Ready G) where

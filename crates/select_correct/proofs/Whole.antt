@@ -13,7 +13,7 @@ use Rattle.select_exec.proofs.Words.{with_other}
 use Rattle.select_exec.proofs.Steps.{comes_now, comes_by, comes_some, comes_then, on_immediate, on_exit}
 use Rattle.select_exec.proofs.ItemSteps.{on_loads, on_call}
 use Rattle.select_exec.proofs.Placing.{stands_parts}
-use Rattle.select.specs.Selected.{kept, exit}
+use Rattle.select.specs.Selected.{kept, exit, gp_offset}
 use Rattle.select.specs.Program.{functions_items, far_items, shorten_calls, are_near}
 use Rattle.select_correct.specs.Matches.{HasRoom, IsBelow, Ground, ArgumentsShow, Waits, Matches, address, argument_at, file_of}
 use Rattle.select_correct.specs.Costs.{least_spent, opening_cost, most_start, most_spent}
@@ -50,7 +50,7 @@ entries G g temporaries arguments statics input trace r at b ready known q room 
     subst (λ x. Comes G.machine Anything 1 (opening_cost f) (Go r x b input trace) Q) (sym q.at_is)
     (enters G.machine G.env G.data_at input trace Q f sp win (record { reads = λ a lo hi. ready.stack_read a (omega (arith, lo, win.low)) hi; writes = λ a lo hi. ready.stack_written a (omega (arith, lo, win.low)) hi }) G.sp (G.env g) (address G g 0) r b fit.all up ready.top fit.small q.sp_is q.small small q.bytes (ready.entries g known) (λ r2 b2 o.
     comes_now G.machine Anything 0 _ Q tt
-    (opened_matched G ready g sp temporaries arguments [] statics input trace r b r2 b2 win q.small q.registers xs q.globals waits o, refl, refl)))
+    (opened_matched G ready g sp temporaries arguments [] statics input trace r b r2 b2 win q.gp_is q.small q.registers xs q.globals waits o, refl, refl)))
 
 pub convention : ConventionKept
 convention G f temporaries arguments statics input trace r at b ready known q bytes n status left later over rooms =
@@ -63,6 +63,13 @@ convention G f temporaries arguments statics input trace r at b ready known q by
     subst (λ x. Comes G.machine Anything (1 + least_spent p n s) (opening_cost (function_at p f) + most_spent p n s) here (Matches G x)) over two in
     record { j = all.j; some = omega (arith, all.some); within = all.within; kept = all.kept; good = all.good }
 
+-- the items before main's call write none of s0 to s11
+pub start_keeps : (r : ℕ → ℕ) (gp ra j : ℕ) → with_reg (with_reg (with_reg r 2 stack_end) 3 gp) 1 ra (kept j) ≡ r (kept j)
+start_keeps r gp ra j =
+    let above = kept_above j in
+    let r1 = with_reg r 2 stack_end in
+    with_other (with_reg r1 3 gp) 1 ra (kept j) (λ x. omega (arith, x, above)) ∙ (with_other r1 3 gp (kept j) (λ x. omega (arith, x, above)) ∙ with_other r 2 stack_end (kept j) (λ x. omega (arith, x, above)))
+
 pub begins : BeginsFollow
 begins p F env floor data_at base e r b input q room =
     let G = ground_at p F env floor data_at base r b in
@@ -70,16 +77,19 @@ begins p F env floor data_at base e r b input q room =
     let Q : Light → Type 0 = Matches G (running (start p input)) in
     let st = q.stands in
     let c = st.1 in
-    let call = st.2.1 in
-    let ra = st.2.0 in
+    let points = st.2.1 in
+    let call = st.2.2.1 in
+    let ra = st.2.2.0 in
     let r1 = with_reg r 2 stack_end in
-    let r2 = with_reg r1 1 ra in
-    let file : (j : ℕ) → file_of r2 j ≡ file_of r j = λ j. with_other r1 1 ra (kept j) (λ x. omega (arith, x, kept_above j)) ∙ with_other r 2 stack_end (kept j) (λ x. omega (arith, x, kept_above j)) in
-    let entered : Entered G p.main unset unset (slice_get p.statics) r2 (env p.main) b = record {
+    let r2 = with_reg r1 3 (data_at + gp_offset) in
+    let r3 = with_reg r2 1 ra in
+    let file : (j : ℕ) → file_of r3 j ≡ file_of r j = start_keeps r (data_at + gp_offset) ra in
+    let entered : Entered G p.main unset unset (slice_get p.statics) r3 (env p.main) b = record {
       at_is = refl;
       sp_is = refl;
+      gp_is = refl;
       aligned = refl;
-      ra_is = omega (arith, c.next_is, call.next_is);
+      ra_is = omega (arith, c.next_is, points.next_is, call.next_is);
       file_is = file;
       small = λ j. subst (λ x. x < 2 ^ 32) (sym (file j)) (q.small j);
       bytes_are = λ k le. refl;
@@ -90,10 +100,11 @@ begins p F env floor data_at base e r b input q room =
       unwatched = omega arith;
     } in
     let opened = opening_cost (function_at p p.main) in
-    comes_by F Anything (suc (suc (suc (suc opened)))) (4 + opened) (Go r base b input []) Q (omega arith)
-    (on_loads F Anything Q (suc (suc opened)) r base b input [] tt 2 stack_end st.0 refl c tt
-    (on_call F Anything Q opened r1 st.0 b input [] tt (env p.main) ra (ready.entry_aligned p.main ready.sound.has_main) call tt
-    (entries G p.main unset unset (slice_get p.statics) input [] r2 (env p.main) b ready ready.sound.has_main entered room)))
+    comes_by F Anything (suc (suc (suc (suc (suc (suc opened)))))) (6 + opened) (Go r base b input []) Q (omega arith)
+    (on_loads F Anything Q (suc (suc (suc (suc opened)))) r base b input [] tt 2 stack_end st.0 refl c tt
+    (on_loads F Anything Q (suc (suc opened)) r1 st.0 b input [] tt 3 (data_at + gp_offset) st.2.0 refl points tt
+    (on_call F Anything Q opened r2 st.2.0 b input [] tt (env p.main) ra (ready.entry_aligned p.main ready.sound.has_main) call tt
+    (entries G p.main unset unset (slice_get p.statics) input [] r3 (env p.main) b ready ready.sound.has_main entered room))))
 
 -- after main's call, or where the program has exited
 exits : (G : Ground) (status : ℕ) (left : List ℕ) (trace : List Event) (e : ℕ) → Stands G.machine.text G.env G.data_at exit G.ra e → (m : Light) → Matches G (ended status left trace) m → Comes G.machine Anything 0 2 m (λ x. x ≡ Done status trace)
@@ -122,10 +133,10 @@ ends p F env floor data_at base e r b input q bytes n status left trace over roo
     let s = start p input in
     let P : Light → Type 0 = λ x. x ≡ Done status trace in
     let here = Go r base b input [] in
-    let ra = q.stands.2.0 in
-    let ra_is : ra ≡ base + 16 = omega (arith, q.stands.1.next_is, q.stands.2.1.next_is) in
-    let parts = stands_parts F.text env data_at exit (shorten_calls (are_near (far_items p)) (functions_items 0 (length p.functions) p.functions)) ra e q.stands.2.2 in
-    let tail : Stands F.text env data_at exit (base + 16) parts.0 = subst (λ x. Stands F.text env data_at exit x parts.0) ra_is parts.1 in
+    let ra = q.stands.2.2.0 in
+    let ra_is : ra ≡ base + 24 = omega (arith, q.stands.1.next_is, q.stands.2.1.next_is, q.stands.2.2.1.next_is) in
+    let parts = stands_parts F.text env data_at exit (shorten_calls (are_near (far_items p)) (functions_items 0 (length p.functions) p.functions)) ra e q.stands.2.2.2 in
+    let tail : Stands F.text env data_at exit (base + 24) parts.0 = subst (λ x. Stands F.text env data_at exit x parts.0) ra_is parts.1 in
     let two = comes_to p F env floor data_at base e r b input q bytes n rooms in
     let all : Comes F Anything (1 + least_spent p n s + 0) (most_start p + most_spent p n s + 2) here P =
     comes_then F Anything (most_start p + most_spent p n s) 2 here (Matches G (run p n s)) P two (λ m k. exits G status left trace parts.0 tail m (subst (λ x. Matches G x m) over k)) in

@@ -93,6 +93,18 @@ byte_of_a_word = refl
 load_by_a_register : row near (instruction.Load width.Word (target.Cell 0) (location.At (operand.Cell 1))) ≡ 1
 load_by_a_register = refl
 
+store_in_the_first_statics : row near (instruction.Store width.Word (operand.Cell 0) (location.Statics 4095)) ≡ 1
+store_in_the_first_statics = refl
+
+store_in_further_statics : row near (instruction.Store width.Word (operand.Cell 0) (location.Statics 4096)) ≡ 3
+store_in_further_statics = refl
+
+address_of_the_first_statics : row near (instruction.Address (target.Cell 0) (location.Statics 0)) ≡ 1
+address_of_the_first_statics = refl
+
+address_of_further_statics : items near (instruction.Address (target.Cell 0) (location.Statics 4096)) ≡ 4 * 2
+address_of_further_statics = refl
+
 store_in_the_frame : row near (instruction.Store width.Byte (operand.Constant 7) (location.Frame 3)) ≡ 2
 store_in_the_frame = refl
 
@@ -120,7 +132,7 @@ call_with_none = refl
 return_with_none : row plain instruction.Return ≡ 3
 return_with_none = refl
 
-starts_with_none : most_start program ≡ 6
+starts_with_none : most_start program ≡ 8
 starts_with_none = refl
 
 -- one less where the function calls none

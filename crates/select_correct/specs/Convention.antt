@@ -12,7 +12,7 @@ use Rattle.sim.specs.Runs as sim
 use Rattle.sim.specs.Runs.{World, Running, rvrun}
 use Rattle.select_exec.specs.Whole.{Permits, fixed}
 use Rattle.select_exec.specs.Worlds.{Registers, world}
-use Rattle.select.specs.Selected.{kept}
+use Rattle.select.specs.Selected.{kept, gp_offset}
 use Rattle.select_correct.specs.Matches.{Ground, HasRoom, first_of}
 use Rattle.select_correct.specs.Laws.{AreBytes}
 use Rattle.select_correct.specs.Runs.{Laid, StandsWith, ground_at}
@@ -24,11 +24,12 @@ passed data_at (reference zero o) = (data_at + o) % 2 ^ 32
 passed data_at (reference (suc l) o) = (stack_end - suc l + o) % 2 ^ 32
 
 -- A function has been entered in the state c: the machine is at its first instruction, the address to return to is in ra (x1), the stack pointer (x2) is a
--- multiple of 16. The first eight arguments are in a0 to a7 (x10 to x17), and the further ones on the stack, a word each, from the stack pointer up.
+-- multiple of 16, and gp (x3) is where the program's start has put it. The first eight arguments are in a0 to a7 (x10 to x17), and the further ones on the stack, a word each, from the stack pointer up.
 pub record AtEntry (data_at entry back : ℕ) (c : State) (v : World) : Type 0 where
   pub pc : v.machine.pc ≡ entry
   pub ra : register v.machine 1 ≡ back
   pub aligned : register v.machine 2 % 16 ≡ 0
+  pub gp : register v.machine 3 ≡ data_at + gp_offset
   pub registers : (k : ℕ) (x : Value) → c.temporaries k ≡ Some x → (k < 8) × (register v.machine (10 + k) ≡ passed data_at x)
   pub stack : (k : ℕ) (x : Value) → c.arguments (8 + k) ≡ Some x → word_at v.machine.space.byte (register v.machine 2 + 4 * k) ≡ passed data_at x
   pub trace : v.trace ≡ c.trace
@@ -101,4 +102,4 @@ MainKeepsConvention =
     → (p : Program) (env : ℕ → ℕ) (floor data_at base e : ℕ) (r b : ℕ → ℕ) (list input : List ℕ)
     → Laid p (fixed P b) env floor data_at base e r b → Registers list r → AreBytes input
     → HasRoom (ground_at p (fixed P b) env floor data_at base r b) (running (start p input))
-    → KeepsConvention p env data_at (λ k. rvrun k (world P list base b input [])) (env p.main) (base + 16) (start p input) (HasRoomFor (ground_at p (fixed P b) env floor data_at base r b) (start p input))
+    → KeepsConvention p env data_at (λ k. rvrun k (world P list base b input [])) (env p.main) (base + 24) (start p input) (HasRoomFor (ground_at p (fixed P b) env floor data_at base r b) (start p input))

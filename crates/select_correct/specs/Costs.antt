@@ -19,7 +19,7 @@ use Rattle.select.specs.declared.places.Source.TheVariants as source
 use Rattle.select.specs.declared.places.Home.{Home}
 use Rattle.select.specs.declared.places.Home.TheVariants as home
 use Rattle.select.specs.Program.{calls_are_near}
-use Rattle.select.specs.Selected.{source_of, home_of, register_of, made_in, machine_of, constant_form, log2_of, byte_home, return_home, calls, entry, items_of, shortened}
+use Rattle.select.specs.Selected.{is_near_gp, source_of, home_of, register_of, made_in, machine_of, constant_form, log2_of, byte_home, return_home, calls, entry, items_of, shortened}
 
 -- ---- at least
 
@@ -119,13 +119,14 @@ narrow_cost conversion.ToHalf = 2
 narrow_cost conversion.ToSignedHalf = 2
 narrow_cost conversion.ToTruth = 1
 
+-- an access to a static counts from gp, or from its address
 abbrev pub reach_cost : Function → Location → ℕ
-reach_cost f (location.Statics o) = 2
+reach_cost f (location.Statics o) = if is_near_gp o then 0 else 2
 reach_cost f (location.Frame o) = far_cost (area_home f + o)
 reach_cost f (location.At x) = fetch_cost (source_of f x)
 
 abbrev pub reference_cost : Function → Home → Location → ℕ
-reference_cost f d (location.Statics o) = 2 + keep_cost d
+reference_cost f d (location.Statics o) = (if is_near_gp o then 1 else 2) + keep_cost d
 reference_cost f d (location.Frame o) = address_cost (area_home f + o) + keep_cost d
 reference_cost f d (location.At x) = move_cost d (source_of f x)
 
@@ -208,10 +209,10 @@ most_spent p (suc n) s = most_next p s + cost_on (step p s) (most_spent p n)
 
 -- the items before main's call, the call, and main's entry
 abbrev pub most_start : Program → ℕ
-most_start p = 4 + opening_cost (function_at p p.main)
+most_start p = 6 + opening_cost (function_at p p.main)
 
 abbrev pub start_cost : ℕ
-start_cost = 4 + entry_cost
+start_cost = 6 + entry_cost
 
 -- never more than by the table of `frames`, which counts all as far and twelve words as resident
 abbrev pub SpentIsMore : Type 0

@@ -9,7 +9,7 @@ use Rattle.frames_code.specs.Sound.{IsSoundProgram, places_of}
 use Rattle.frames_code.specs.Run.{Value, word, reference, Values, Bytes, Frame, State, Progress, running, ended, stuck, function_at, bytes_of}
 use Rattle.select_exec.specs.Light.{Fixed, Light, Go, Done, Fell}
 use Rattle.select.specs.Program.{calls_are_near}
-use Rattle.select.specs.Selected.{kept, calls, items_of, entry, return_home, shortened}
+use Rattle.select.specs.Selected.{gp_offset, kept, calls, items_of, entry, return_home, shortened}
 
 -- A program whose items are placed, the lowest address of the stack that may be used, and the state at the entry of its outermost call: the stack pointer, the
 -- address to return to, s0 to s11, and the bytes from the stack pointer up. And a waiting call, which a statement may be about: where its frame begins (2^32:
@@ -35,6 +35,10 @@ first_of p f = length p.functions + places_of (take f p.functions)
 -- where instruction k of a function begins
 abbrev pub address : Ground → ℕ → ℕ → ℕ
 address G f k = G.env (first_of G.program f + k)
+
+-- what gp has from the program's start on
+abbrev pub gp_of : Ground → ℕ
+gp_of G = G.data_at + gp_offset
 
 -- a reference's address is that of its list, whatever is active
 abbrev pub shown : Ground → Value → ℕ
@@ -107,6 +111,7 @@ pub record Matched (G : Ground) (s : State) (r : ℕ → ℕ) (at : ℕ) (b : �
   pub sp : ℕ
   pub at_is : at ≡ address G s.frame.function s.frame.at
   pub sp_is : r 2 ≡ sp
+  pub gp_is : r 3 ≡ gp_of G
   pub low : G.floor ≤ sp
   pub bytes : (k : ℕ) → b k < 2 ^ 8
   pub frame : FrameHolds G (function_at G.program s.frame.function) s.frame.cells s.frame.area b sp (file_of r)

@@ -15,7 +15,7 @@ use Rattle.select_exec.specs.Whole.{Permits, fixed}
 use Rattle.select_exec.specs.Worlds.{Registers, world}
 use Rattle.select.specs.Selected.{kept}
 use Rattle.select.specs.Program.{program_items}
-use Rattle.select_correct.specs.Matches.{Ground, Ready, Matched, Matches, HasRoom, IsBelow, Holds, Small, address, first_of, file_of, shown}
+use Rattle.select_correct.specs.Matches.{Ground, Ready, Matched, Matches, HasRoom, IsBelow, Holds, Small, address, first_of, file_of, gp_of, shown}
 use Rattle.frames_code.specs.Costs.{next_of}
 use Rattle.select_correct.specs.Costs.{least_if, least_spent, opening_cost, step_cost, most_next, most_spent, most_start}
 use Rattle.select_correct.specs.Laws.{Anything, AreBytes}
@@ -42,11 +42,12 @@ Progresses = (p : Program) (n : ℕ) (s t : State) → run p n s ≡ running t �
 
 -- ---- a function that is called from outside (RISC-V ELF psABI, "Integer Calling Convention")
 
--- The state at a call: arguments in a0 to a7, the further ones from the stack pointer up, and the stack pointer, the address to return to, s0 to
--- s11 and the bytes from the stack pointer up as `Returned` has them.
+-- The state at a call: arguments in a0 to a7, the further ones from the stack pointer up, gp as the program's start has set it, and the stack pointer, the
+-- address to return to, s0 to s11 and the bytes from the stack pointer up as `Returned` has them.
 pub record Entered (G : Ground) (f : ℕ) (temporaries arguments : Values) (statics : Bytes) (r : ℕ → ℕ) (at : ℕ) (b : ℕ → ℕ) : Type 0 where
   pub at_is : at ≡ G.env f
   pub sp_is : r 2 ≡ G.sp
+  pub gp_is : r 3 ≡ gp_of G
   pub aligned : G.sp % 16 ≡ 0
   pub ra_is : r 1 ≡ G.ra
   pub file_is : (j : ℕ) → file_of r j ≡ G.file j
@@ -123,7 +124,7 @@ ground_at p F env floor data_at base r b = record {
   floor = floor;
   data_at = data_at;
   sp = stack_end;
-  ra = base + 16;
+  ra = base + 24;
   file = file_of r;
   bytes = b;
   watch_sp = 2 ^ 32;

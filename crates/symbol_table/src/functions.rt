@@ -50,7 +50,7 @@ pub struct Object {
     pub object_type: Option<VariableType>,
 }
 
-/// An instruction that loads the address of a byte in the data, and that address.
+/// An instruction that reaches a byte of the data, or ends the load of its address, and that address.
 #[derive(Clone, Copy, Debug, PartialEq, Eq)]
 pub struct DataLoad {
     pub at: u32,
