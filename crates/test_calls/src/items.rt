@@ -54,7 +54,7 @@ fn next_item(kind: u8, words: &mut Words<'_>) -> Option<Item> {
         b'C' => Some(Item::Call {
             to: next_label(words),
         }),
-        b'N' => Some(Item::NearCall {
+        b'n' => Some(Item::NearCall {
             to: next_label(words),
         }),
         b'K' => Some(Item::Constant {

@@ -237,4 +237,4 @@ def called(kind):
 
 
 # so many rows there are of each
-KINDS = [(called(kind), count) for kind, count in [(word_rows, 454), (item_rows, 80), (memory_rows, 3), (run_rows, 10), (call_rows, 10), (port_rows, 4)]]
+KINDS = [(called(kind), count) for kind, count in [(word_rows, 454), (item_rows, 89), (memory_rows, 3), (run_rows, 10), (call_rows, 10), (port_rows, 4)]]
