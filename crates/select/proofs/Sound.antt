@@ -143,7 +143,7 @@ module _ (n : ℕ) where
   narrow_un conversion.ToTruth rd a = tt
 
   static_un : (rd o : ℕ) → o < 0x10000000 → Unmarked n (static_address rd o ∷ [])
-  static_un rd o fit = one_of (is_near_gp o) _ _ tt fit
+  static_un rd o fit = one_of (is_near_gp o) _ _ tt (fit, tt)
 
   reach_un : (f : Function) (l : Location) → LocationFits f l → Unmarked n (reach f l)
   reach_un f (location.Statics o) fit = either (is_near_gp o) [] _ tt (fit, tt)

@@ -64,7 +64,7 @@ pub fn is_near_gp(offset: usize) -> bool
 
 /// How far it is then from gp, -2048 to 2047 bytes.
 pub fn from_gp(offset: usize) -> Short
-    requires { offset < 0x10000000 }
+    requires { offset < 0x1000 }
     ensures { result ≡ selected.from_gp offset }
 {
     Short::new((offset as u32).wrapping_sub(GP_OFFSET))
