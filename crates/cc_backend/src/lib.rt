@@ -8,6 +8,7 @@ mod generating;
 mod homes;
 mod image;
 mod laws;
+mod passes;
 mod sizes;
 
 pub use describing::{CodeMap, CodeRow, DataObject, FunctionCode, Reference, ScopeCode, code_map};
@@ -19,4 +20,8 @@ pub use laws::{
     frames_are_weighed, image_calls_keep, image_calls_keep_convention, image_ends, image_goes_on,
     image_main_keeps_convention, image_simulates_flat, program_is_short, renumbered_simulates_flat,
     rows_fit, simpler_simulates_flat, steps_are_as_meant, tac_simulates_program, units_are_small,
+};
+pub use passes::{
+    Pass, Pass, Pass, Pass, Pass, flat_program_after, flat_program_after, flat_program_after,
+    flat_program_after, flat_program_after,
 };

@@ -310,6 +310,7 @@ fn show<'a>(inner: &ArgMatches<'a>) -> Command<'a> {
             Some("typed") => ShownForm::Typed,
             Some("tac") => ShownForm::Tac,
             Some("flat") => ShownForm::Flat,
+            Some("passes") => ShownForm::Passes,
             Some("items") => ShownForm::Items,
             _ => ShownForm::Tokens,
         },

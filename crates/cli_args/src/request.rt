@@ -87,6 +87,7 @@ pub enum ShownForm {
     Typed,
     Tac,
     Flat,
+    Passes,
     Items,
 }
 

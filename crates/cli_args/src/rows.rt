@@ -56,9 +56,9 @@ pub const FORM: Row = Row {
     short: None,
     long: None,
     value: None,
-    kind: Kind::Choice(&["tokens", "tree", "typed", "tac", "flat", "items"]),
+    kind: Kind::Choice(&["tokens", "tree", "typed", "tac", "flat", "passes", "items"]),
     default: None,
-    help: "Which form: the tokens after preprocessing, the syntax tree, the typed program, three-address code, flat code, or the items that the file is assembled from",
+    help: "Which form: the tokens after preprocessing, the syntax tree, the typed program, three-address code, flat code, flat code after each of its passes, or the items that the file is assembled from",
     apart: &[],
 };
 

@@ -45,6 +45,7 @@ fn form_of(form: ShownForm) -> Form {
         ShownForm::Typed => Form::Typed,
         ShownForm::Tac => Form::Tac,
         ShownForm::Flat => Form::Flat,
+        ShownForm::Passes => Form::Passes,
         ShownForm::Items => Form::Items,
     }
 }

@@ -2,6 +2,7 @@
 #![tactic(auto)]
 
 mod items_form;
+mod passes;
 mod showing;
 
 pub use forms_text::Style;

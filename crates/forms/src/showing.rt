@@ -3,6 +3,7 @@
 ghost use Rattle.std.specs.Prelude.{◌≡◌, []};
 
 use crate::items_form::items_text;
+use crate::passes::passes_of;
 use cc::{StackSize, checked_program};
 use cc_backend::flat_program;
 use forms_text::{Style, flat_text, tac_text, tokens_text, tree_text, typed_text};
@@ -25,6 +26,8 @@ pub enum Form {
     Tac,
     /// Flat code, with the words that are used most in front.
     Flat,
+    /// Flat code after each of its passes.
+    Passes,
     /// The items that the file is assembled from.
     Items,
 }
@@ -43,7 +46,7 @@ pub fn show(
     match form {
         Form::Tokens => show_tokens(alloc, set, main, style),
         Form::Tree => show_tree(alloc, set, main, style),
-        Form::Typed | Form::Tac | Form::Flat | Form::Items => {
+        Form::Typed | Form::Tac | Form::Flat | Form::Passes | Form::Items => {
             show_typed(alloc, set, main, stack, form, style)
         }
     }
@@ -86,6 +89,7 @@ fn show_typed(
         Form::Typed => typed_text(alloc, &program, &names, style),
         Form::Tac => tac_text(alloc, &program, &names, style),
         Form::Items => items_text(alloc, &program, &names, stack, style),
+        Form::Passes => passes_of(alloc, &program, &names, style),
         _ => match flat_program(alloc, &program) {
             Ok(code) => flat_text(alloc, &program, &code, &names, style),
             Err(error) => Err(error),

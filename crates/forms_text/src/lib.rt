@@ -11,5 +11,5 @@ mod value_form;
 mod words;
 mod writer;
 
-pub use texts::{flat_text, tac_text, tokens_text, tree_text, typed_text};
+pub use texts::{Passed, flat_text, passes_text, tac_text, tokens_text, tree_text, typed_text};
 pub use writer::{Style, Writer};

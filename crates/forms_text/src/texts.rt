@@ -72,3 +72,30 @@ pub fn flat_text(
     put_flat(alloc, &mut out, program, code)?;
     out.into_text()
 }
+
+/// The flat code of a program after a pass, and the name of the pass.
+#[derive(Drop)]
+pub struct Passed {
+    pub pass: &'static str,
+    pub code: FlatProgram,
+}
+
+/// The flat code of a program after each of these passes, as a node of the pass whose part is the code.
+pub fn passes_text(
+    alloc: Global,
+    program: &Program,
+    passed: &[Passed],
+    names: &Names,
+    style: Style,
+) -> Result<String, AllocError> {
+    let mut out = Writer::new(alloc, names, style);
+    out.begin("passes")?;
+    for after in passed {
+        out.begin("after")?;
+        out.word("name", after.pass)?;
+        put_flat(alloc, &mut out, program, &after.code)?;
+        out.end()?;
+    }
+    out.end()?;
+    out.into_text()
+}

@@ -22,7 +22,7 @@ use Rattle.select_exec.proofs.Standing.{stands_parts}
 use Rattle.select.specs.declared.places.Home.{Home}
 use Rattle.select.specs.Selected.{is_near_gp, from_gp, static_address, add_to, source_of, home_of, made_in, keep, address_of}
 use Rattle.select_correct.specs.Matches.{gp_of, Ground, Matched, Matches, Ready, address, shown}
-use Rattle.select_correct.specs.Costs.{address_cost, keep_cost, move_cost, row}
+use Rattle.select_correct.specs.Costs.{static_cost, address_cost, keep_cost, move_cost, row}
 use Rattle.select_correct.specs.Laws.{Anything, Follows}
 use Rattle.select_correct.proofs.Registers.{off_none, off_last, only_one}
 use Rattle.select_correct.proofs.Places.{onward, addresses}
@@ -89,7 +89,7 @@ module _ (G : Ground) (s : State) (r b : ℕ → ℕ) (ready : Ready G) (m : Mat
 
   -- an address in the statics
   statics_at : (d : Target) (o : ℕ) → TargetFits (fn G s r b ready m) d → (hm : Home) → home_of (fn G s r b ready m) d ≡ hm → Stands G.machine.text G.env G.data_at (static_address (made_in hm) o ∷ keep hm) start end
-      → Comes G.machine Anything 1 ((if is_near_gp o then 1 else 2) + keep_cost hm) (Go r start b s.input s.trace) (Matches G (gives d s (reference 0 o)))
+      → Comes G.machine Anything 1 (static_cost o + keep_cost hm) (Go r start b s.input s.trace) (Matches G (gives d s (reference 0 o)))
   statics_at d o fit hm eh st =
       let v = reference 0 o in
       let Q : Light → Type 0 = Matches G (gives d s v) in
@@ -107,8 +107,8 @@ module _ (G : Ground) (s : State) (r b : ℕ → ℕ) (ready : Ready G) (m : Mat
       let near : o < 0x1000 = ltb-true o 0x1000 t in
       let small : w < 2 ^ 32 = omega (arith, near, ready.data_below, ready.floor_below) in
       let sum : (r 3 + from_gp o) % 2 ^ 32 ≡ w = ap (λ x. (x + from_gp o) % 2 ^ 32) m.gp_is ∙ from_gp_reaches G ready o near in
-      let count : (if is_near_gp o then 1 else 2) ≡ 1 = rw t refl in
-      comes_by G.machine Anything (suc (keep_cost hm)) ((if is_near_gp o then 1 else 2) + keep_cost hm) (Go r start b s.input s.trace) Q (omega (arith, count))
+      let count : static_cost o ≡ 1 = rw t refl in
+      comes_by G.machine Anything (suc (keep_cost hm)) (static_cost o + keep_cost hm) (Go r start b s.input s.trace) Q (omega (arith, count))
       (on_immediate G.machine Anything Q (keep_cost hm) r start b s.input s.trace tt immediate_op.Add rd 3 (from_gp o) w one.1.0 sum
       (onward G.machine G.env G.data_at s.input s.trace Q {a0 = 0} (keep_cost hm) (start + 4) one.0 r2 b (sym one.1.1)
       (finishes G s r b ready m unset none_left d v fit (omega (arith, is small, small)) hm eh r2 only (held small) one.0 one.2))))
@@ -117,8 +117,8 @@ module _ (G : Ground) (s : State) (r b : ℕ → ℕ) (ready : Ready G) (m : Mat
       let q = far.1 in
       let small : w < 2 ^ 32 = omega (arith, q.value) in
       let none : eqb rd 0 ≡ false = grind (arith, nat_tests) in
-      let count : (if is_near_gp o then 1 else 2) ≡ 2 = rw t refl in
-      comes_by G.machine Anything (suc (suc (keep_cost hm))) ((if is_near_gp o then 1 else 2) + keep_cost hm) (Go r start b s.input s.trace) Q (omega (arith, count))
+      let count : static_cost o ≡ 2 = rw t refl in
+      comes_by G.machine Anything (suc (suc (keep_cost hm))) (static_cost o + keep_cost hm) (Go r start b s.input s.trace) Q (omega (arith, count))
       (on_loads G.machine Anything Q (keep_cost hm) r start b s.input s.trace tt rd w far.0 none q tt
       (finishes G s r b ready m unset none_left d v fit (omega (arith, is small, small)) hm eh r2 only (held small) far.0 far.2)))
 

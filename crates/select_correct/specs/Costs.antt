@@ -119,6 +119,10 @@ narrow_cost conversion.ToHalf = 2
 narrow_cost conversion.ToSignedHalf = 2
 narrow_cost conversion.ToTruth = 1
 
+-- the address of a static, from gp or alone
+abbrev pub static_cost : ℕ → ℕ
+static_cost o = if is_near_gp o then 1 else 2
+
 -- an access to a static counts from gp, or from its address
 abbrev pub reach_cost : Function → Location → ℕ
 reach_cost f (location.Statics o) = if is_near_gp o then 0 else 2
@@ -126,7 +130,7 @@ reach_cost f (location.Frame o) = far_cost (area_home f + o)
 reach_cost f (location.At x) = fetch_cost (source_of f x)
 
 abbrev pub reference_cost : Function → Home → Location → ℕ
-reference_cost f d (location.Statics o) = (if is_near_gp o then 1 else 2) + keep_cost d
+reference_cost f d (location.Statics o) = static_cost o + keep_cost d
 reference_cost f d (location.Frame o) = address_cost (area_home f + o) + keep_cost d
 reference_cost f d (location.At x) = move_cost d (source_of f x)
 

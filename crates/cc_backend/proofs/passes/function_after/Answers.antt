@@ -1,0 +1,12 @@
+use Rattle.typed_ast.specs.View as view
+use Rattle.tac_code.specs.Code as three_address
+use Rattle.cc_backend.proofs.FlatFunctions.{function_fits}
+use Rattle.cc_backend.proofs.passes.function_after.Goals as goal
+
+pub flatten_function-requires-clause-fits : goal.flatten_function-requires-clause-fits
+flatten_function-requires-clause-fits c =
+    (function_fits (view.program_of c.args.program.now) c.requires.ready c.requires.own.0 (view.function_of c.args.function.now) c.requires.own.1 c.args.is_main (three_address.function_of c.in_ok-code.code) c.in_ok-code.ensures).0
+
+pub flatten_function-requires-clause-code : goal.flatten_function-requires-clause-code
+flatten_function-requires-clause-code c =
+    (function_fits (view.program_of c.args.program.now) c.requires.ready c.requires.own.0 (view.function_of c.args.function.now) c.requires.own.1 c.args.is_main (three_address.function_of c.in_ok-code.code) c.in_ok-code.ensures).1
