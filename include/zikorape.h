@@ -109,7 +109,7 @@ uint32_t zk_list(const uint8_t *texts, size_t texts_length, const struct zk_file
 
 /* A form that the compiler makes of the program between its phases, as JSON: a node is an object with `node` (its kind), attributes, `file` and `line`
    where it has a place, and `parts`. `form`: 0 the tokens after preprocessing, 1 the syntax tree, 2 the typed program, 3 three-address code,
-   4 flat code, 5 the items that the file is assembled from; with another number the status is 256. */
+   4 flat code, 5 the items that the file is assembled from, 6 flat code after each of its passes; with another number the status is 256. */
 uint32_t zk_form(const uint8_t *texts, size_t texts_length, const struct zk_file *files, size_t files_length,
                  const uint8_t *main, size_t main_length, uint32_t form,
                  uint8_t *out, size_t out_length, uint8_t *message, size_t message_length, struct zk_sizes *sizes);

@@ -62,7 +62,7 @@ export interface Library {
   frames(files: Files, main: string): Answer;
   preprocess(files: Files, main: string): Answer;
   list(files: Files, main: string): Answer;
-  /** JSON: 0 tokens, 1 syntax tree, 2 typed program, 3 three-address code, 4 flat code, 5 the items that the file is assembled from. */
+  /** JSON: 0 tokens, 1 syntax tree, 2 typed program, 3 three-address code, 4 flat code, 5 the items that the file is assembled from, 6 flat code after each of its passes. */
   form(files: Files, main: string, form: number): Answer;
   interpret(files: Files, main: string, input?: Text, max?: number): Answer;
   /** The same run as JSON lines, from the tick `from` on; where the input is open (1), a read behind it is answered by the status 257. */

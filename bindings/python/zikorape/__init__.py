@@ -34,7 +34,7 @@ Putter = Union[Callable[[bytes], Any], BinaryIO, None]
 Event = Dict[str, Any]
 
 MAX = 1_000_000_000
-FORMS = ('tokens', 'tree', 'typed', 'tac', 'flat', 'items')
+FORMS = ('tokens', 'tree', 'typed', 'tac', 'flat', 'items', 'passes')
 IMAGES = ('binary', 'intel', 'verilog')
 STACK = 1 << 20
 GOES_ON, ENDED, TRAPPED, OUT_OF_MEMORY, WANTS_INPUT = 0, 1, 2, 3, 5

@@ -15,6 +15,7 @@ pub fn form_of(number: u32) -> Option<Form> {
         3 => Some(Form::Tac),
         4 => Some(Form::Flat),
         5 => Some(Form::Items),
+        6 => Some(Form::Passes),
         _ => None,
     }
 }

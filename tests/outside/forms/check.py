@@ -8,12 +8,13 @@ import os
 import subprocess
 import sys
 import tempfile
+import textwrap
 
 sys.path.insert(0, os.path.dirname(os.path.dirname(os.path.dirname(os.path.abspath(__file__)))))
 import harness
 
 CC = os.path.abspath(sys.argv[1])
-FORMS = ('tokens', 'tree', 'typed', 'tac', 'flat', 'items')
+FORMS = ('tokens', 'tree', 'typed', 'tac', 'flat', 'passes', 'items')
 checks = harness.Current()
 
 SMALL = '''#define TWO 2
@@ -216,6 +217,24 @@ def places(work):
     check('tac: numbers', all([int(line.split()[1]) for line in lines[1:]] == list(range(len(lines) - 1)) for lines in functions))
     status, out, err = cc(work, 'show', 'flat', 's.c')
     check('flat', status == 0 and 'GetByte' not in out and 'Return' in out, out[:200])
+    after_each_pass(work, out)
+
+
+def after_each_pass(work, flat):
+    """Three passes; the code after the last one is flat code, and each has the functions in order. A constant that the second pass propagates and a store
+    that it drops are gone behind it, and the third one alone has words in registers."""
+    put(work, 's.c', SMALL)
+    status, out, err = cc(work, 'show', 'passes', 's.c')
+    check('passes', (status, err) == (0, '') and out.startswith('passes\n'), err)
+    parts = [part.split('\n', 1) for part in out.split('\n  after ')[1:]]
+    check('passes: names', [name for name, _ in parts] == ['flattening', 'constant-propagation-and-dead-stores', 'register-allocation'], [name for name, _ in parts])
+    codes = [textwrap.dedent(code).strip('\n') for _, code in parts]
+    check('passes: the last is flat code', codes[-1] == flat.strip('\n'), first_difference(codes[-1], flat))
+    put(work, 'c.c', 'int main(void) { int a[2]; a[1] = 4; return a[1] * 8; }\n')
+    codes = [part.split('\n', 1)[1] for part in cc(work, 'show', 'passes', 'c.c')[1].split('\n  after ')[1:]]
+    check('passes: a subscript is computed', 'Element' in codes[0] and 'Element' not in codes[1], codes[1])
+    check('passes: a product is a shift', 'Mul' in codes[0] and 'Mul' not in codes[1] and 'ShiftLeft' in codes[1], codes[1])
+    check('passes: as many instructions', len({len(code.splitlines()) for code in codes}) == 1, codes)
 
 
 OPPOSITE = {'beq': 'bne', 'bne': 'beq', 'blt': 'bge', 'bge': 'blt', 'bltu': 'bgeu', 'bgeu': 'bltu'}
@@ -303,7 +322,7 @@ def both_styles(work, files):
 def refused(work):
     put(work, 'bad.c', 'int main(void) { return x; }\n')
     line = 'bad.c:1: 528 undeclared name: x\n' if cc(work, 'build', 'bad.c', '-o', 'none')[2].endswith('x\n') else cc(work, 'build', 'bad.c', '-o', 'none')[2]
-    for form, wanted in (('tokens', 0), ('tree', 0), ('typed', 1), ('tac', 1), ('flat', 1), ('items', 1)):
+    for form, wanted in (('tokens', 0), ('tree', 0), ('typed', 1), ('tac', 1), ('flat', 1), ('passes', 1), ('items', 1)):
         status, out, err = cc(work, 'show', form, 'bad.c')
         check('refused: ' + form, status == wanted and err == (line if wanted else '') and (out == '') == (wanted == 1), status, err)
     put(work, 'wrong.c', 'int main(void) { return 1 }\n')

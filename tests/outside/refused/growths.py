@@ -107,7 +107,7 @@ def commands(cc, preload):
     yield plain('frames', ['frames', 'main.c', '--sizes'], files)
     yield plain('list with labels', ['list', 'main.c', '--labels', '--abi'], files)
     yield plain('list with the sources', ['list', 'main.c', '--source'], files)
-    for form in ('tokens', 'tree', 'typed', 'tac', 'flat', 'items'):
+    for form in ('tokens', 'tree', 'typed', 'tac', 'flat', 'passes', 'items'):
         yield plain('show ' + form, ['show', form, 'main.c'], files)
     yield plain('show as JSON', ['show', 'typed', 'main.c', '--json'], files)
     unused = {'main.c': b'int main(void) { int unused = 3; int other; return 0; }\n'}
