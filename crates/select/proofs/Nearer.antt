@@ -5,7 +5,7 @@ use Rattle.std.proofs.lemmas.List.Sums.{sum_by-cons}
 use Rattle.asm.specs.declared.item.Item.{Item}
 use Rattle.asm.specs.declared.item.Item.TheVariants.{Mark, Plain, Branch, Jump, Call, NearCall, Constant, LabelAddress, DataAddress}
 use Rattle.asm.specs.Layout.{item_at, size, longest, nearer, Refers, IsSound}
-use Rattle.select.specs.Program.{are_near, shorten_calls}
+use Rattle.select.specs.Program.{are_near, shorten_calls, NearCallsAreShorter, CallsShortenInParts}
 
 -- ---- one item
 
@@ -97,7 +97,7 @@ made_near from front rest list new e at is =
     let there : P (length front) (front ++ rest) = subst (P (length front)) e (subst (λ n. P n list) at is) in
     there ∙ (ap (λ xs. xs ++ shorten_calls (are_near (front ++ rest)) (drop (length front) (front ++ rest))) (take_front front rest) ∙ ap (λ xs. front ++ shorten_calls (are_near (front ++ rest)) xs) (drop_front front rest))
 
-pub shortened_longest : (near : Bool) (xs : List Item) → longest (shorten_calls near xs) ≤ longest xs
+pub shortened_longest : NearCallsAreShorter
 shortened_longest true xs = longest_nearer xs
 shortened_longest false xs = omega arith
 
@@ -105,7 +105,7 @@ nearer_append : (xs ys : List Item) → map nearer (xs ++ ys) ≡ map nearer xs 
 nearer_append [] ys = refl
 nearer_append (x ∷ xs) ys = ap (λ zs. nearer x ∷ zs) (nearer_append xs ys)
 
-pub shortened_append : (near : Bool) (xs ys : List Item) → shorten_calls near (xs ++ ys) ≡ shorten_calls near xs ++ shorten_calls near ys
+pub shortened_append : CallsShortenInParts
 shortened_append true xs ys = nearer_append xs ys
 shortened_append false xs ys = refl
 

@@ -1,5 +1,5 @@
 -- The items of a whole flat program.
-use Rattle.std.specs.Prelude.{ℕ, ◌+◌, nat_le, if◌then◌else◌, Bool, List, [], ◌∷◌, ◌++◌, length, map}
+use Rattle.std.specs.Prelude.{◌≡◌, ◌≤◌, ℕ, ◌+◌, nat_le, if◌then◌else◌, Bool, List, [], ◌∷◌, ◌++◌, length, map}
 use Rattle.memory_map.specs.MemoryMap.{stack_end}
 use Rattle.asm.specs.declared.item.Item.{Item}
 use Rattle.asm.specs.Layout.{longest, nearer}
@@ -48,6 +48,16 @@ calls_are_near p = are_near (far_items p)
 
 abbrev pub program_items : flat.Program → List Item
 program_items p = start_items p.main ++ shorten_calls (calls_are_near p) (functions_items 0 (length p.functions) p.functions)
+
+-- ---- laws of near calls
+
+abbrev pub NearCallsAreShorter : Type 0
+NearCallsAreShorter = (near : Bool) (xs : List Item) → longest (shorten_calls near xs) ≤ longest xs
+
+abbrev pub CallsShortenInParts : Type 0
+CallsShortenInParts = (near : Bool) (xs ys : List Item) → shorten_calls near (xs ++ ys) ≡ shorten_calls near xs ++ shorten_calls near ys
+
+-- ---- labels
 
 abbrev pub labels_of : flat.Program → ℕ
 labels_of p = length p.functions + places_of p.functions

@@ -362,8 +362,8 @@ pub extern "C" fn zk_list(
 }
 
 /// A form of the program in the file `main`, as JSON: 0 its tokens after preprocessing, 1 its syntax tree, 2 its typed program, 3 its
-/// three-address code, 4 its flat code, 5 the items that its file is assembled from. For another number it returns 256. It has no clause
-/// but that it is safe.
+/// three-address code, 4 its flat code, 5 the items that its file is assembled from, 6 its flat code after each of its passes. For another number it
+/// returns 256. It has no clause but that it is safe.
 #[unsafe(no_mangle)]
 pub extern "C" fn zk_form(
     alloc: Global,
