@@ -40,7 +40,7 @@ export function computed(before, { word }) {
   return base + (before.word & 0xfffff000) + low >>> 0;
 }
 
-const ROLES = [[/^zero$/, 'always 0'], [/^ra$/, 'the return address'], [/^sp$/, 'the stack pointer'], [/^gp$/, 'the global pointer, which is not used'],
+const ROLES = [[/^zero$/, 'always 0'], [/^ra$/, 'the return address'], [/^sp$/, 'the stack pointer'], [/^gp$/, 'the global pointer, 2048 bytes past the begin of the data'],
   [/^tp$/, 'the thread pointer, which is not used'], [/^t/, 'a temporary, which a call may change'], [/^s/, 'kept over calls: a callee saves it'],
   [/^a[01]$/, 'an argument, or a result'], [/^a/, 'an argument']];
 
