@@ -211,13 +211,14 @@ def frames(counted, zk):
 
 # ---- the machine at an instruction
 
-# By hand, of docs/TOUR.md and the unprivileged ISA manual: the entry sets x2 (LUI, ADDI) and calls main (AUIPC, JALR), which opens its frame at
-# 0x11018, makes 70 and 72, and stores 72 at the stack's new end.
+# By hand, of docs/TOUR.md and the unprivileged ISA manual: the entry sets x2 (LUI, ADDI) and x3, 2048 bytes past the data, which begin at 0x12000 (LUI,
+# ADDI), and calls main (AUIPC, JALR), which opens its frame at 0x11020, makes 70 and 72, and stores 72 at the stack's new end.
 TOUR = b'void rv_putbyte(int c);\n\nint main(void) {\n    rv_putbyte(70 + 2);\n    return 44 - 2;\n}\n'
-STANDS = [(0, 0x11000, {}), (1, 0x11004, {2: 0x80000000}), (2, 0x11008, {2: 0x80000000}), (3, 0x1100C, {1: 0x11008, 2: 0x80000000}),
-          (4, 0x11018, {1: 0x11010, 2: 0x80000000}), (5, 0x1101C, {1: 0x11010, 2: 0x7FFFFFF0}), (6, 0x11020, {1: 0x11010, 2: 0x7FFFFFF0, 5: 70}),
-          (7, 0x11024, {1: 0x11010, 2: 0x7FFFFFF0, 5: 70, 10: 72}), (8, 0x11028, {1: 0x11010, 2: 0x7FFFFFF0, 5: 70, 10: 72, 11: 0x7FFFFFF0}),
-          (9, 0x1102C, {1: 0x11010, 2: 0x7FFFFFF0, 5: 70, 10: 72, 11: 0x7FFFFFF0})]
+STANDS = [(0, 0x11000, {}), (1, 0x11004, {2: 0x80000000}), (2, 0x11008, {2: 0x80000000}), (3, 0x1100C, {2: 0x80000000, 3: 0x13000}),
+          (4, 0x11010, {2: 0x80000000, 3: 0x12800}), (5, 0x11014, {1: 0x11010, 2: 0x80000000, 3: 0x12800}), (6, 0x11020, {1: 0x11018, 2: 0x80000000, 3: 0x12800}),
+          (7, 0x11024, {1: 0x11018, 2: 0x7FFFFFF0, 3: 0x12800}), (8, 0x11028, {1: 0x11018, 2: 0x7FFFFFF0, 3: 0x12800, 5: 70}),
+          (9, 0x1102C, {1: 0x11018, 2: 0x7FFFFFF0, 3: 0x12800, 5: 70, 10: 72}), (10, 0x11030, {1: 0x11018, 2: 0x7FFFFFF0, 3: 0x12800, 5: 70, 10: 72, 11: 0x7FFFFFF0}),
+          (11, 0x11034, {1: 0x11018, 2: 0x7FFFFFF0, 3: 0x12800, 5: 70, 10: 72, 11: 0x7FFFFFF0})]
 
 
 def forms(counted, zk, program, given):
