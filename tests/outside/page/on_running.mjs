@@ -25,14 +25,14 @@ async function stepping(reader) {
   reader.check('a statement back', await reader.until(`$('count').value === '7'`) && (await page.told('output')) === '', await page.told('status'));
   await reader.at(`$('source').focus(); $('source').setSelectionRange(75, 75)`);
   await page.key('F10', 121, 2);
-  reader.check('to the line of the cursor', await reader.until(`/0001?1050/.test($('where').textContent)`) && (await reader.at(nextLine)) === 'return 44 - 2;', await page.told('where'));
+  reader.check('to the line of the cursor', await reader.until(`/0001?1058/.test($('where').textContent)`) && (await reader.at(nextLine)) === 'return 44 - 2;', await page.told('where'));
   await page.key('F8', 119);
-  reader.check('a run ends with its status', await page.tells('status', '/After 22 instructions the program ended with status 42/'), await page.told('status'));
+  reader.check('a run ends with its status', await page.tells('status', '/After 24 instructions the program ended with status 42/'), await page.told('status'));
   await page.set('count', '5');
   reader.check('an instruction is gone to by its number', await page.tells('status', '/^After 5 instructions/'), await page.told('status'));
-  await page.set('break-at', '11038');
+  await page.set('break-at', '11040');
   await page.key('F8', 119);
-  reader.check('a run stops at a breakpoint', await page.tells('status', '/^After 12 instructions the program goes on, at 00011038/'), await page.told('status'));
+  reader.check('a run stops at a breakpoint', await page.tells('status', '/^After 14 instructions the program goes on, at 00011040/'), await page.told('status'));
   await page.set('from', '0x11008');
   reader.check('memory is shown from an address', await page.tells('memory', '/^00011000/'), await page.told('memory'));
   await page.set('from', 'sp');
