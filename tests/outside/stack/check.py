@@ -4,7 +4,7 @@
 Forty programs of ../meaning, whose greatest sums of weights its rows tell, are made to weigh just so much by arrays in main that nothing uses: at each
 of five stack sizes they are interpreted, built, run by `cc run`, by qemu-riscv32 where it is there, and listed; 16 bytes more in main are 714, or,
 where the sum is of several calls, still a program. Without --stack each of 200 programs is built to the same bytes as with
---stack 1048576; those of usual.txt, whose code has not changed since, to the bytes that the compiler wrote before it had the option.
+--stack 1048576.
 """
 import hashlib
 import os
@@ -155,29 +155,20 @@ def digest(case, source, files, stack=None):
     return hashlib.sha256(program.file()).hexdigest() if answer[0] == 0 else repr(answer)
 
 
-def usual_bytes(case, source, files, wanted):
-    usual = digest(case, source, files)
-    case.expect('--stack 1048576', digest(case, source, files, 1048576), usual)
-    if wanted:
-        case.expect('as ever', usual, wanted)
-
-
-def kept_digests():
-    with open(os.path.join(HERE, 'usual.txt'), encoding='ascii') as file:
-        return dict(reversed(line.split(' ', 1)) for line in file.read().splitlines())
+def usual_bytes(case, source, files):
+    case.expect('--stack 1048576', digest(case, source, files, 1048576), digest(case, source, files))
 
 
 def cases(_):
     for name, *row in single_rows():
         yield harness.Row(name, *row)
-    chosen, kept = list(meaning_rows())[:COUNT], kept_digests()
+    chosen = list(meaning_rows())[:COUNT]
     yield harness.number_of('programs of ../meaning', len(chosen), COUNT)
-    yield harness.number_of('digests', len(kept), 68)
     for number, row in enumerate(chosen):
         for stack in SIZES:
             yield harness.Row(f'program {number} with {stack} bytes', at_and_over, row, stack)
     for name, source, files in usual_programs():
-        yield harness.Row('usual ' + name, usual_bytes, source, files, kept.get(name))
+        yield harness.Row('usual ' + name, usual_bytes, source, files)
 
 
 if __name__ == '__main__':
