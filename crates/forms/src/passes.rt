@@ -9,12 +9,23 @@ use srcset::Names;
 use std::alloc::{AllocError, Global};
 use typed_ast::Program;
 
-/// The passes in their order, and the field's names of what they do.
-const PASSES: [(Pass, &str); 3] = [
-    (Pass::Flatten, "flattening"),
-    (Pass::Simplify, "constant-propagation-and-dead-stores"),
-    (Pass::Renumber, "register-allocation"),
-];
+/// What a pass does, by the field's name.
+fn name_of(pass: Pass) -> &'static str {
+    match pass {
+        Pass::Flatten => "flattening",
+        Pass::Simplify => "constant-propagation-and-dead-stores",
+        Pass::Renumber => "register-allocation",
+    }
+}
+
+fn after(alloc: Global, program: &Program, pass: Pass) -> Result<Passed, AllocError>
+    requires { IsReady (program_of program.now) }
+{
+    Ok(Passed {
+        pass: name_of(pass),
+        code: flat_program_after(alloc, program, pass)?,
+    })
+}
 
 /// The code after each pass, as text or as JSON.
 pub fn passes_of(
@@ -25,10 +36,9 @@ pub fn passes_of(
 ) -> Result<String, AllocError>
     requires { IsReady (program_of program.now) }
 {
-    let mut passed = Vec::with_capacity(alloc, PASSES.len())?;
-    for (pass, name) in PASSES {
-        let code = flat_program_after(alloc, program, pass)?;
-        passed.push(Passed { pass: name, code })?;
-    }
+    let mut passed = Vec::with_capacity(alloc, 3)?;
+    passed.push(after(alloc, program, Pass::Flatten)?)?;
+    passed.push(after(alloc, program, Pass::Simplify)?)?;
+    passed.push(after(alloc, program, Pass::Renumber)?)?;
     passes_text(alloc, program, passed.as_slice(), names, style)
 }
