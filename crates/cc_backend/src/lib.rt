@@ -21,7 +21,4 @@ pub use laws::{
     image_main_keeps_convention, image_simulates_flat, program_is_short, renumbered_simulates_flat,
     rows_fit, simpler_simulates_flat, steps_are_as_meant, tac_simulates_program, units_are_small,
 };
-    Pass, Pass, Pass, Pass, Pass, flat_program_after, flat_program_after, flat_program_after,
-    flat_program_after, flat_program_after,
-};
 pub use passes::{Pass, flat_program_after};
