@@ -43,15 +43,15 @@ GoesOnWith image input frames s k w = (rvrun k (start_world image input) ≡ sim
 -- The file has an image. For every input of bytes and every n: where the abstract machine ends within n ticks, and the weights of the calls active at
 -- one time never summed to more than this stack, the machine ends with the same status, having done the same; where n ticks are used, it goes
 -- on, having done the same, its stack pointer below the stack's end by just the frames of the calls that are active. For n ticks it takes at most
--- 60 n + 66 instructions, and at least one for each `slack` ticks, so that an unending run does all that the abstract machine does. Where the abstract machine meets
+-- 60 n + 68 instructions, and at least one for each `slack` ticks, so that an unending run does all that the abstract machine does. Where the abstract machine meets
 -- undefined behaviour within n ticks, the machine comes to have done all that was done before, also within the last of these ticks.
 pub record RunsAs (stack : ℕ) (p : Program) (frames file : List ℕ) : Type 0 where
   pub image : Image
   pub loads : file_image file ≡ Ok image
   pub ends : (input : List ℕ) → IsInput input → (n status : ℕ) (s : State) → cstep n p input ≡ Stops (Ended status) s → greatest_sum (weight_in p) s.history ≤ stack
-      → Reaches image input (60 * n + 66) (EndsWith image input status s)
+      → Reaches image input (60 * n + 68) (EndsWith image input status s)
   pub slack : ℕ
   pub goes_on : (input : List ℕ) → IsInput input → (n : ℕ) (s : State) → cstep n p input ≡ Stops TicksUsed s → greatest_sum (weight_in p) s.history ≤ stack
-      → Reaches image input (60 * n + 64) (λ k w. (n < slack * k) × GoesOnWith image input frames s k w)
+      → Reaches image input (60 * n + 66) (λ k w. (n < slack * k) × GoesOnWith image input frames s k w)
   pub stops : (input : List ℕ) → IsInput input → (n : ℕ) (act : Undef) (at : Pos) (s : State) → cstep n p input ≡ Stops (Undefined act at) s → greatest_sum (weight_in p) s.history ≤ stack
-      → Reaches image input (60 * n + 64) (GoesOnWith image input frames s)
+      → Reaches image input (60 * n + 66) (GoesOnWith image input frames s)
