@@ -73,7 +73,7 @@ pub fn flat_simulates_program()
     ensures { FlatSimulatesProgram }
 {}
 
-/// And so does the machine from its image, within 60 n + 64 instructions for n ticks, and 60 n + 66 where the program ends.
+/// And so does the machine from its image, within 60 n + 66 instructions for n ticks, and 60 n + 68 where the program ends.
 pub fn file_simulates_program()
     ensures { FileSimulatesProgram }
 {}

@@ -23,12 +23,12 @@ StaysWithinFrames stack frames p input = (n : ℕ) → IsDefined (answer n p inp
 -- with its status, or goes on as it does, in at most so many instructions; where that meets undefined behaviour, it comes to have done all that was done before.
 pub record RunsWithinFrames (stack : ℕ) (p : Program) (frames : List ℕ) (image : Image) (input : List ℕ) : Type 0 where
   pub ends : (n status : ℕ) (s : State) → cstep n p input ≡ Stops (Ended status) s → greatest_sum (frame_in frames) s.history ≤ stack
-      → Reaches image input (60 * n + 66) (EndsWith image input status s)
+      → Reaches image input (60 * n + 68) (EndsWith image input status s)
   pub slack : ℕ
   pub goes_on : (n : ℕ) (s : State) → cstep n p input ≡ Stops TicksUsed s → greatest_sum (frame_in frames) s.history ≤ stack
-      → Reaches image input (60 * n + 64) (λ k w. (n < slack * k) × GoesOnWith image input frames s k w)
+      → Reaches image input (60 * n + 66) (λ k w. (n < slack * k) × GoesOnWith image input frames s k w)
   pub stops : (n : ℕ) (act : Undef) (at : Pos) (s : State) → cstep n p input ≡ Stops (Undefined act at) s → greatest_sum (frame_in frames) s.history ≤ stack
-      → Reaches image input (60 * n + 64) (GoesOnWith image input frames s)
+      → Reaches image input (60 * n + 66) (GoesOnWith image input frames s)
 
 -- this holds of each file made of a program
 abbrev pub FilesRunWithinFrames : Type 0
