@@ -413,7 +413,7 @@ module _ (g : ℕ) (above : 2 < g) (below : g < 5) where
     -- ---- a step, where the register has this value before it
 
     abbrev Keeps : Machine → Type 0
-    Keeps m = register m g ≡ held
+    Keeps m = slice_index m.registers g ≡ held
 
     set_other : (list : List ℕ) (rd r v : ℕ) → (rd ≡ r → ⊥) → slice_index (with_register list rd v) r ≡ slice_index list r
     set_other list rd r v ne = on_zero (rd == 0)
