@@ -69,7 +69,7 @@ complete -c zkc -n '__fish_seen_subcommand_from explain' -s D -r -d 'Defines a m
 complete -c zkc -n '__fish_seen_subcommand_from explain' -s U -r -d 'Leaves the definition of a macro out'
 complete -c zkc -n '__fish_seen_subcommand_from explain' -s h -l help -d 'Print help'
 complete -c zkc -f -n __fish_use_subcommand -a show -d 'Shows a form that the compiler makes of a program between its phases'
-complete -c zkc -f -n '__fish_seen_subcommand_from show; and not __fish_seen_subcommand_from tokens tree typed tac flat items' -a 'tokens tree typed tac flat items'
+complete -c zkc -f -n '__fish_seen_subcommand_from show; and not __fish_seen_subcommand_from tokens tree typed tac flat passes items' -a 'tokens tree typed tac flat passes items'
 complete -c zkc -n '__fish_seen_subcommand_from show' -l json -d 'JSON, a node an object, in place of text'
 complete -c zkc -n '__fish_seen_subcommand_from show' -l stack -x -d 'The bytes of the stack, a multiple of 4096, as 65536, 64K or 1M [default: 1048576]'
 complete -c zkc -n '__fish_seen_subcommand_from show' -s o -r -d 'The file to write, in place of standard output'

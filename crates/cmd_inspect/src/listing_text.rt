@@ -117,7 +117,7 @@ impl Listing<'_> {
 
     fn put_instruction(&mut self, alloc: Global, row: Row<'_>) -> Result<(), AllocError> {
         match branch(row) {
-            Some((code, target)) if self.form.has_labels => {
+            Some((code, target)) if self.form.has_labels && !is_near_call(row) => {
                 put_code(code, self.form, &mut self.text)?;
                 self.text
                     .push_str(format!(in alloc; ".L{target:X}")?.as_str())
@@ -174,6 +174,9 @@ fn targets(alloc: Global, plain: &str) -> Result<Vec<u32>, AllocError> {
     let mut found = Vec::new(alloc);
     for line in plain.lines() {
         if let Some(row) = row_of(line) {
+            if is_near_call(row) {
+                continue;
+            }
             if let Some((_, target)) = branch(row) {
                 found.push(target)?;
             }
@@ -181,6 +184,11 @@ fn targets(alloc: Global, plain: &str) -> Result<Vec<u32>, AllocError> {
     }
     found.sort()?;
     Ok(found)
+}
+
+/// JAL with ra, which calls a function.
+fn is_near_call(row: Row<'_>) -> bool {
+    row.word % 0x1000 == 0x0EF
 }
 
 /// The text before the target of a branch, and the address of the target.
@@ -232,6 +240,10 @@ fn function_at(map: &SymbolTable, address: u32) -> Option<&str> {
 
 /// The function that a pair of AUIPC and JALR with x1 calls.
 fn called<'m>(row: Row<'_>, before: Option<Row<'_>>, map: &'m SymbolTable) -> Option<&'m str> {
+    if is_near_call(row) {
+        let (_, target) = branch(row)?;
+        return function_at(map, target);
+    }
     let before = before?;
     if before.word % 0x1000 != 0x097 || row.word % 0x10_0000 != 0x0_80E7 {
         return None;
