@@ -241,17 +241,17 @@ def forms(counted, zk, program, given):
 def machine(counted, zk):
     file = zk.build([('main.c', TOUR)], 'main.c').output
     for count, pc, registers in STANDS:
-        seen, window = zk.step(file, count, start=0x7FFFFFEF, length=3), bytes([0, 72 if count > 8 else 0, 0])
+        seen, window = zk.step(file, count, start=0x7FFFFFEF, length=3), bytes([0, 72 if count > 10 else 0, 0])
         counted.holds('the machine at %d' % count, (seen.outcome, seen.detail, seen.steps, seen.pc, seen.output, seen.window) == (0, 0, count, pc, b'', window)
                       and seen.registers == [registers.get(k, 0) for k in range(32)], seen)
     seen = zk.step(file, 10 ** 6)
     before = zk.step(file, seen.steps - 1)
-    counted.holds('the machine at its end', (seen.outcome, seen.detail, seen.pc, seen.output) == (1, 42, 0x11014, b'H'), seen)
-    counted.holds('and one instruction before it', (before.outcome, before.steps, before.pc) == (0, seen.steps - 1, 0x11014), before)
-    for after, halt, wanted in [(0, 0x1101C, (0, 5, 0x1101C)), (6, 0x1101C, (1, seen.steps, 0x11014)), (5, 0x1101C, (0, 5, 0x1101C)), (0, 0x11000, (0, 0, 0x11000))]:
+    counted.holds('the machine at its end', (seen.outcome, seen.detail, seen.pc, seen.output) == (1, 42, 0x1101C, b'H'), seen)
+    counted.holds('and one instruction before it', (before.outcome, before.steps, before.pc) == (0, seen.steps - 1, 0x1101C), before)
+    for after, halt, wanted in [(0, 0x11024, (0, 7, 0x11024)), (8, 0x11024, (1, seen.steps, 0x1101C)), (7, 0x11024, (0, 7, 0x11024)), (0, 0x11000, (0, 0, 0x11000))]:
         found = zk.step(file, 10 ** 6, after=after, halt=halt)
         counted.holds('halting at %x, after %d' % (halt, after), (found.outcome, found.steps, found.pc) == wanted, found)
-    counted.holds('no more than the count', zk.step(file, 3, halt=0x1101C).steps == 3)
+    counted.holds('no more than the count', zk.step(file, 3, halt=0x11024).steps == 3)
     for start, length in [(0xFFFFFFFE, 4), (0, 8), (0x7FFFFFFC, 8), (0x11000, 8)]:      # the text may be executed, and not read
         counted.holds('nothing to read at %x' % start, zk.step(file, 1, start=start, length=length).window == bytes(length))
     not_loaded(counted, zk, file)
