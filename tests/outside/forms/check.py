@@ -272,6 +272,8 @@ def holds(at, text, words, labels, functions):
         start, to = rest.rpartition(',')[0], labels[rest.rpartition(',')[2]]
         near = first == '%s %s,%d' % (name, start, to - at)
         return near or first == '%s %s,8' % (OPPOSITE[name], start) and second == 'jal x0,%d' % (to - at - 4)
+    if name == 'call' and first.startswith('jal x1,'):
+        return at + int(first.split(',')[1]) == functions[rest]
     if name == 'call':
         upper, low = int(first.removeprefix('auipc x1,'), 16), int(second.removeprefix('jalr x1,').removesuffix('(x1)'))
         return (at + upper * 4096 + low) % 2 ** 32 == functions[rest]

@@ -159,8 +159,8 @@ def nest(depth):
 
 
 CALCULATIONS = ('', '7', '1+2*3', '(1+2)*3-4/2', '2*(3-(4+5))*2', '100/7/2', '10-20', '7-3-2', '(10-20)/3', '12*(3)+1', '8/0+1', '((((5))))-6')
-# A program for gcc.
-NOT_SHOWN = ('library.c',)
+# A program for gcc; and two of bench whose subscripts grow from call to call, or come out of data, which the analysis does not bound.
+NOT_SHOWN = ('library.c', 'filter.c', 'machine.c')
 # Programs that are written anew in examples/verify, and lines of input for both.
 ANEW = {
     'LANGUAGE/calculator.c': CALCULATIONS,
