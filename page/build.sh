@@ -9,7 +9,7 @@
 # browser has. Three files are made of it: zikorape.wasm compiles, shows, runs and interprets; diagnostics.wasm explains and warns, analysis.wasm
 # verifies, traces and explains runs, and these are fetched when that is first wanted: one with all would be too large. Of the first wasm-opt lowers the
 # addresses and does nothing else: its -O2 makes code that is slower here and takes more of the engine's stack. The others are made for
-# their size; the larger one three times, and with its jumps made anew, which takes another percent away.
+# their size, for which each function has LLVM's attributes; the larger one three times, and with its jumps made anew, which takes another percent away.
 # shellcheck disable=SC2086 # flags, features and names are words
 set -eu
 page=$(cd "$(dirname "$0")" && pwd)
@@ -37,7 +37,8 @@ analyser='verify trace explain_run message version malloc free'
 sed -e "s/^target datalayout.*/target datalayout = \"$layout\"/" -e 's/^target triple.*/target triple = "wasm64-unknown-unknown"/' \
     -e 's/"probe-stack"="inline-asm"//; s/"stack-probe-size"="[0-9]*"//; s/"target-cpu"="x86-64-v2"//' native.ll >wasm.ll
 "$clang" $flags -O2 -c -x ir wasm.ll -o fast.o
-"$clang" $flags -Oz -c -x ir wasm.ll -o small.o
+sed 's/^attributes #\([0-9]*\) = { /&minsize optsize /' wasm.ll >small.ll
+"$clang" $flags -Oz -c -x ir small.ll -o small.o
 
 # What it calls: the heap, and the product of 128 bits.
 "$clang" $flags -O2 -c -x ir "$page/glue.ll" -o glue.o

@@ -158,10 +158,18 @@ export const isInScope = (one, place) => one.isParameter || one.from === undefin
 
 // ---- the machine's way beside it
 
+// The number of the next event that begins a statement or enters a function, from one on.
+function opens(events, from) {
+  let at = from;
+  while (at < events.length && events[at].event !== 'statement' && events[at].event !== 'enter') at++;
+  return at;
+}
+
 // The number of the events up to the place to which a machine has come, by the places at which statements begin that it met, in order:
-// each { enters } a function or begins a statement at { file, line }. Nothing where the two go apart.
+// each { enters } a function or begins a statement at { file, line }. A function may have code before its first statement, at its own line, of which
+// no event tells. Nothing where the two go apart.
 export function follow(events, arrivals) {
-  let at = 0, place = [];
+  let at = 0, place = [], isOpening = false;
   const pass = event => {
     if (event.event === 'enter') place.push(undefined);
     if (event.event === 'leave') place.pop();
@@ -171,6 +179,8 @@ export function follow(events, arrivals) {
     const isHere = event => arrival.enters !== undefined ? event.event === 'enter' && event.function === arrival.enters : event.event === 'statement' && event.file === arrival.file && event.line === arrival.line;
     const now = place.at(-1);
     if (arrival.enters === undefined && now && isHere(now)) continue;
+    if (isOpening && arrival.enters === undefined && !isHere(events[opens(events, at)] ?? {})) continue;
+    isOpening = arrival.enters !== undefined;
     let next = at;
     while (next < events.length && !isHere(events[next])) {
       if (events[next].event === 'enter') return undefined;

@@ -23,6 +23,10 @@ use Rattle.frames.specs.layer.Alone.{with_data}
 use Rattle.frames_opt.specs.Simplified.{IsSimplified}
 use Rattle.frames_opt.specs.layer.Functions.{IsSimplerFunction, AreSimpler}
 use Rattle.frames_opt.proofs.Whole.{is_simplified}
+use Rattle.frames_hoist.specs.Optimised.{IsOptimised}
+use Rattle.frames_hoist.specs.layer.Functions.{IsHoistedFunction, AreHoisted}
+use Rattle.frames_hoist.proofs.InTurn.{optimised_in_turn}
+use Rattle.frames_hoist.proofs.Whole.{is_optimised}
 use Rattle.frames_regalloc.specs.Renumbered.{IsRenumberedFunction, AreRenumbered, IsRenumbered}
 use Rattle.cc_backend.specs.Made.{IsReady, IsFlatCodeOf}
 use Rattle.cc_backend.specs.inside.FlatFunctions.{IsFlatFunctionOf, AreFlatFunctionsOf}
@@ -61,11 +65,11 @@ function_fits p ready k f e is_main g made =
     let both = function_is_sound p q ready.checked sized (names_are_there p) k f g e is_main (function_is_code p q (parameters_are p) is_main f g made) in
     ((q, both.0), both.1)
 
-pub function_in : {E : Type 0} (p : typed.Program) (s : Starts) (is_main : Bool) (f : typed.Function) (t : tac.Function) (a b : flat.Function) → IsFunctionWith p is_main f t → a ≡ flat_function s t
-    → IsSimplerFunction a b → (r : Result Held E) → IfOk r (λ h. IsRenumberedFunction b (flat.function_of h)) → IfOk r (λ h. IsFlatFunctionOf p s is_main f (flat.function_of h))
-function_in p s is_main f t a b lowered flattened simplified (Ok h) renumbered =
-    record { code = t; lowered = lowered; simpler = b; simplified = subst (λ x. IsSimplerFunction x b) flattened simplified; renumbered = renumbered }
-function_in p s is_main f t a b lowered flattened simplified (Err e) renumbered = tt
+pub function_in : {E : Type 0} (p : typed.Program) (s : Starts) (is_main : Bool) (f : typed.Function) (t : tac.Function) (a b c : flat.Function) → IsFunctionWith p is_main f t → a ≡ flat_function s t
+    → IsSimplerFunction a b → IsHoistedFunction b c → (r : Result Held E) → IfOk r (λ h. IsRenumberedFunction c (flat.function_of h)) → IfOk r (λ h. IsFlatFunctionOf p s is_main f (flat.function_of h))
+function_in p s is_main f t a b c lowered flattened simplified hoisted (Ok h) renumbered =
+    record { code = t; lowered = lowered; simpler = b; simplified = subst (λ x. IsSimplerFunction x b) flattened simplified; better = c; hoisted = hoisted; renumbered = renumbered }
+function_in p s is_main f t a b c lowered flattened simplified hoisted (Err e) renumbered = tt
 
 -- ---- all functions
 
@@ -88,7 +92,9 @@ record Steps (p : typed.Program) (s : Starts) (is_main : ℕ → Bool) (fs : Lis
   pub each : (n : ℕ) (f : typed.Function) (g : tac.Function) → slice_get fs n ≡ Some f → slice_get codes n ≡ Some g → IsFunctionWith p (is_main n) f g
   pub simpler : List flat.Function
   pub simplified : AreSimpler (map (flat_function s) codes) simpler
-  pub renumbered : AreRenumbered simpler hs
+  pub better : List flat.Function
+  pub hoisted : AreHoisted simpler better
+  pub renumbered : AreRenumbered better hs
 
 each_cons : (P : ℕ → typed.Function → tac.Function → Type 0) (f0 : typed.Function) (g0 : tac.Function) (fs : List typed.Function) (gs : List tac.Function) → P 0 f0 g0
     → ((n : ℕ) (f : typed.Function) (g : tac.Function) → slice_get fs n ≡ Some f → slice_get gs n ≡ Some g → P (suc n) f g)
@@ -98,7 +104,7 @@ each_cons P f0 g0 fs gs first more (suc n) f g e h = more n f g e h
 
 steps : (p : typed.Program) (s : Starts) (is_main : ℕ → Bool) (fs : List typed.Function) (hs : List flat.Function) → length hs ≡ length fs
     → ((n : ℕ) (f : typed.Function) (h : flat.Function) → slice_get fs n ≡ Some f → slice_get hs n ≡ Some h → IsFlatFunctionOf p s (is_main n) f h) → Steps p s is_main fs hs
-steps p s is_main [] [] count each = record { codes = []; count = refl; each = λ n f g e h. absurd (let z : ⊥ = cc in z); simpler = []; simplified = tt; renumbered = tt }
+steps p s is_main [] [] count each = record { codes = []; count = refl; each = λ n f g e h. absurd (let z : ⊥ = cc in z); simpler = []; simplified = tt; better = []; hoisted = tt; renumbered = tt }
 steps p s is_main [] (h ∷ hs) count each = absurd (omega (arith, count))
 steps p s is_main (f ∷ fs) [] count each = absurd (omega (arith, count))
 steps p s is_main (f ∷ fs) (h ∷ hs) count each =
@@ -110,6 +116,8 @@ steps p s is_main (f ∷ fs) (h ∷ hs) count each =
       each = each_cons (λ n a b. IsFunctionWith p (is_main n) a b) f x.code fs more.codes x.lowered more.each;
       simpler = x.simpler ∷ more.simpler;
       simplified = (x.simplified, more.simplified);
+      better = x.better ∷ more.better;
+      hoisted = (x.hoisted, more.hoisted);
       renumbered = (x.renumbered, more.renumbered);
     }
 
@@ -121,8 +129,10 @@ program_in p f s ready begin all statics main =
     let x = steps p s (λ n. nat_eq n p.main) p.functions f.functions all.count all.each in
     let q : tac.Program = record { functions = x.codes; literals = p.literals; statics = p.statics; main = p.main } in
     let g : flat.Program = record { functions = x.simpler; statics = data_of q; main = p.main } in
+    let h : flat.Program = record { functions = x.better; statics = data_of q; main = p.main } in
     let lowered : IsLowered p q = code_is_lowered p q ready.checked ready.asked (functions_are_code p q refl refl refl x.count x.each) in
     let simpler : AreSimpler (map (flat_function (starts_of q)) x.codes) x.simpler = subst (λ t. AreSimpler (map (flat_function t) x.codes) x.simpler) begin x.simplified in
     let simplified : IsSimplified (flat_program q) g = is_simplified (flat_program q) g simpler refl refl in
-    let renumbered : IsRenumbered g f = record { functions = x.renumbered; statics = statics; main = main } in
-    code_of p q g f lowered simplified renumbered
+    let optimised : IsOptimised (flat_program q) h = optimised_in_turn (flat_program q) g h simplified (is_optimised g h x.hoisted refl refl) in
+    let renumbered : IsRenumbered h f = record { functions = x.renumbered; statics = statics; main = main } in
+    code_of p q h f lowered optimised renumbered

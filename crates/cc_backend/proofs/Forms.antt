@@ -5,13 +5,10 @@ use Rattle.typing_spec.specs.Program as typed
 use Rattle.csem.specs.History.{weight_in, sum_of}
 use Rattle.tac_code.specs.Code as tac
 use Rattle.tac_code.specs.Lowered.{IsLowered}
-use Rattle.tac_code.specs.Sound.{IsSoundProgram}
 use Rattle.frames_code.specs.Code as flat
 use Rattle.frames_code.specs.Run as flat_run
 use Rattle.frames_code.specs.Sound as flat_sound
-use Rattle.frames.specs.Translated.{flat_program}
-use Rattle.frames.specs.Flattened.{IsFlattened, behind}
-use Rattle.frames_correct.proofs.Whole.{flat_is_flattened}
+use Rattle.frames.specs.Flattened.{behind}
 use Rattle.cc_backend.specs.FlatImages.{FitStack}
 use Rattle.cc_backend.specs.Forms.{IsFormOf}
 use Rattle.cc_backend.proofs.Known.{AreKnown, Known, run_known}
@@ -20,18 +17,6 @@ pub none_within : {X : Type 0} (xs : List X) (k : ℕ) → slice_get xs k ≡ No
 none_within [] k e lt = omega (arith, lt)
 none_within (x ∷ xs) zero e lt = cc
 none_within (x ∷ xs) (suc k) e lt = none_within xs k e (omega (arith, lt))
-
-pub form_of_flattened : (q : tac.Program) (f : flat.Program) → IsFlattened q f → IsFormOf q f
-form_of_flattened q f flattened = record {
-  sound = flattened.sound;
-  statics = flattened.statics;
-  main = flattened.main;
-  count = flattened.count;
-  each = flattened.each;
-}
-
-pub flat_form : (q : tac.Program) → IsSoundProgram q → IsFormOf q (flat_program q)
-flat_form q sound = form_of_flattened q (flat_program q) (flat_is_flattened q sound)
 
 module _ (p : typed.Program) (q : tac.Program) (f : flat.Program) (lowered : IsLowered p q) (form : IsFormOf q f) where
   -- a frame of a function that there is takes no more than its weight

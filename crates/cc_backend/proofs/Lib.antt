@@ -1,7 +1,7 @@
 pub mod Plain
 pub mod Images
 pub mod Renumbering
-pub mod Simplifying
+pub mod Optimising
 pub mod Generates
 pub mod FlatFunctions
 pub mod FlatImages

@@ -6,8 +6,7 @@ use Rattle.frames_correct.proofs.Whole.{flat_is_flattened}
 use Rattle.cc_backend.specs.Made.{IsFlatCodeOf}
 use Rattle.cc_backend.specs.Forms.{IsFormOf}
 use Rattle.cc_backend.specs.Chain.{IsMadeOf}
-use Rattle.cc_backend.proofs.Forms.{flat_form}
-use Rattle.cc_backend.proofs.Simplifying.{simplified_form}
+use Rattle.cc_backend.proofs.Optimising.{optimised_form}
 use Rattle.cc_backend.proofs.Renumbering.{renumbered_form}
 
 pub way_of : (p : typed.Program) (f : flat.Program) → IsFlatCodeOf p f → IsMadeOf p f
@@ -17,10 +16,10 @@ way_of p f made = record {
   plain = flat_program made.code;
   flattened = flat_is_flattened made.code made.lowered.sound;
   simpler = made.simpler;
-  simplified = made.simplified;
+  optimised = made.optimised;
   renumbered = made.renumbered;
 }
 
 pub form_of : (p : typed.Program) (f : flat.Program) → (made : IsFlatCodeOf p f) → IsFormOf made.code f
 form_of p f made =
-    renumbered_form made.code made.simpler f (simplified_form made.code (flat_program made.code) made.simpler (flat_form made.code made.lowered.sound) made.simplified) made.renumbered
+    renumbered_form made.code made.simpler f (optimised_form made.code (flat_program made.code) made.simpler (flat_is_flattened made.code made.lowered.sound) made.optimised) made.renumbered

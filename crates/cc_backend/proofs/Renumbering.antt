@@ -1,5 +1,5 @@
 -- Flat code with its words renumbered behaves as before.
-use Rattle.std.proofs.Common.{◌≡◌, ℕ, zero, suc, ◌+◌, max, List, [], ◌∷◌, length, map, Some, refl, sym, ap, ◌∙◌, subst, arith}
+use Rattle.std.proofs.Common.{◌≡◌, ℕ, zero, suc, ◌+◌, ◌*◌, max, List, [], ◌∷◌, length, map, Some, refl, sym, ap, ◌∙◌, subst, arith}
 use Rattle.std.specs.Prelude.{slice_get, sum_by}
 use Rattle.tac_code.specs.Code as tac
 use Rattle.frames_code.specs.declared.code.Operand.{Operand}
@@ -13,14 +13,15 @@ use Rattle.frames_code.specs.declared.code.Instruction.TheVariants as instructio
 use Rattle.frames_code.specs.Code as flat
 use Rattle.frames_code.specs.Code.{frame_bytes}
 use Rattle.frames_code.specs.Run as flat_run
-use Rattle.frames.specs.Costs.{fetch_bytes, keep_bytes, move_bytes, reach_bytes, reference_bytes, scale_bytes, code_bytes, function_bytes}
-use Rattle.frames.specs.Flattened.{IsCodeOf, behind}
+use Rattle.frames.specs.Costs.{fetch_bytes, keep_bytes, move_bytes, reach_bytes, reference_bytes, scale_bytes, code_bytes, function_bytes_in}
+use Rattle.frames_code.specs.Costs.{entry_cost_of}
+use Rattle.frames.specs.Flattened.{behind}
 use Rattle.cc_backend.proofs.Plain.{sum_by_map, same_some}
 use Rattle.frames_regalloc.specs.Renumbered.{renumbered_operand, renumbered_target, renumbered_location, renumbered, IsRenumberedFunction, AreRenumbered, IsRenumbered}
 use Rattle.frames_regalloc.specs.Laws.{words_of, moved_frame, moved, moved_progress}
 use Rattle.frames_regalloc.proofs.Whole.{runs_alike, costs_alike}
 use Rattle.frames_regalloc.proofs.Soundness.{stays_sound}
-use Rattle.cc_backend.specs.Forms.{IsFormOf}
+use Rattle.cc_backend.specs.Forms.{IsOptimisedCodeOf, IsFormOf}
 use Rattle.cc_backend.specs.Simulation.{Simulates, step_for_step}
 use Rattle.cc_backend.specs.Chain.{of_flat, RenumberedSimulatesFlat}
 
@@ -75,29 +76,29 @@ bytes_same to instruction.GetByte = refl
 bytes_same to instruction.Exit = refl
 bytes_same to instruction.Return = refl
 
-code_same : (f g : flat.Function) → IsRenumberedFunction f g → function_bytes g ≡ function_bytes f
+code_same : (f g : flat.Function) → IsRenumberedFunction f g → function_bytes_in g ≡ function_bytes_in f
 code_same f g r =
-    let here : function_bytes g ≡ 168 + sum_by code_bytes (map (renumbered r.to) f.code) = ap function_bytes r.is in
-    here ∙ ap (λ n. 168 + n) (sum_by_map code_bytes (renumbered r.to) code_bytes (bytes_same r.to) f.code)
+    let here : function_bytes_in g ≡ 4 * entry_cost_of f + sum_by code_bytes (map (renumbered r.to) f.code) = ap function_bytes_in r.is in
+    here ∙ ap (λ n. 4 * entry_cost_of f + n) (sum_by_map code_bytes (renumbered r.to) code_bytes (bytes_same r.to) f.code)
 
 frame_same : (f g : flat.Function) → IsRenumberedFunction f g → frame_bytes g ≡ frame_bytes f
 frame_same f g r = ap frame_bytes r.is
 
-one_is_code : (a : tac.Function) (f g : flat.Function) → IsRenumberedFunction f g → IsCodeOf a f → IsCodeOf a g
+one_is_code : (a : tac.Function) (f g : flat.Function) → IsRenumberedFunction f g → IsOptimisedCodeOf a f → IsOptimisedCodeOf a g
 one_is_code a f g r is = record {
   frame = (let e = frame_same f g r in omega (arith, e, is.frame));
   code = (let e = code_same f g r in omega (arith, e, is.code));
 }
 
 each_is_code : (qs : List tac.Function) (fs gs : List flat.Function) → AreRenumbered fs gs
-    → ((k : ℕ) (a : tac.Function) (f : flat.Function) → slice_get qs k ≡ Some a → slice_get fs k ≡ Some f → IsCodeOf a f)
-    → (k : ℕ) (a : tac.Function) (g : flat.Function) → slice_get qs k ≡ Some a → slice_get gs k ≡ Some g → IsCodeOf a g
+    → ((k : ℕ) (a : tac.Function) (f : flat.Function) → slice_get qs k ≡ Some a → slice_get fs k ≡ Some f → IsOptimisedCodeOf a f)
+    → (k : ℕ) (a : tac.Function) (g : flat.Function) → slice_get qs k ≡ Some a → slice_get gs k ≡ Some g → IsOptimisedCodeOf a g
 each_is_code qs [] [] r all k a g ea eg = absurd (let x : ⊥ = cc in x)
 each_is_code qs [] (y ∷ ys) r all k a g ea eg = absurd r
 each_is_code qs (x ∷ xs) [] r all k a g ea eg = absurd r
 each_is_code [] (x ∷ xs) (y ∷ ys) r all k a g ea eg = absurd (let x : ⊥ = cc in x)
 each_is_code (b ∷ bs) (x ∷ xs) (y ∷ ys) r all zero a g ea eg =
-    subst (IsCodeOf a) (same_some y g eg) (one_is_code a x y r.0 (all 0 a x ea refl))
+    subst (IsOptimisedCodeOf a) (same_some y g eg) (one_is_code a x y r.0 (all 0 a x ea refl))
 each_is_code (b ∷ bs) (x ∷ xs) (y ∷ ys) r all (suc k) a g ea eg = each_is_code bs xs ys r.1 (λ j. all (suc j)) k a g ea eg
 
 -- ---- runs

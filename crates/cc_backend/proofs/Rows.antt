@@ -1,7 +1,8 @@
 -- Each row of `select`'s table is within that of flattening's.
-use Rattle.std.proofs.Common.{ℕ, zero, suc, ◌+◌, ◌-◌, ◌*◌, ◌≤◌, max, Bool, true, false, arith}
+use Rattle.std.proofs.Common.{◌≡◌, ℕ, zero, suc, ◌+◌, ◌-◌, ◌*◌, ◌<◌, ◌≤◌, max, Bool, true, false, refl, arith}
 use Rattle.std.specs.Prelude.{if◌then◌else◌, nat_lt, ◌==◌, sum_by}
 use Rattle.std.proofs.Math.Nat.{le-max_left, le-max_right}
+use Rattle.std.proofs.lemmas.Bool.{lt-ltb, ltb-true}
 use Rattle.std.proofs.lemmas.List.Sums.{sum_by-le-sum_by}
 use Rattle.frames_code.specs.declared.code.Operand.{Operand}
 use Rattle.frames_code.specs.declared.code.Operand.TheVariants as operand
@@ -11,13 +12,14 @@ use Rattle.frames_code.specs.declared.code.Location.{Location}
 use Rattle.frames_code.specs.declared.code.Location.TheVariants as location
 use Rattle.frames_code.specs.declared.code.Instruction.{Instruction}
 use Rattle.frames_code.specs.declared.code.Instruction.TheVariants as instruction
-use Rattle.frames_code.specs.Code.{Function, cell_home, frame_bytes}
+use Rattle.frames_code.specs.Code.{Function, cell_home, area_home, frame_bytes}
 use Rattle.select.specs.declared.places.Source.{Source}
 use Rattle.select.specs.declared.places.Source.TheVariants as source
 use Rattle.select.specs.declared.places.Home.{Home}
 use Rattle.select.specs.declared.places.Home.TheVariants as home
 use Rattle.select.specs.Selected.{argument, kept, source_of, home_of, return_home}
 use Rattle.select.specs.Bytes.{word_bytes, fetch_bytes, keep_bytes, into_bytes, move_bytes, reach_bytes, reference_bytes, saved_bytes, entry_bytes, instruction_bytes}
+use Rattle.frames_code.specs.Costs.{entry_cost_of}
 use Rattle.frames.specs.Costs as flat
 use Rattle.frames.specs.Costs.{code_bytes}
 use Rattle.cc_backend.specs.Sizes.{RowsFit}
@@ -118,5 +120,29 @@ module _ (f : Function) (few : f.resident ≤ 12) where
   entry_fits : entry_bytes f ≤ 168
   entry_fits = let a = word_fits (return_home f) in omega (arith, a, saved)
 
+-- ---- the entry, where the whole frame is within the reach of 12 bits
+
+word_near : (o : ℕ) → o < 0x800 → word_bytes o ≡ 4
+word_near o lt = let t : nat_lt o 0x800 ≡ true = lt-ltb o 0x800 lt in rw t refl
+
+-- the words precede the address to return to
+frame_room : (f : Function) → area_home f + f.area + 4 ≤ frame_bytes f
+frame_room f = omega arith
+
+module _ (f : Function) (small : frame_bytes f < 0x800) where
+  saved_near : (n : ℕ) → n ≤ f.cells → saved_bytes f n ≡ 4 * n
+  saved_near zero le = refl
+  saved_near (suc n) le = let a = saved_near n (omega (arith, le)) in let b = word_near (cell_home f n) (omega (arith, le, frame_room f, small)) in omega (arith, a, b)
+
+  entry_near : f.resident ≤ 12 → f.resident ≤ f.cells → entry_bytes f ≤ 64
+  entry_near few all = let a = word_near (return_home f) (omega (arith, frame_room f, small)) in let b = saved_near f.resident all in omega (arith, few, a, b)
+
+entry_within : (f : Function) → f.resident ≤ 12 → f.resident ≤ f.cells → entry_bytes f ≤ 4 * entry_cost_of f
+entry_within f few all = on (nat_lt (frame_bytes f) 0x800) refl
+  where
+    on : (t : Bool) → nat_lt (frame_bytes f) 0x800 ≡ t → entry_bytes f ≤ 4 * entry_cost_of f
+    on true e = let most : entry_cost_of f ≡ 16 = rw e refl in let a = entry_near f (ltb-true (frame_bytes f) 0x800 e) few all in omega (arith, most, a)
+    on false e = let most : entry_cost_of f ≡ 42 = rw e refl in let a = entry_fits f few in omega (arith, most, a)
+
 pub rows_fit : RowsFit
-rows_fit f few = let a = entry_fits f few in let b = all_fit f few in omega (arith, a, b)
+rows_fit f few all = let a = entry_within f few all in let b = all_fit f few in omega (arith, a, b)

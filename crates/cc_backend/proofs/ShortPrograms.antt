@@ -15,7 +15,8 @@ pub code_fits : CodeFits
 code_fits p q f lowered form k g h there here =
     let lt : k < length f.functions = slice_get_within f.functions k h here in
     let m = some_at q.functions k (subst (λ n. k < n) form.count lt) in
-    let one = rows_fit h (form.sound.each k h here).few in
+    let fit = form.sound.each k h here in
+    let one = rows_fit h fit.few fit.all in
     let two = (form.each k m.0 h m.1 here).code in
     let three = (lowered.each k g m.0 there m.1).code in
     le_trans (le_trans one two) three

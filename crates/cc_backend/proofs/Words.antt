@@ -1,5 +1,5 @@
 -- The words of calls and returns, from three-address code to the flat code of a program.
-use Rattle.std.proofs.Common.{◌≡◌, ⊎_elim, ℕ, ◌+◌, ◌-◌, ◌≤◌, List, [], ◌∷◌, Some, refl, sym, ap, ◌∙◌, subst, arith}
+use Rattle.std.proofs.Common.{◌≡◌, ⊎_elim, ℕ, ◌+◌, ◌-◌, ◌≤◌, List, refl, sym, ap, ◌∙◌, subst, arith}
 use Rattle.std.proofs.lemmas.Bool.{cases_lt}
 use Rattle.typing_spec.specs.Program as typed
 use Rattle.csem.specs.History.{Entry, trace_of}
@@ -15,16 +15,17 @@ use Rattle.tac_code.proofs.Growing.{run_grows}
 use Rattle.frames_code.specs.Code as flat
 use Rattle.frames_code.specs.Run as flat_run
 use Rattle.frames.specs.Translated.{flat_program}
-use Rattle.frames.specs.Flattened.{before, behind, IsAtCall, HasItsCalls}
+use Rattle.frames.specs.Flattened.{before, behind, HasItsCalls}
 use Rattle.frames_correct.proofs.Runs.{run_both}
 use Rattle.frames_correct.proofs.Whole.{flat_is_in_step}
-use Rattle.frames_opt.specs.Simplified.{IsSimplified, DoesTheSame, IsDefined}
+use Rattle.frames_opt.specs.Simplified.{DoesTheSame, IsDefined}
+use Rattle.frames_hoist.specs.Optimised.{IsOptimised}
 use Rattle.frames_regalloc.specs.Renumbered.{IsRenumbered}
 use Rattle.frames_regalloc.specs.Laws.{words_of, moved, moved_progress}
 use Rattle.frames_regalloc.proofs.Whole.{runs_alike, calls_alike}
 use Rattle.cc_backend.specs.Made.{IsFlatCodeOf}
 use Rattle.cc_backend.specs.Words.{IsAsMeant, StepsAreAsMeant}
-use Rattle.cc_backend.proofs.Simplifying.{defined_before}
+use Rattle.cc_backend.proofs.Optimising.{defined_before}
 use Rattle.cc_backend.proofs.Renumbering.{calls_same}
 
 same_running : (s t : flat_run.State) → flat_run.running s ≡ flat_run.running t → s ≡ t
@@ -55,9 +56,9 @@ module _ (g f : flat.Program) (same : IsRenumbered g f) (input : List ℕ) where
           let no : flat_run.stuck ≡ flat_run.running u = sym (ap (moved_progress from) here) ∙ there in
           absurd (let z : ⊥ = cc in z)
 
--- ---- the state before the code was simplified
+-- ---- the state before the code was optimised
 
-module _ (f g : flat.Program) (simple : IsSimplified f g) (input : List ℕ) where
+module _ (f g : flat.Program) (better : IsOptimised f g) (input : List ℕ) where
   pub record Original (k : ℕ) (v : flat_run.State) : Type 0 where
     pub state : flat_run.State
     pub is : behind f input k ≡ flat_run.running state
@@ -69,13 +70,13 @@ module _ (f g : flat.Program) (simple : IsSimplified f g) (input : List ℕ) whe
     where
       on : (x : flat_run.Progress) → behind f input k ≡ x → Original k v
       on (flat_run.running w) h =
-          let both : DoesTheSame (flat_run.running w) (flat_run.running v) = subst (DoesTheSame (flat_run.running w)) e (subst (λ x. DoesTheSame x (behind g input k)) h (simple.runs k input)) in
+          let both : DoesTheSame (flat_run.running w) (flat_run.running v) = subst (DoesTheSame (flat_run.running w)) e (subst (λ x. DoesTheSame x (behind g input k)) h (better.runs k input)) in
           record { state = w; is = h; calls = both.2 }
       on (flat_run.ended status left trace) h =
-          let over : behind g input k ≡ flat_run.ended status left trace = subst (λ x. DoesTheSame x (behind g input k)) h (simple.runs k input) in
+          let over : behind g input k ≡ flat_run.ended status left trace = subst (λ x. DoesTheSame x (behind g input k)) h (better.runs k input) in
           let no : flat_run.ended status left trace ≡ flat_run.running v = sym over ∙ e in
           absurd (let z : ⊥ = cc in z)
-      on flat_run.stuck h = absurd (subst IsDefined h (defined_before f g simple input k m le defined))
+      on flat_run.stuck h = absurd (subst IsDefined h (defined_before f g better input k m le defined))
 
 -- ---- the whole way
 
@@ -94,10 +95,10 @@ module _ (p : typed.Program) (f : flat.Program) (input : List ℕ) (made : IsFla
       → (k : ℕ) (u : flat_run.State) → k ≤ m → behind f input k ≡ flat_run.running u → IsAsMeant made.code f input history u
   meant n m history its defined within k u le e =
       let a = unnumbered made.simpler f made.renumbered input k u e in
-      let b = original plain made.simpler made.simplified input m defined k a.state le a.is in
+      let b = original plain made.simpler made.optimised input m defined k a.state le a.is in
       let c = its k b.state le b.is in
       let same = calls_alike made.simpler f made.renumbered a.state in
-      let simple = made.simplified.at_calls k input b.state a.state b.is a.is in
+      let better = made.optimised.at_calls k input b.state a.state b.is a.is in
       subst (IsAsMeant made.code f input history) a.now
       (record {
         step = c.0;
@@ -107,11 +108,11 @@ module _ (p : typed.Program) (f : flat.Program) (input : List ℕ) (made : IsFla
         calls = calls_same (from made.simpler f made.renumbered input) a.state ∙ (b.calls ∙ c.2.2);
         at_call = record {
           calls = λ g h.
-              let one = simple.calls g (same.0 g h) in
+              let one = better.calls g (same.0 g h) in
               let two = c.2.3.calls g one.0 in
               (two.0, λ j w ew. one.1 j (flat_run.word w) (two.1 j w ew));
           returns = λ h.
-              let one = simple.returns (same.1 h) in
+              let one = better.returns (same.1 h) in
               let two = c.2.3.returns one.0 in
               (two.0, λ j w ew. one.1 j (flat_run.word w) (two.1 j w ew));
         };
@@ -137,8 +138,8 @@ module _ (p : typed.Program) (f : flat.Program) (input : List ℕ) (made : IsFla
       k u (omega (arith, lt)) e)
       (λ ge.
       let done : flat_run.Progress = flat_run.ended status s.input (trace_of s.history) in
-      let simple : behind made.simpler input c.0 ≡ done = subst (λ x. DoesTheSame x (behind made.simpler input c.0)) c.1 (made.simplified.runs c.0 input) in
-      let last : behind f input c.0 ≡ done = runs_alike made.simpler f made.renumbered c.0 input ∙ ap (moved_progress (words_of made.simpler.functions f.functions made.renumbered.functions)) simple in
+      let better : behind made.simpler input c.0 ≡ done = subst (λ x. DoesTheSame x (behind made.simpler input c.0)) c.1 (made.optimised.runs c.0 input) in
+      let last : behind f input c.0 ≡ done = runs_alike made.simpler f made.renumbered c.0 input ∙ ap (moved_progress (words_of made.simpler.functions f.functions made.renumbered.functions)) better in
       let sum : k ≡ c.0 + (k - c.0) = omega (arith, ge) in
       let whole : behind f input k ≡ done = ap (behind f input) sum ∙ (run_both f c.0 (k - c.0) (flat_run.start f input) ∙ ap (λ x. flat_run.goes_on x (flat_run.run f (k - c.0))) last) in
       let no : done ≡ flat_run.running u = sym whole ∙ e in

@@ -1,4 +1,4 @@
--- The way from a typed program to its file, a simulation for each step: the abstract machine, three-address code, flat code, flat code made simpler, flat
+-- The way from a typed program to its file, a simulation for each step: the abstract machine, three-address code, flat code, flat code optimised, flat
 -- code with its words under other numbers, and the machine of the table from the file's image.
 use Rattle.std.specs.Prelude.{◌≡◌, ◌≤◌, ◌<◌, ℕ, ◌+◌, ◌*◌, ◌%◌, List, map, length, slice_get}
 use Rattle.srcset.specs.declared.refusal.Pos.{Pos}
@@ -26,12 +26,13 @@ use Rattle.frames_code.specs.Code.{frame_bytes}
 use Rattle.frames_code.specs.Run as flat_run
 use Rattle.frames.specs.Costs as flat_costs
 use Rattle.frames.specs.Flattened.{IsFlattened, before, behind}
-use Rattle.frames_opt.specs.Simplified.{IsSimplified}
+use Rattle.frames_code.specs.Costs.{spent_with_entry}
+use Rattle.frames_hoist.specs.Optimised.{IsOptimised}
 use Rattle.frames_regalloc.specs.Renumbered.{IsRenumbered}
 use Rattle.select_correct.specs.Runs.{slack}
 use Rattle.cc_backend.specs.FlatImages.{IsImageOf}
 use Rattle.cc_backend.specs.Runs.{bytes_or_none}
-use Rattle.cc_backend.specs.Simulation.{Doing, System, Terms, Simulates, step_for_step, both}
+use Rattle.cc_backend.specs.Simulation.{Doing, Done, System, Terms, Simulates, step_for_step, both}
 
 -- the stack pointer is a multiple of 16, and lies below the stack's end by just the frames of these calls
 abbrev pub StandsBelow : (frames calls : List ℕ) → World → Type 0
@@ -66,13 +67,30 @@ of_tac q input = record {
 abbrev pub FlatGoes : flat.Program → List ℕ → ℕ → Doing → Type 0
 FlatGoes f input n x = (s : flat_run.State) × (behind f input n ≡ flat_run.running s) × (s.trace ≡ x.trace) × (s.input ≡ x.input) × (flat_run.active s ≡ x.calls)
 
+abbrev pub FlatEnds : flat.Program → List ℕ → ℕ → Done → Type 0
+FlatEnds f input n x = behind f input n ≡ flat_run.ended x.status x.input x.trace
+
+abbrev pub FlatCalls : flat.Program → List ℕ → ℕ → List ℕ → Type 0
+FlatCalls f input n calls = (k : ℕ) × (s : flat_run.State) × (k ≤ n) × (behind f input k ≡ flat_run.running s) × (flat_run.active s ≡ calls)
+
+-- as flattening makes it: each call costs as if it had the greatest frame
+abbrev pub of_plain : flat.Program → List ℕ → System
+of_plain f input = record {
+  Goes = FlatGoes f input;
+  Halts = FlatGoes f input;
+  Ends = FlatEnds f input;
+  Calls = FlatCalls f input;
+  cost = λ n. flat_costs.spent_in_all f n (flat_run.start f input);
+}
+
+-- optimised: a call costs by the size of the frame of the function called
 abbrev pub of_flat : flat.Program → List ℕ → System
 of_flat f input = record {
   Goes = FlatGoes f input;
   Halts = FlatGoes f input;
-  Ends = λ n x. behind f input n ≡ flat_run.ended x.status x.input x.trace;
-  Calls = λ n calls. (k : ℕ) × (s : flat_run.State) × (k ≤ n) × (behind f input k ≡ flat_run.running s) × (flat_run.active s ≡ calls);
-  cost = λ n. flat_costs.spent_in_all f n (flat_run.start f input);
+  Ends = FlatEnds f input;
+  Calls = FlatCalls f input;
+  cost = λ n. spent_with_entry f n (flat_run.start f input);
 }
 
 -- the machine of the table from an image, which goes on so after k instructions: a step is an instruction; the stack pointer lies below the stack's end by just
@@ -99,12 +117,12 @@ TacSimulatesProgram =
 abbrev pub FlatSimulatesTac : Type 0
 FlatSimulatesTac =
     (weight : ℕ → ℕ) (limit : ℕ) (q : tac.Program) (f : flat.Program) (input : List ℕ) → IsFlattened q f → AreBytes input
-    → Simulates step_for_step weight limit (of_tac q input) (of_flat f input)
+    → Simulates step_for_step weight limit (of_tac q input) (of_plain f input)
 
-abbrev pub SimplerSimulatesFlat : Type 0
-SimplerSimulatesFlat =
-    (weight : ℕ → ℕ) (limit : ℕ) (f g : flat.Program) (input : List ℕ) → IsSimplified f g
-    → Simulates step_for_step weight limit (of_flat f input) (of_flat g input)
+abbrev pub OptimisedSimulatesFlat : Type 0
+OptimisedSimulatesFlat =
+    (weight : ℕ → ℕ) (limit : ℕ) (f g : flat.Program) (input : List ℕ) → IsOptimised f g
+    → Simulates step_for_step weight limit (of_plain f input) (of_flat g input)
 
 abbrev pub RenumberedSimulatesFlat : Type 0
 RenumberedSimulatesFlat =
@@ -131,7 +149,7 @@ pub record IsMadeOf (p : typed.Program) (f : flat.Program) : Type 0 where
   pub plain : flat.Program
   pub flattened : IsFlattened code plain
   pub simpler : flat.Program
-  pub simplified : IsSimplified plain simpler
+  pub optimised : IsOptimised plain simpler
   pub renumbered : IsRenumbered simpler f
 
 abbrev pub into_flat : Terms

@@ -1,5 +1,5 @@
 -- The calling convention of the code of an image, and where all frames of flat code's run fit the stack.
-use Rattle.std.specs.Prelude.{◌≡◌, ◌≤◌, ◌<◌, ℕ, suc, ◌+◌, ◌-◌, List, length}
+use Rattle.std.specs.Prelude.{◌≡◌, ◌≤◌, ℕ, suc, ◌+◌, List, length}
 use Rattle.memory_map.specs.MemoryMap.{text_start, data_start}
 use Rattle.elf_out.specs.Layout.{Parts}
 use Rattle.elf_out.specs.Program.{program_image}

@@ -1,7 +1,7 @@
 pub use Rattle.lower_wf.specs.Asked
 pub use Rattle.tac_code.specs.Lowered
 pub use Rattle.frames_regalloc.specs.Renumbered
-pub use Rattle.frames_opt.specs.Simplified
+pub use Rattle.frames_hoist.specs.Optimised
 pub use Rattle.frames.specs.Translated
 pub use Rattle.frames.specs.Flattened
 pub use Rattle.memory_map.specs.MemoryMap

@@ -4,14 +4,14 @@ use Rattle.typing_spec.specs.Program as typed
 use Rattle.tac_code.specs.Code as tac
 use Rattle.tac_code.specs.Lowered.{IsLowered, IsChecked}
 use Rattle.frames_code.specs.Code as flat
-use Rattle.frames.specs.Costs.{function_bytes}
+use Rattle.frames.specs.Costs.{function_bytes_in}
 use Rattle.select_correct.specs.Reaching.{rows_of, IsShortProgram}
 use Rattle.cc_backend.specs.Forms.{IsFormOf}
 
--- The rows of `select`, whose sum bounds the items that it emits (`code_is_short`), are within flattening's table; at most twelve words
--- live in registers, as of each sound program.
+-- The rows of `select`, whose sum bounds the items that it emits (`code_is_short`), are within flattening's table where the size of the frame is known; at most
+-- twelve words live in registers, and no more than the frame has, as of each sound program.
 abbrev pub RowsFit : Type 0
-RowsFit = (f : flat.Function) → f.resident ≤ 12 → rows_of f ≤ function_bytes f
+RowsFit = (f : flat.Function) → f.resident ≤ 12 → f.resident ≤ f.cells → rows_of f ≤ function_bytes_in f
 
 -- at most 128 bytes a node of its definition, and 1024
 abbrev pub CodeFits : Type 0

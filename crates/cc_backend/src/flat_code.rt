@@ -10,6 +10,7 @@ ghost use Rattle.cc_backend.specs.inside.FlatFunctions.{IsFlatFunctionOf, AreFla
 
 use frames::{Starts, data_alone, flatten_function};
 use frames_code::FlatProgram;
+use frames_hoist::hoist_function;
 use frames_opt::simplify_function;
 use frames_regalloc::renumber_function;
 use srcset::Fault;
@@ -41,7 +42,8 @@ fn flat_function(
     let long = flatten_function(alloc, starts, &code)?;
     drop(code);
     let simple = simplify_function(alloc, long)?;
-    renumber_function(alloc, &simple)
+    let hoisted = hoist_function(alloc, simple)?;
+    renumber_function(alloc, &hoisted)
 }
 
 fn flat_functions(

@@ -5,6 +5,7 @@ ghost use Rattle.typed_ast.specs.View.{function_of, program_of};
 ghost use Rattle.cc_backend.specs.Made.{IsReady};
 
 use frames::{Home, Starts, flatten_function, object_homes};
+use frames_hoist::hoist_function;
 use frames_opt::simplify_function;
 use frames_regalloc::word_numbers;
 use std::alloc::{AllocError, Global};
@@ -129,10 +130,11 @@ fn homes_of(
     let long = flatten_function(alloc, starts, &code)?;
     drop(code);
     let simple = simplify_function(alloc, long)?;
+    let hoisted = hoist_function(alloc, simple)?;
     let words = Words {
-        numbers: word_numbers(alloc, &simple)?,
+        numbers: word_numbers(alloc, &hoisted)?,
         resident: flat.map_or(0, |flat| flat.resident),
-        outgoing: simple.outgoing,
+        outgoing: hoisted.outgoing,
     };
     lived_in(alloc, function, homes.as_slice(), &words)
 }

@@ -3,7 +3,7 @@
 ghost use Rattle.cc_backend.specs.FlatImages.{ImageGoesOn, ImageEnds, ImageCallsKeep};
 ghost use Rattle.cc_backend.specs.Convention.{ImageCallsKeepConvention, ImageMainKeepsConvention, FramesAreWeighed};
 ghost use Rattle.cc_backend.specs.Words.{StepsAreAsMeant};
-ghost use Rattle.cc_backend.specs.Chain.{TacSimulatesProgram, FlatSimulatesTac, SimplerSimulatesFlat, RenumberedSimulatesFlat, ImageSimulatesFlat, FlatSimulatesProgram, FileSimulatesProgram};
+ghost use Rattle.cc_backend.specs.Chain.{TacSimulatesProgram, FlatSimulatesTac, OptimisedSimulatesFlat, RenumberedSimulatesFlat, ImageSimulatesFlat, FlatSimulatesProgram, FileSimulatesProgram};
 ghost use Rattle.cc_backend.specs.Sizes.{RowsFit, CodeFits, ProgramIsShort};
 ghost use Rattle.cc_backend.specs.Made.{UnitsAreSmall};
 
@@ -53,9 +53,9 @@ pub fn flat_simulates_tac()
     ensures { FlatSimulatesTac }
 {}
 
-/// Simplified flat code simulates the original.
-pub fn simpler_simulates_flat()
-    ensures { SimplerSimulatesFlat }
+/// Optimised flat code simulates the original.
+pub fn optimised_simulates_flat()
+    ensures { OptimisedSimulatesFlat }
 {}
 
 /// Flat code with its words renumbered simulates the original.
@@ -78,7 +78,7 @@ pub fn file_simulates_program()
     ensures { FileSimulatesProgram }
 {}
 
-/// The rows of a function of flat code, by the code that `select` emits, sum to no more than its bytes by the table of flattening.
+/// The rows of a function of flat code, by the code that `select` emits, sum to no more than its bytes by the table of flattening where the size of its frame is known.
 pub fn rows_fit()
     ensures { RowsFit }
 {}

@@ -6,6 +6,7 @@ ghost use Rattle.cc_backend.specs.Made.{IsReady};
 
 use frames::{Starts, data_alone, flatten_function};
 use frames_code::FlatProgram;
+use frames_hoist::hoist_function;
 use frames_opt::simplify_function;
 use frames_regalloc::renumber_function;
 use std::alloc::{AllocError, Global};
@@ -19,6 +20,8 @@ pub enum Pass {
     Flatten,
     /// Constants are propagated, and dead stores removed.
     Simplify,
+    /// Constants that loops use are in words of the frame.
+    Hoist,
     /// The words that are used most are in s0 to s11.
     Renumber,
 }
@@ -45,7 +48,11 @@ fn function_after(
     if pass == Pass::Simplify {
         return Ok(simple);
     }
-    renumber_function(alloc, &simple)
+    let hoisted = hoist_function(alloc, simple)?;
+    if pass == Pass::Hoist {
+        return Ok(hoisted);
+    }
+    renumber_function(alloc, &hoisted)
 }
 
 fn functions_after(

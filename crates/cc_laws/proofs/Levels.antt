@@ -24,10 +24,10 @@ use Rattle.frames_code.specs.Code.{Function, frame_bytes}
 use Rattle.select_exec.specs.Light.{Fixed, Light, Go, Done, Fell, reg, with_reg, sum32, act, light_step, light_run}
 use Rattle.select_exec.proofs.Steps.{run_plus}
 use Rattle.select_exec.proofs.Standing.{stands_parts}
-use Rattle.select.specs.Selected.{source_of, home_of, fetch, made_in, register_of, address_of, combine, narrow, reach, scale, put_byte, change_sp, saves, restores, keep_return, take_return, entry, leave, exit, byte_home, items_of, shortened, is_same, skips_nothing, add_to}
+use Rattle.select.specs.Selected.{source_of, home_of, fetch, made_in, register_of, address_of, combine, narrow, reach, put_byte, change_sp, saves, restores, keep_return, take_return, entry, leave, exit, byte_home, items_of, shortened, is_same, skips_nothing, add_to}
 use Rattle.select_correct.specs.Costs.{row, item_count, opening_cost, call_cost}
 use Rattle.select_correct.proofs.Lengths.{rows_are_lengths}
-use Rattle.cc_laws.proofs.Quiet.{Words, words, IsQuiet, IsBare, AreQuiet, quiet_both, five, six, ten, eleven, twelve, seventeen, fetch_quiet, keep_quiet, move_quiet, home_off, combine_quiet, narrow_quiet, reach_quiet, reference_quiet, scale_quiet, saving_quiet, restoring_quiet, byte_quiet, change_bare}
+use Rattle.cc_laws.proofs.Quiet.{Words, words, IsQuiet, IsBare, AreQuiet, quiet_both, five, six, ten, eleven, twelve, seventeen, fetch_quiet, keep_quiet, move_quiet, home_off, combine_quiet, narrow_quiet, reach_quiet, reference_quiet, element_quiet, saving_quiet, restoring_quiet, byte_quiet, change_bare}
 use Rattle.cc_laws.proofs.Stretches.{HasSp, HasPc, IsFine, sp_of, pc_of, fine_low, fine_idle, done_stays, fell_stays, branch_step, at_text, quiet_run, bare_run, bare_fine}
 
 -- ---- instructions that change no frame
@@ -211,10 +211,7 @@ module _ (F : Fixed) (env : ℕ → ℕ) (seg : ℕ) where
         (quiet_both (fetch 5 (source_of f x)) _ (fetch_quiet 5 (source_of f x) five) (quiet_both (reach f l) _ (reach_quiet f l) (tt, tt))) refl le st lj k lk
     level f first (instruction.Address d l) low j e q le st lj k lk = quiet_form f first (instruction.Address d l) low j e (reference_quiet f (home_of f d) l (home_off f d)) refl le st lj k lk
     level f first (instruction.Element d x y n) low j e q le st lj k lk =
-        quiet_form f first (instruction.Element d x y n) low j e
-        (quiet_both (fetch 5 (source_of f x)) _ (fetch_quiet 5 (source_of f x) five)
-        (quiet_both (fetch 6 (source_of f y)) _ (fetch_quiet 6 (source_of f y) six)
-        (quiet_both (scale (register_of 6 (source_of f y)) n) _ (scale_quiet (register_of 6 (source_of f y)) n) (home_off f d, keep_quiet (home_of f d))))) refl le st lj k lk
+        quiet_form f first (instruction.Element d x y n) low j e (element_quiet (home_of f d) (source_of f x) (source_of f y) n (home_off f d)) refl le st lj k lk
     level f first (instruction.Jump to) low j e q le st lj zero lk = inl le
     level f first (instruction.Jump to) low j e q le st lj (suc k) lk = absurd (omega (arith, lk, lj))
     level f first (instruction.Branch t x y to) low j e q le st lj k lk = branch_form f first t x y to low j e le st lj k lk

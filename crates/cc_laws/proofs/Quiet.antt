@@ -27,7 +27,7 @@ use Rattle.select.specs.declared.places.Source.TheVariants as source
 use Rattle.select.specs.declared.places.Home.{Home}
 use Rattle.select.specs.declared.places.Home.TheVariants as home
 use Rattle.select.specs.Selected as selected
-use Rattle.select.specs.Selected.{is_near_gp, source_of, home_of, fetch, into, keep, made_in, register_of, load_constant, far, load_word, store_word, address_of, move, ending, operate, form_or, combine, narrow, reach, reference, log2_of, shift_or_multiply, scale, change_sp, saves, restores, calls, keep_return, take_return, return_home, byte_home, set_to, kept}
+use Rattle.select.specs.Selected.{is_near_gp, source_of, home_of, fetch, into, keep, made_in, register_of, load_constant, far, load_word, store_word, address_of, move, ending, operate, form_or, combine, narrow, reach, reference, log2_of, shift_or_multiply, scale, counted, element, change_sp, saves, restores, calls, keep_return, take_return, return_home, byte_home, set_to, kept}
 
 -- ---- words from an address on
 
@@ -317,8 +317,21 @@ product_quiet : (o : Option ℕ) (x n : ℕ) → AreQuiet (shift_or_multiply o x
 product_quiet (Some k) x n = (six, tt)
 product_quiet None x n = (set_quiet 7 n seven, (six, tt))
 
-pub scale_quiet : (x n : ℕ) → AreQuiet (scale x n)
+scale_quiet : (x n : ℕ) → AreQuiet (scale x n)
 scale_quiet x n = quiet_either (n == 1) [] _ tt (product_quiet (log2_of n) x n)
+
+counted_quiet : (d : Home) (x y : Source) (n : ℕ) → IsOff (made_in d) → AreQuiet (counted d x y n)
+counted_quiet d x y n g =
+    quiet_both (fetch 5 x) _ (fetch_quiet 5 x five) (quiet_both (fetch 6 y) _ (fetch_quiet 6 y six) (quiet_both (scale (register_of 6 y) n) _ (scale_quiet (register_of 6 y) n) (g, keep_quiet d)))
+
+pub element_quiet : (d : Home) (x y : Source) (n : ℕ) → IsOff (made_in d) → AreQuiet (element d x y n)
+element_quiet d x (source.Register q) n g = quiet_either (q == 0) (move d x) (counted d x (source.Register q) n) (move_quiet d x g) (counted_quiet d x (source.Register q) n g)
+element_quiet d x (source.Frame o) n g = counted_quiet d x (source.Frame o) n g
+element_quiet d x (source.Constant v) n g =
+    let bytes = source.Constant (v * n % 2 ^ 32) in
+    quiet_both (fetch 5 x) _ (fetch_quiet 5 x five)
+    (quiet_both (combine (operation.Machine register_op.Add) (made_in d) (register_of 5 x) bytes) (keep d)
+    (combine_quiet (operation.Machine register_op.Add) (made_in d) (register_of 5 x) bytes g) (keep_quiet d))
 
 saves_quiet : (f : Function) (k : ℕ) → AreQuiet (saves f k)
 saves_quiet f zero = tt

@@ -47,7 +47,7 @@ use Rattle.select.specs.declared.places.Source.TheVariants as source
 use Rattle.select.specs.declared.places.Home.{Home}
 use Rattle.select.specs.declared.places.Home.TheVariants as home
 use Rattle.select.specs.Selected as selected
-use Rattle.select.specs.Selected.{is_near_gp, exit, source_of, home_of, fetch, into, keep, made_in, register_of, load_constant, far, load_word, store_word, address_of, move, ending, operate, form_or, combine, narrow, reach, reference, log2_of, shift_or_multiply, scale, element, put_byte, get_byte, change_sp, saves, restores, calls, keep_return, take_return, entry, leave, return_home, byte_home, items_of, set_to, shortened, kept}
+use Rattle.select.specs.Selected.{is_near_gp, exit, source_of, home_of, fetch, into, keep, made_in, register_of, load_constant, far, load_word, store_word, address_of, move, ending, operate, form_or, combine, narrow, reach, reference, log2_of, shift_or_multiply, scale, counted, element, put_byte, get_byte, change_sp, saves, restores, calls, keep_return, take_return, entry, leave, return_home, byte_home, items_of, set_to, shortened, kept}
 use Rattle.select.specs.Program.{code_items, function_items, functions_items, shorten_calls, calls_are_near, program_items}
 use Rattle.cc_backend.specs.FlatImages.{IsImageOf}
 use Rattle.cc_backend.proofs.FlatImages as whole
@@ -259,9 +259,18 @@ module _ (g : ℕ) (above : 2 < g) (below : g < 5) where
   scale_free : (x size : ℕ) → FreesAll (scale x size)
   scale_free x size = either (size == 1) [] _ tt (product_free (log2_of size) x size)
 
-  element_free : (d : Home) (x y : Source) (size : ℕ) → IsFree (made_in d) → FreesAll (element d x y size)
-  element_free d x y size p =
+  counted_free : (d : Home) (x y : Source) (size : ℕ) → IsFree (made_in d) → FreesAll (counted d x y size)
+  counted_free d x y size p =
       both (fetch 5 x) _ (fetch_free 5 x five) (both (fetch 6 y) _ (fetch_free 6 y six) (both (scale (register_of 6 y) size) _ (scale_free (register_of 6 y) size) (p, keep_free d)))
+
+  element_free : (d : Home) (x y : Source) (size : ℕ) → IsFree (made_in d) → FreesAll (element d x y size)
+  element_free d x (source.Register q) size p = either (q == 0) (move d x) (counted d x (source.Register q) size) (move_free d x p) (counted_free d x (source.Register q) size p)
+  element_free d x (source.Frame o) size p = counted_free d x (source.Frame o) size p
+  element_free d x (source.Constant v) size p =
+      let bytes = source.Constant (v * size % 2 ^ 32) in
+      both (fetch 5 x) _ (fetch_free 5 x five)
+      (both (combine (operation.Machine register_op.Add) (made_in d) (register_of 5 x) bytes) (keep d)
+      (combine_free (operation.Machine register_op.Add) (made_in d) (register_of 5 x) bytes p) (keep_free d))
 
   change_free : (by : ℕ) → FreesAll (change_sp by)
   change_free by = either (nat_lt ((by + 0x800) % 2 ^ 32) 0x1000) _ _ (low 2 (omega arith), tt) (long_free 7 by seven, (low 2 (omega arith), tt))

@@ -14,6 +14,7 @@ fn name_of(pass: Pass) -> &'static str {
     match pass {
         Pass::Flatten => "flattening",
         Pass::Simplify => "constant-propagation-and-dead-stores",
+        Pass::Hoist => "constant-hoisting",
         Pass::Renumber => "register-allocation",
     }
 }
@@ -36,9 +37,10 @@ pub fn passes_of(
 ) -> Result<String, AllocError>
     requires { IsReady (program_of program.now) }
 {
-    let mut passed = Vec::with_capacity(alloc, 3)?;
+    let mut passed = Vec::with_capacity(alloc, 4)?;
     passed.push(after(alloc, program, Pass::Flatten)?)?;
     passed.push(after(alloc, program, Pass::Simplify)?)?;
+    passed.push(after(alloc, program, Pass::Hoist)?)?;
     passed.push(after(alloc, program, Pass::Renumber)?)?;
     passes_text(alloc, program, passed.as_slice(), names, style)
 }

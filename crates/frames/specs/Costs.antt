@@ -10,7 +10,7 @@ use Rattle.frames_code.specs.declared.code.Instruction.{Instruction}
 use Rattle.frames_code.specs.declared.code.Instruction.TheVariants as instruction
 use Rattle.frames_code.specs.Code.{Function, Program}
 use Rattle.frames_code.specs.Run.{State}
-use Rattle.frames_code.specs.Costs.{entry_cost, spent}
+use Rattle.frames_code.specs.Costs.{entry_cost, entry_cost_of, spent}
 
 -- the entry of main, and then its run
 abbrev pub spent_in_all : Program → ℕ → State → ℕ
@@ -69,3 +69,7 @@ code_bytes instruction.Return = 172
 
 abbrev pub function_bytes : Function → ℕ
 function_bytes f = 4 * entry_cost + sum_by code_bytes f.code
+
+-- the same where the size of the frame is known
+abbrev pub function_bytes_in : Function → ℕ
+function_bytes_in f = 4 * entry_cost_of f + sum_by code_bytes f.code

@@ -1,9 +1,9 @@
 -- A simplified instruction does the same where the known facts hold.
-use Rattle.std.proofs.Common.{◌≡◌, ◌<◌, ℕ, zero, suc, ◌+◌, ◌*◌, ◌%◌, ◌^◌, List, [], ◌∷◌, Option, Some, None, Bool, true, false, refl, sym, ap, ◌∙◌, subst, arith}
-use Rattle.std.specs.Prelude.{◌==◌, ◌&&◌, nat_lt, not, bit_and, bit_or, bit_xor, if◌then◌else◌}
+use Rattle.std.proofs.Common.{◌≡◌, ◌<◌, ℕ, ◌+◌, ◌*◌, ◌-◌, ◌/◌, ◌%◌, ◌^◌, List, Option, Some, None, Bool, true, false, refl, sym, ap, ◌∙◌, subst, arith}
+use Rattle.std.specs.Prelude.{◌==◌, ◌&&◌, nat_lt, bit_and, if◌then◌else◌}
 use Rattle.std.specs.Int.{w32, trailing_zeros}
 use Rattle.std.proofs.lemmas.Bool.{eqb-true, ltb-true}
-use Rattle.std.proofs.lemmas.Nat.{and_comm, or_comm, xor_comm}
+use Rattle.std.proofs.lemmas.Nat.{and_comm, or_comm, xor_comm, and_mask, pow_pos}
 use Rattle.std.proofs.Math.Nat.{mul_comm}
 use Rattle.rv32.specs.declared.instr.RegisterOp.{RegisterOp}
 use Rattle.rv32.specs.declared.instr.RegisterOp.TheVariants as register_op
@@ -18,11 +18,11 @@ use Rattle.frames_code.specs.declared.code.Operation.TheVariants as operation
 use Rattle.frames_code.specs.declared.code.Instruction.{Instruction}
 use Rattle.frames_code.specs.declared.code.Instruction.TheVariants as instruction
 use Rattle.frames_code.specs.Code.{Program, area_home}
-use Rattle.frames_code.specs.Run.{Value, Values, State, Reference, Progress, running, stuck, word, reference, value, word_at, word_in, reference_in, set, next, past, goes_to, place, gives, gives_word, operate, loaded, stored, act, function_at, name_of, ◌>>=◌}
+use Rattle.frames_code.specs.Run.{Value, Values, State, Progress, running, word, reference, value, word_at, word_in, reference_in, set, next, past, goes_to, place, gives, gives_word, operate, loaded, stored, act, function_at, name_of, ◌>>=◌}
 use Rattle.frames_opt.specs.declared.facts.Known.{Known}
 use Rattle.frames_opt.specs.declared.facts.Known.TheVariants as known
 use Rattle.frames_opt.specs.inside.Facts.{held, known_of}
-use Rattle.frames_opt.specs.inside.Rules.{constant_or, simpler_operand, location_or, simpler_location, is_constant, commutes, is_product, product, shift, is_power, scaled, multiplied, arranged, compute, within, statics_or, frame_or, numbered, simpler_element, simpler}
+use Rattle.frames_opt.specs.inside.Rules.{constant_or, simpler_operand, location_or, simpler_location, commutes, with_constant, with_power, is_power, with_word, arranged, compute, statics_or, frame_or, numbered, simpler_element, simpler}
 
 -- ---- known facts hold of a value, where the frame has a name and its arrays begin `home` bytes above its start
 
@@ -81,54 +81,88 @@ commuted (operation.Machine register_op.RemUnsigned) a b e = absurd (not_true e)
 commuted operation.Equal a b e = absurd (not_true e)
 commuted operation.NotEqual a b e = absurd (not_true e)
 
-power_is : (k v : ℕ) → is_power k v ≡ true → (a : ℕ) → operate_of register_op.ShiftLeft a k ≡ operate_of register_op.Mul a v
-power_is k v e a = on (nat_lt k 32) refl
+-- 2^k is v, with k < 32
+pub record Power (k v : ℕ) : Type 0 where
+  pub small : k < 32
+  pub is : 2 ^ k ≡ v
+
+pub power_is : (k v : ℕ) → is_power k v ≡ true → Power k v
+power_is k v e = on (nat_lt k 32) refl
   where
-    on : (t : Bool) → nat_lt k 32 ≡ t → operate_of register_op.ShiftLeft a k ≡ operate_of register_op.Mul a v
+    on : (t : Bool) → nat_lt k 32 ≡ t → Power k v
     on false u = absurd (not_true (sym (ap (λ t. t && (2 ^ k == v)) u) ∙ e))
     on true u =
-        let small : k < 32 = ltb-true k 32 u in
         let same : (2 ^ k == v) ≡ true = ap (λ t. t && (2 ^ k == v)) (sym u) ∙ e in
-        let power : 2 ^ k ≡ v = eqb-true (2 ^ k) v same in
-        let amount : k % 2 ^ 5 ≡ k = omega (arith, small) in
-        ap (λ n. a * 2 ^ n % 2 ^ 32) amount ∙ ap (λ n. a * n % 2 ^ 32) power
+        record { small = ltb-true k 32 u; is = eqb-true (2 ^ k) v same }
+
+-- no power of two is zero
+power_some : (k : ℕ) → (2 ^ k == 0) ≡ false
+power_some k = on (2 ^ k == 0) refl
+  where
+    on : (t : Bool) → (2 ^ k == 0) ≡ t → (2 ^ k == 0) ≡ false
+    on false e = e
+    on true e = absurd (omega (arith, pow_pos k, eqb-true (2 ^ k) 0 e))
+
+module _ (a k v : ℕ) (power : Power k v) where
+  amount : k % 2 ^ 5 ≡ k
+  amount = let small = power.small in omega (arith, small)
+
+  some : (v == 0) ≡ false
+  some = ap (λ n. n == 0) (sym power.is) ∙ power_some k
+
+  product_is : operate_of register_op.ShiftLeft a k ≡ operate_of register_op.Mul a v
+  product_is = ap (λ n. a * 2 ^ n % 2 ^ 32) amount ∙ ap (λ n. a * n % 2 ^ 32) power.is
+
+  quotient_is : operate_of register_op.ShiftRight a k ≡ operate_of register_op.DivUnsigned a v
+  quotient_is = ap (λ n. a / 2 ^ n) amount ∙ (ap (λ n. a / n) power.is ∙ ap (λ t. if t then 2 ^ 32 - 1 else a / v) (sym some))
+
+  remainder_is : operate_of register_op.And a (v - 1) ≡ operate_of register_op.RemUnsigned a v
+  remainder_is = ap (λ n. bit_and a (n - 1)) (sym power.is) ∙ (and_mask a k ∙ (ap (λ n. a % n) power.is ∙ ap (λ t. if t then a else a % v) (sym some)))
 
 module _ (p : Program) (s : State) where
   abbrev does : Instruction → Progress
   does = act p s
 
-  scaled_same : (d : Target) (x : Operand) (v : ℕ) → does (scaled d x v) ≡ does (product d x (operand.Constant v))
-  scaled_same d x v = on (trailing_zeros w32 v) (is_power (trailing_zeros w32 v) v) refl
-    where
-      on : (k : ℕ) (t : Bool) → is_power k v ≡ t → does (if t then shift d x k else product d x (operand.Constant v)) ≡ does (product d x (operand.Constant v))
-      on k false e = refl
-      on k true e = bind_same (word_at s x) (λ a. gives_word d s (operate_of register_op.ShiftLeft a k)) (λ a. gives_word d s (operate_of register_op.Mul a v)) (λ a. ap (gives_word d s) (power_is k v e a))
+  operated_same : (o u : RegisterOp) (d : Target) (x : Operand) (w v : ℕ) → ((a : ℕ) → operate_of o a w ≡ operate_of u a v) → does (with_constant o d x w) ≡ does (with_constant u d x v)
+  operated_same o u d x w v each = bind_same (word_at s x) (λ a. gives_word d s (operate_of o a w)) (λ a. gives_word d s (operate_of u a v)) (λ a. ap (gives_word d s) (each a))
 
-  multiplied_same : (d : Target) (x y : Operand) → does (multiplied d x y) ≡ does (product d x y)
-  multiplied_same d x (operand.Temporary k) = refl
-  multiplied_same d x (operand.Cell c) = refl
-  multiplied_same d x (operand.Constant v) = scaled_same d x v
-  multiplied_same d x (operand.Argument k) = refl
+  bits_same : (d : Target) (x : Operand) (k v : ℕ) (t : Bool) → Power k v
+      → does (if t then with_constant register_op.And d x (v - 1) else with_constant register_op.RemUnsigned d x v) ≡ does (with_constant register_op.RemUnsigned d x v)
+  bits_same d x k v false e = refl
+  bits_same d x k v true e = operated_same register_op.And register_op.RemUnsigned d x (v - 1) v (λ a. remainder_is a k v e)
+
+  power_same : (o : RegisterOp) (d : Target) (x : Operand) (k v : ℕ) → Power k v → does (with_power o d x k v) ≡ does (with_constant o d x v)
+  power_same register_op.Add d x k v e = refl
+  power_same register_op.Sub d x k v e = refl
+  power_same register_op.ShiftLeft d x k v e = refl
+  power_same register_op.Less d x k v e = refl
+  power_same register_op.LessUnsigned d x k v e = refl
+  power_same register_op.Xor d x k v e = refl
+  power_same register_op.ShiftRight d x k v e = refl
+  power_same register_op.ShiftRightArithmetic d x k v e = refl
+  power_same register_op.Or d x k v e = refl
+  power_same register_op.And d x k v e = refl
+  power_same register_op.Mul d x k v e = operated_same register_op.ShiftLeft register_op.Mul d x k v (λ a. product_is a k v e)
+  power_same register_op.MulHigh d x k v e = refl
+  power_same register_op.MulHighSignedUnsigned d x k v e = refl
+  power_same register_op.MulHighUnsigned d x k v e = refl
+  power_same register_op.Div d x k v e = refl
+  power_same register_op.DivUnsigned d x k v e = operated_same register_op.ShiftRight register_op.DivUnsigned d x k v (λ a. quotient_is a k v e)
+  power_same register_op.Rem d x k v e = refl
+  power_same register_op.RemUnsigned d x k v e = bits_same d x k v (nat_lt k 12) e
+
+  with_word_same : (o : RegisterOp) (d : Target) (x : Operand) (v : ℕ) → does (with_word o d x v) ≡ does (with_constant o d x v)
+  with_word_same o d x v = on (trailing_zeros w32 v) (is_power (trailing_zeros w32 v) v) refl
+    where
+      on : (k : ℕ) (t : Bool) → is_power k v ≡ t → does (if t then with_power o d x k v else with_constant o d x v) ≡ does (with_constant o d x v)
+      on k false e = refl
+      on k true e = power_same o d x k v (power_is k v e)
 
   arranged_same : (o : Operation) (d : Target) (x y : Operand) → does (arranged o d x y) ≡ does (instruction.Compute o d x y)
-  arranged_same (operation.Machine register_op.Add) d x y = refl
-  arranged_same (operation.Machine register_op.Sub) d x y = refl
-  arranged_same (operation.Machine register_op.ShiftLeft) d x y = refl
-  arranged_same (operation.Machine register_op.Less) d x y = refl
-  arranged_same (operation.Machine register_op.LessUnsigned) d x y = refl
-  arranged_same (operation.Machine register_op.Xor) d x y = refl
-  arranged_same (operation.Machine register_op.ShiftRight) d x y = refl
-  arranged_same (operation.Machine register_op.ShiftRightArithmetic) d x y = refl
-  arranged_same (operation.Machine register_op.Or) d x y = refl
-  arranged_same (operation.Machine register_op.And) d x y = refl
-  arranged_same (operation.Machine register_op.Mul) d x y = multiplied_same d x y
-  arranged_same (operation.Machine register_op.MulHigh) d x y = refl
-  arranged_same (operation.Machine register_op.MulHighSignedUnsigned) d x y = refl
-  arranged_same (operation.Machine register_op.MulHighUnsigned) d x y = refl
-  arranged_same (operation.Machine register_op.Div) d x y = refl
-  arranged_same (operation.Machine register_op.DivUnsigned) d x y = refl
-  arranged_same (operation.Machine register_op.Rem) d x y = refl
-  arranged_same (operation.Machine register_op.RemUnsigned) d x y = refl
+  arranged_same (operation.Machine o) d x (operand.Temporary k) = refl
+  arranged_same (operation.Machine o) d x (operand.Cell c) = refl
+  arranged_same (operation.Machine o) d x (operand.Constant v) = with_word_same o d x v
+  arranged_same (operation.Machine o) d x (operand.Argument k) = refl
   arranged_same operation.Equal d x y = refl
   arranged_same operation.NotEqual d x y = refl
 

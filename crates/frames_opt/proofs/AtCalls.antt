@@ -1,11 +1,11 @@
 -- A program that was made simpler calls and returns only where the program does, with the same in its temporaries.
-use Rattle.std.proofs.Common.{◌≡◌, ◌⊎◌, ⊎_elim, ℕ, zero, suc, ◌+◌, List, [], ◌∷◌, length, drop, Option, Some, None, true, refl, sym, ap, ◌∙◌, subst, arith}
+use Rattle.std.proofs.Common.{◌≡◌, ⊎_elim, ℕ, zero, suc, ◌+◌, List, [], ◌∷◌, length, drop, Option, Some, None, true, refl, sym, ap, ◌∙◌, subst, arith}
 use Rattle.std.specs.Prelude.{slice_get}
 use Rattle.frames_code.specs.declared.code.Instruction.{Instruction}
 use Rattle.frames_code.specs.declared.code.Instruction.TheVariants as instruction
 use Rattle.frames_code.specs.Code.{Program}
 use Rattle.frames_code.specs.Costs.{next_of}
-use Rattle.frames_code.specs.Run.{Value, Values, State, Progress, running, run, start, function_at}
+use Rattle.frames_code.specs.Run.{Values, State, running, run, start, function_at}
 use Rattle.frames_opt.specs.declared.facts.Known.{Known}
 use Rattle.frames_opt.specs.Simplified.{HasItsValues, IsAtCall}
 use Rattle.frames_opt.specs.inside.Facts.{known_of}
@@ -13,7 +13,7 @@ use Rattle.frames_opt.specs.inside.Rules.{simpler_operand, simpler}
 use Rattle.frames_opt.specs.inside.Unread.{reads}
 use Rattle.frames_opt.proofs.Alike.{same_some, over, Agree, same_where_read}
 use Rattle.frames_opt.proofs.Positions.{compute_form, element_form}
-use Rattle.frames_opt.proofs.Runs.{Dropped, Position, IsSimpler, rest, Reached, reached}
+use Rattle.frames_opt.proofs.Runs.{Position, IsSimpler, rest, reached}
 
 -- it calls, or returns
 abbrev Leaves : Instruction → Type 0

@@ -1,10 +1,10 @@
 -- Simpler code is as sound.
-use Rattle.std.proofs.Common.{◌≡◌, ◌≤◌, ◌<◌, ◌⊎◌, inl, inr, ⊎_elim, ℕ, zero, suc, ◌+◌, ◌*◌, ◌^◌, ◌%◌, List, [], ◌∷◌, length, map, Option, Some, None, Bool, true, false, refl, sym, ap, ◌∙◌, subst, arith}
-use Rattle.std.specs.Prelude.{◌==◌, ◌&&◌, slice_get, set, get_or, nat_lt, if◌then◌else◌, replicate}
+use Rattle.std.proofs.Common.{◌≡◌, ◌<◌, ⊎_elim, ℕ, zero, suc, ◌+◌, ◌-◌, ◌*◌, ◌^◌, ◌%◌, List, [], ◌∷◌, length, Option, Some, None, Bool, true, false, refl, sym, ap, ◌∙◌, subst, arith}
+use Rattle.std.specs.Prelude.{◌==◌, slice_get, set, nat_lt, if◌then◌else◌}
 use Rattle.std.specs.Int.{w32, trailing_zeros}
 use Rattle.std.proofs.lemmas.Bool.{eqb-true, eqb-false, ltb-true}
 use Rattle.std.proofs.lemmas.List.{get_or-set_other}
-use Rattle.std.proofs.lemmas.List.Sums.{sum_by-cons}
+use Rattle.rv32.specs.declared.instr.RegisterOp.{RegisterOp}
 use Rattle.rv32.specs.declared.instr.RegisterOp.TheVariants as register_op
 use Rattle.frames_code.specs.declared.code.Operand.{Operand}
 use Rattle.frames_code.specs.declared.code.Operand.TheVariants as operand
@@ -17,15 +17,15 @@ use Rattle.frames_code.specs.declared.code.Operation.TheVariants as operation
 use Rattle.frames_code.specs.declared.code.Instruction.{Instruction}
 use Rattle.frames_code.specs.declared.code.Instruction.TheVariants as instruction
 use Rattle.frames_code.specs.Code.{Function}
-use Rattle.frames_code.specs.Sound.{OperandFits, TargetFits, LocationFits, InstructionFits, FunctionFits, places_of}
+use Rattle.frames_code.specs.Sound.{OperandFits, TargetFits, LocationFits, InstructionFits, FunctionFits}
 use Rattle.frames_opt.specs.declared.facts.Known.{Known}
 use Rattle.frames_opt.specs.declared.facts.Known.TheVariants as known
 use Rattle.frames_opt.specs.inside.Facts.{nothing, held, known_of, reference_to, learned, result_on, computed, behind}
-use Rattle.frames_opt.specs.inside.Rules.{constant_or, simpler_operand, location_or, simpler_location, is_constant, commutes, is_product, product, shift, is_power, scaled, multiplied, arranged, compute, within, statics_or, frame_or, numbered, simpler_element, simpler}
+use Rattle.frames_opt.specs.inside.Rules.{constant_or, simpler_operand, location_or, simpler_location, with_constant, with_power, is_power, with_word, arranged, compute, within, statics_or, frame_or, numbered, simpler_element, simpler}
 use Rattle.frames_opt.specs.inside.Unread.{written, is_unread, kept, kept_by}
 use Rattle.frames_opt.specs.inside.Passes.{is_marked, fresh, forward, near, swept}
-use Rattle.frames_opt.specs.layer.Functions.{IsImproved, IsSimplerCode, stayed, improved, with_code, IsSimplerFunction}
-use Rattle.frames_opt.proofs.Acts.{not_true}
+use Rattle.frames_opt.specs.layer.Functions.{IsSimplerCode, stayed, improved, with_code, IsSimplerFunction}
+use Rattle.frames_opt.proofs.Acts.{power_is}
 use Rattle.frames_opt.proofs.Stands.{held_in, set_same}
 
 module _ (n : ℕ) (f : Function) where
@@ -138,28 +138,41 @@ module _ (n : ℕ) (f : Function) where
   either_fits true x y a b = a
   either_fits false x y a b = b
 
-  power_small : (k v : ℕ) → is_power k v ≡ true → k < 2 ^ 32
-  power_small k v e = on (nat_lt k 32) refl
-    where
-      on : (t : Bool) → nat_lt k 32 ≡ t → k < 2 ^ 32
-      on true u = let lt : k < 32 = ltb-true k 32 u in omega (arith, lt)
-      on false u = absurd (not_true (sym (ap (λ t. t && (2 ^ k == v)) u) ∙ e))
+  power_fits : (o : RegisterOp) (d : Target) (x : Operand) (k v : ℕ) → TargetFits f d → OperandFits f x → k < 32 → v < 2 ^ 32 → Fits (with_power o d x k v)
+  power_fits register_op.Add d x k v hd hx hk hv = (hd, hx, hv)
+  power_fits register_op.Sub d x k v hd hx hk hv = (hd, hx, hv)
+  power_fits register_op.ShiftLeft d x k v hd hx hk hv = (hd, hx, hv)
+  power_fits register_op.Less d x k v hd hx hk hv = (hd, hx, hv)
+  power_fits register_op.LessUnsigned d x k v hd hx hk hv = (hd, hx, hv)
+  power_fits register_op.Xor d x k v hd hx hk hv = (hd, hx, hv)
+  power_fits register_op.ShiftRight d x k v hd hx hk hv = (hd, hx, hv)
+  power_fits register_op.ShiftRightArithmetic d x k v hd hx hk hv = (hd, hx, hv)
+  power_fits register_op.Or d x k v hd hx hk hv = (hd, hx, hv)
+  power_fits register_op.And d x k v hd hx hk hv = (hd, hx, hv)
+  power_fits register_op.Mul d x k v hd hx hk hv = (hd, hx, omega (arith, hk))
+  power_fits register_op.MulHigh d x k v hd hx hk hv = (hd, hx, hv)
+  power_fits register_op.MulHighSignedUnsigned d x k v hd hx hk hv = (hd, hx, hv)
+  power_fits register_op.MulHighUnsigned d x k v hd hx hk hv = (hd, hx, hv)
+  power_fits register_op.Div d x k v hd hx hk hv = (hd, hx, hv)
+  power_fits register_op.DivUnsigned d x k v hd hx hk hv = (hd, hx, omega (arith, hk))
+  power_fits register_op.Rem d x k v hd hx hk hv = (hd, hx, hv)
+  power_fits register_op.RemUnsigned d x k v hd hx hk hv =
+      either_fits (nat_lt k 12) (with_constant register_op.And d x (v - 1)) (with_constant register_op.RemUnsigned d x v) (hd, hx, omega (arith, hv)) (hd, hx, hv)
 
-  scaled_fits : (d : Target) (x : Operand) (v : ℕ) → TargetFits f d → OperandFits f x → v < 2 ^ 32 → Fits (scaled d x v)
-  scaled_fits d x v hd hx hv = on (trailing_zeros w32 v) (is_power (trailing_zeros w32 v) v) refl
+  word_fits : (o : RegisterOp) (d : Target) (x : Operand) (v : ℕ) → TargetFits f d → OperandFits f x → v < 2 ^ 32 → Fits (with_word o d x v)
+  word_fits o d x v hd hx hv = on (trailing_zeros w32 v) (is_power (trailing_zeros w32 v) v) refl
     where
-      on : (k : ℕ) (t : Bool) → is_power k v ≡ t → Fits (if t then shift d x k else product d x (operand.Constant v))
-      on k true e = (hd, hx, power_small k v e)
+      on : (k : ℕ) (t : Bool) → is_power k v ≡ t → Fits (if t then with_power o d x k v else with_constant o d x v)
+      on k true e = power_fits o d x k v hd hx (power_is k v e).small hv
       on k false e = (hd, hx, hv)
 
-  multiplied_fits : (d : Target) (x y : Operand) → TargetFits f d → OperandFits f x → OperandFits f y → Fits (multiplied d x y)
-  multiplied_fits d x (operand.Temporary k) hd hx hy = (hd, hx, hy)
-  multiplied_fits d x (operand.Cell c) hd hx hy = (hd, hx, hy)
-  multiplied_fits d x (operand.Constant v) hd hx hy = scaled_fits d x v hd hx hy
-  multiplied_fits d x (operand.Argument k) hd hx hy = (hd, hx, hy)
-
   arranged_fits : (o : Operation) (d : Target) (x y : Operand) → TargetFits f d → OperandFits f x → OperandFits f y → Fits (arranged o d x y)
-  arranged_fits o d x y hd hx hy = either_fits (is_product o) (multiplied d x y) (instruction.Compute o d x y) (multiplied_fits d x y hd hx hy) (hd, hx, hy)
+  arranged_fits (operation.Machine o) d x (operand.Temporary k) hd hx hy = (hd, hx, hy)
+  arranged_fits (operation.Machine o) d x (operand.Cell c) hd hx hy = (hd, hx, hy)
+  arranged_fits (operation.Machine o) d x (operand.Constant v) hd hx hy = word_fits o d x v hd hx hy
+  arranged_fits (operation.Machine o) d x (operand.Argument k) hd hx hy = (hd, hx, hy)
+  arranged_fits operation.Equal d x y hd hx hy = (hd, hx, hy)
+  arranged_fits operation.NotEqual d x y hd hx hy = (hd, hx, hy)
 
   compute_fits : (o : Operation) (d : Target) (x y : Operand) → TargetFits f d → OperandFits f x → OperandFits f y → Fits (compute o d x y)
   compute_fits o d x y hd hx hy = either_fits _ (arranged o d y x) (arranged o d x y) (arranged_fits o d y x hd hy hx) (arranged_fits o d x y hd hx hy)

@@ -1,19 +1,22 @@
 -- The two passes over the code of a function, instruction by instruction.
-use Rattle.std.proofs.Common.{◌≡◌, ◌≤◌, ◌⊎◌, inl, inr, ⊎_elim, ℕ, zero, suc, ◌+◌, List, [], ◌∷◌, length, take, drop, get_or, Option, Some, None, Bool, true, false, refl, sym, ap, ◌∙◌, subst, arith}
-use Rattle.std.specs.Prelude.{slice_get, set, min, if◌then◌else◌, not, ◌&&◌}
+use Rattle.std.proofs.Common.{◌≡◌, ◌≤◌, ◌⊎◌, inl, inr, ⊎_elim, ℕ, zero, suc, ◌+◌, ◌-◌, List, [], ◌∷◌, length, take, drop, Option, Some, None, Bool, true, false, refl, sym, ap, ◌∙◌, subst, arith}
+use Rattle.std.specs.Prelude.{slice_get, set, min, nat_lt, if◌then◌else◌, not, ◌&&◌}
 use Rattle.std.specs.Int.{w32, trailing_zeros}
+use Rattle.rv32.specs.declared.instr.RegisterOp.{RegisterOp}
+use Rattle.rv32.specs.declared.instr.RegisterOp.TheVariants as register_op
 use Rattle.frames_code.specs.declared.code.Operand.{Operand}
 use Rattle.frames_code.specs.declared.code.Operand.TheVariants as operand
 use Rattle.frames_code.specs.declared.code.Target.{Target}
 use Rattle.frames_code.specs.declared.code.Location.TheVariants as location
 use Rattle.frames_code.specs.declared.code.Operation.{Operation}
+use Rattle.frames_code.specs.declared.code.Operation.TheVariants as operation
 use Rattle.frames_code.specs.declared.code.Instruction.{Instruction}
 use Rattle.frames_code.specs.declared.code.Instruction.TheVariants as instruction
 use Rattle.frames_code.specs.Costs.{cost}
 use Rattle.frames_opt.specs.declared.facts.Known.{Known}
 use Rattle.frames_opt.specs.declared.facts.Known.TheVariants as known
 use Rattle.frames_opt.specs.inside.Facts.{nothing, known_of, behind}
-use Rattle.frames_opt.specs.inside.Rules.{simpler_operand, is_product, product, shift, is_power, is_constant, commutes, scaled, multiplied, arranged, compute, within, statics_or, frame_or, numbered, simpler_element, simpler}
+use Rattle.frames_opt.specs.inside.Rules.{simpler_operand, with_constant, with_power, is_power, is_constant, commutes, arranged, compute, within, statics_or, frame_or, numbered, simpler_element, simpler}
 use Rattle.frames_opt.specs.inside.Unread.{written, reads, is_written, is_unread, kept, kept_by}
 use Rattle.frames_opt.specs.inside.Passes.{jump_of, is_marked, marked_by, marked, all_marked, AreMarked, fresh, forward, near, swept}
 use Rattle.frames_opt.proofs.Acts.{not_true}
@@ -28,17 +31,37 @@ module _ (P : Instruction → Type 0) where
   either false x y a b = b
 
   module _ (o : Operation) (d : Target) (any : (o2 : Operation) (x y : Operand) → P (instruction.Compute o2 d x y)) where
-    multiplied_form : (x y : Operand) → P (multiplied d x y)
-    multiplied_form x (operand.Temporary k) = any _ x (operand.Temporary k)
-    multiplied_form x (operand.Cell c) = any _ x (operand.Cell c)
-    multiplied_form x (operand.Constant v) = either (is_power (trailing_zeros w32 v) v) (shift d x (trailing_zeros w32 v)) (product d x (operand.Constant v)) (any _ x _) (any _ x _)
-    multiplied_form x (operand.Argument k) = any _ x (operand.Argument k)
+    power_form : (r : RegisterOp) (x : Operand) (k v : ℕ) → P (with_power r d x k v)
+    power_form register_op.Add x k v = any _ x _
+    power_form register_op.Sub x k v = any _ x _
+    power_form register_op.ShiftLeft x k v = any _ x _
+    power_form register_op.Less x k v = any _ x _
+    power_form register_op.LessUnsigned x k v = any _ x _
+    power_form register_op.Xor x k v = any _ x _
+    power_form register_op.ShiftRight x k v = any _ x _
+    power_form register_op.ShiftRightArithmetic x k v = any _ x _
+    power_form register_op.Or x k v = any _ x _
+    power_form register_op.And x k v = any _ x _
+    power_form register_op.Mul x k v = any _ x _
+    power_form register_op.MulHigh x k v = any _ x _
+    power_form register_op.MulHighSignedUnsigned x k v = any _ x _
+    power_form register_op.MulHighUnsigned x k v = any _ x _
+    power_form register_op.Div x k v = any _ x _
+    power_form register_op.DivUnsigned x k v = any _ x _
+    power_form register_op.Rem x k v = any _ x _
+    power_form register_op.RemUnsigned x k v = either (nat_lt k 12) (with_constant register_op.And d x (v - 1)) (with_constant register_op.RemUnsigned d x v) (any _ x _) (any _ x _)
 
-    arranged_form : (x y : Operand) → P (arranged o d x y)
-    arranged_form x y = either (is_product o) (multiplied d x y) (instruction.Compute o d x y) (multiplied_form x y) (any o x y)
+    arranged_form : (r : Operation) (x y : Operand) → P (arranged r d x y)
+    arranged_form (operation.Machine r) x (operand.Temporary k) = any _ x (operand.Temporary k)
+    arranged_form (operation.Machine r) x (operand.Cell c) = any _ x (operand.Cell c)
+    arranged_form (operation.Machine r) x (operand.Constant v) =
+        either (is_power (trailing_zeros w32 v) v) (with_power r d x (trailing_zeros w32 v) v) (with_constant r d x v) (power_form r x (trailing_zeros w32 v) v) (any _ x _)
+    arranged_form (operation.Machine r) x (operand.Argument k) = any _ x (operand.Argument k)
+    arranged_form operation.Equal x y = any _ x y
+    arranged_form operation.NotEqual x y = any _ x y
 
     pub compute_form : (x y : Operand) → P (compute o d x y)
-    compute_form x y = either (is_constant x && (not (is_constant y) && commutes o)) (arranged o d y x) (arranged o d x y) (arranged_form y x) (arranged_form x y)
+    compute_form x y = either (is_constant x && (not (is_constant y) && commutes o)) (arranged o d y x) (arranged o d x y) (arranged_form o y x) (arranged_form o x y)
 
   module _ (d : Target) (x : Operand) (size : ℕ) (any : (y : Operand) → P (instruction.Element d x y size)) (frame : (o : ℕ) → P (instruction.Address d (location.Frame o))) (statics : (o : ℕ) → P (instruction.Address d (location.Statics o))) where
     statics_form : (o : Option ℕ) (n : ℕ) → P (statics_or o d x n size)

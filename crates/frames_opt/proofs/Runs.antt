@@ -1,11 +1,11 @@
 -- A program that was made simpler runs as the program does, at no more cost.
-use Rattle.std.proofs.Common.{◌≡◌, ◌≤◌, ◌⊎◌, inl, inr, ⊎_elim, ℕ, zero, suc, ◌+◌, List, [], ◌∷◌, length, drop, Option, Some, None, true, refl, sym, ap, ◌∙◌, subst, arith}
+use Rattle.std.proofs.Common.{◌≡◌, ◌≤◌, ◌⊎◌, inl, ⊎_elim, ℕ, zero, suc, ◌+◌, List, [], ◌∷◌, length, drop, Option, Some, None, true, refl, sym, ap, ◌∙◌, subst, arith}
 use Rattle.std.specs.Prelude.{slice_get}
 use Rattle.frames_code.specs.declared.code.Instruction.{Instruction}
 use Rattle.frames_code.specs.declared.code.Instruction.TheVariants as instruction
 use Rattle.frames_code.specs.Code.{Program}
 use Rattle.frames_code.specs.Costs.{cost, cost_if, cost_on, next_of, spent}
-use Rattle.frames_code.specs.Run.{Values, Frame, State, Progress, running, ended, stuck, unset, past, act, step, run, start, goes_on, function_at, ◌>>=◌}
+use Rattle.frames_code.specs.Run.{Values, State, Progress, running, ended, stuck, unset, act, step, run, start, goes_on, function_at, ◌>>=◌}
 use Rattle.frames_opt.specs.declared.facts.Known.{Known}
 use Rattle.frames_opt.specs.Simplified.{DoesTheSame, IsDefined}
 use Rattle.frames_opt.specs.inside.Facts.{nothing}
@@ -13,7 +13,7 @@ use Rattle.frames_opt.specs.inside.Rules.{simpler}
 use Rattle.frames_opt.specs.inside.Unread.{written, is_unread}
 use Rattle.frames_opt.proofs.Acts.{Holds, name_in, home_in, act_same}
 use Rattle.frames_opt.proofs.Stands.{Sat, Flow, Stands, act_stands, nothing_holds}
-use Rattle.frames_opt.proofs.Alike.{Sized, over, Agree, Goes, Match}
+use Rattle.frames_opt.proofs.Alike.{Sized, over, Agree, Match}
 use Rattle.frames_opt.proofs.Steps.{act_alike, dropped_alike}
 
 pub record Dropped (y z : Instruction) (xs : List Instruction) : Type 0 where

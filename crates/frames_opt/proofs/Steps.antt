@@ -1,6 +1,6 @@
 -- Each step of a program that was made simpler is that of the program.
-use Rattle.std.proofs.Common.{◌≡◌, ◌⊎◌, inl, inr, ⊎_elim, ℕ, zero, suc, ◌+◌, ◌-◌, ◌*◌, ◌%◌, ◌^◌, List, [], ◌∷◌, Option, Some, None, Bool, true, false, refl, sym, ap, ◌∙◌, subst}
-use Rattle.std.specs.Prelude.{◌==◌, ◌||◌, if◌then◌else◌}
+use Rattle.std.proofs.Common.{◌≡◌, inl, ℕ, ◌+◌, ◌-◌, ◌*◌, ◌%◌, ◌^◌, List, [], ◌∷◌, Some, Bool, true, false, refl, sym, subst}
+use Rattle.std.specs.Prelude.{if◌then◌else◌}
 use Rattle.rv32.specs.declared.instr.Test.{Test}
 use Rattle.rv32.specs.Arithmetic.{compare_of}
 use Rattle.csem_events.specs.Events.{Got, GotEnd, Put}
@@ -12,9 +12,9 @@ use Rattle.frames_code.specs.declared.code.Location.{Location}
 use Rattle.frames_code.specs.declared.code.Instruction.{Instruction}
 use Rattle.frames_code.specs.declared.code.Instruction.TheVariants as instruction
 use Rattle.frames_code.specs.Code.{Program}
-use Rattle.frames_code.specs.Run.{Value, Values, Frame, State, Reference, Progress, running, ended, stuck, word, reference, value, word_at, reference_in, set, unset, next, past, memory, fits, element_in, goes_to, place, gives, gives_word, operate, converted, loaded, stored, put, got, returned, entered, below_eight, from_eight, result_alone, act, function_at, ◌>>=◌}
+use Rattle.frames_code.specs.Run.{Value, Values, Frame, State, Progress, running, ended, stuck, word, reference, value, word_at, reference_in, set, unset, next, past, memory, fits, element_in, goes_to, place, gives, gives_word, operate, converted, loaded, stored, put, got, returned, entered, result_alone, act, ◌>>=◌}
 use Rattle.frames_opt.specs.inside.Unread.{names, is_through, reads, written, is_unread}
-use Rattle.frames_opt.proofs.Alike.{Sized, over, Agree, Goes, Match, match_bind, match_left, match_if, or_left, or_right, value_below, word_at_below, reference_at_below, place_below, same_read, gives_match, move_match, loaded_match, stored_match, none_written, gives_dropped, move_dropped}
+use Rattle.frames_opt.proofs.Alike.{Sized, over, Agree, Goes, Match, match_bind, match_left, or_left, or_right, value_below, word_at_below, reference_at_below, place_below, same_read, gives_match, move_match, loaded_match, stored_match, none_written, gives_dropped, move_dropped}
 
 -- ---- instructions that go on to the next
 

@@ -1,5 +1,5 @@
 -- A program of simplified functions does what the program does, at no more cost, and is as sound.
-use Rattle.std.proofs.Common.{◌≡◌, ◌≤◌, ◌<◌, ℕ, zero, suc, ◌+◌, List, [], ◌∷◌, length, map, Option, Some, None, refl, sym, ap, ◌∙◌, subst, arith}
+use Rattle.std.proofs.Common.{◌≡◌, ◌≤◌, ℕ, zero, suc, ◌+◌, List, [], ◌∷◌, length, map, Option, Some, None, refl, sym, ap, ◌∙◌, subst, arith}
 use Rattle.std.specs.Prelude.{slice_get, sum_by}
 use Rattle.std.proofs.lemmas.List.Sums.{sum_by-cons}
 use Rattle.frames_code.specs.declared.code.Instruction.{Instruction}
@@ -10,8 +10,8 @@ use Rattle.frames_opt.specs.declared.facts.Known.{Known}
 use Rattle.frames.specs.Costs.{code_bytes}
 use Rattle.frames_opt.specs.Simplified.{IsSimplified}
 use Rattle.frames_opt.specs.inside.Facts.{nothing}
-use Rattle.frames_opt.specs.layer.Functions.{IsSimplerCode, stayed, improved, IsSimplerFunction, AreSimpler}
-use Rattle.frames_opt.proofs.Alike.{Sized, with_code}
+use Rattle.frames_opt.specs.layer.Functions.{IsSimplerCode, stayed, improved, AreSimpler}
+use Rattle.frames_opt.proofs.Alike.{with_code}
 use Rattle.frames_opt.proofs.Runs.{Position, IsSimpler, runs, costs}
 use Rattle.frames_opt.proofs.Positions.{known_at, middle_of, position, same_position, start_known}
 use Rattle.frames_opt.proofs.AtCalls.{at_calls}

@@ -115,7 +115,7 @@ fn code_bytes(instruction: Instruction) -> u64
 }
 
 /// The most bytes of code; `None` where the sum is too large a number.
-fn size_of(code: &[Instruction]) -> Option<u64>
+pub fn size_of(code: &[Instruction]) -> Option<u64>
     ensures { IfSome result (λ n. n ≡ sum_by bytes_of_code code.now) }
 {
     let mut total: u64 = 0;

@@ -11,5 +11,6 @@ mod passes;
 mod rules;
 mod unread;
 
+pub use bytes::size_of;
 pub use functions::{simplify, simplify_function};
 pub use laws::functions_are_simplified;

@@ -108,95 +108,112 @@ fn is_constant(operand: Operand) -> bool
     }
 }
 
-/// The operation that multiplies by a power of two, where this word is one.
-fn scaled(target: Target, left: Operand, word: u32) -> Instruction
-    ensures { result ≡ rules.scaled target left word }
+fn with_constant(op: RegisterOp, target: Target, left: Operand, word: u32) -> Instruction
+    ensures { result ≡ rules.with_constant op target left word }
+{
+    Instruction::Compute {
+        operation: Operation::Machine(op),
+        target,
+        left,
+        right: Operand::Constant(word),
+    }
+}
+
+/// The remainder by a power of two.
+fn low_bits(target: Target, left: Operand, power: u32, word: u32) -> Instruction
+    ensures { result ≡ rules.low_bits target left power word }
+{
+    if power < 12 {
+        with_constant(RegisterOp::And, target, left, word.saturating_sub(1))
+    } else {
+        with_constant(RegisterOp::RemUnsigned, target, left, word)
+    }
+}
+
+/// An operation with a power of two: by a shift or a mask where there is one.
+fn with_power(op: RegisterOp, target: Target, left: Operand, power: u32, word: u32) -> Instruction
+    ensures { result ≡ rules.with_power op target left power word }
+{
+    match op {
+        RegisterOp::Add => with_constant(op, target, left, word),
+        RegisterOp::Sub => with_constant(op, target, left, word),
+        RegisterOp::ShiftLeft => with_constant(op, target, left, word),
+        RegisterOp::Less => with_constant(op, target, left, word),
+        RegisterOp::LessUnsigned => with_constant(op, target, left, word),
+        RegisterOp::Xor => with_constant(op, target, left, word),
+        RegisterOp::ShiftRight => with_constant(op, target, left, word),
+        RegisterOp::ShiftRightArithmetic => with_constant(op, target, left, word),
+        RegisterOp::Or => with_constant(op, target, left, word),
+        RegisterOp::And => with_constant(op, target, left, word),
+        RegisterOp::Mul => with_constant(RegisterOp::ShiftLeft, target, left, power),
+        RegisterOp::MulHigh => with_constant(op, target, left, word),
+        RegisterOp::MulHighSignedUnsigned => with_constant(op, target, left, word),
+        RegisterOp::MulHighUnsigned => with_constant(op, target, left, word),
+        RegisterOp::Div => with_constant(op, target, left, word),
+        RegisterOp::DivUnsigned => with_constant(RegisterOp::ShiftRight, target, left, power),
+        RegisterOp::Rem => with_constant(op, target, left, word),
+        RegisterOp::RemUnsigned => low_bits(target, left, power, word),
+    }
+}
+
+fn with_word(op: RegisterOp, target: Target, left: Operand, word: u32) -> Instruction
+    ensures { result ≡ rules.with_word op target left word }
 {
     let power = word.trailing_zeros();
     if power < 32 && 1u32 << power == word {
-        Instruction::Compute {
-            operation: Operation::Machine(RegisterOp::ShiftLeft),
-            target,
-            left,
-            right: Operand::Constant(power),
-        }
+        with_power(op, target, left, power, word)
     } else {
-        Instruction::Compute {
-            operation: Operation::Machine(RegisterOp::Mul),
-            target,
-            left,
-            right: Operand::Constant(word),
-        }
+        with_constant(op, target, left, word)
     }
 }
 
-fn product(target: Target, left: Operand, right: Operand) -> Instruction
-    ensures { result ≡ rules.product target left right }
-{
-    Instruction::Compute {
-        operation: Operation::Machine(RegisterOp::Mul),
-        target,
-        left,
-        right,
-    }
-}
-
-fn multiplied(target: Target, left: Operand, right: Operand) -> Instruction
-    ensures { result ≡ rules.multiplied target left right }
+fn on_machine(op: RegisterOp, target: Target, left: Operand, right: Operand) -> Instruction
+    ensures { result ≡ rules.on_machine op target left right }
 {
     match right {
-        Operand::Temporary(number) => product(target, left, Operand::Temporary(number)),
-        Operand::Cell(number) => product(target, left, Operand::Cell(number)),
-        Operand::Constant(word) => scaled(target, left, word),
-        Operand::Argument(number) => product(target, left, Operand::Argument(number)),
-    }
-}
-
-fn is_product(operation: Operation) -> bool
-    ensures { result ≡ rules.is_product operation }
-{
-    match operation {
-        Operation::Machine(op) => match op {
-            RegisterOp::Add => false,
-            RegisterOp::Sub => false,
-            RegisterOp::ShiftLeft => false,
-            RegisterOp::Less => false,
-            RegisterOp::LessUnsigned => false,
-            RegisterOp::Xor => false,
-            RegisterOp::ShiftRight => false,
-            RegisterOp::ShiftRightArithmetic => false,
-            RegisterOp::Or => false,
-            RegisterOp::And => false,
-            RegisterOp::Mul => true,
-            RegisterOp::MulHigh => false,
-            RegisterOp::MulHighSignedUnsigned => false,
-            RegisterOp::MulHighUnsigned => false,
-            RegisterOp::Div => false,
-            RegisterOp::DivUnsigned => false,
-            RegisterOp::Rem => false,
-            RegisterOp::RemUnsigned => false,
+        Operand::Temporary(number) => Instruction::Compute {
+            operation: Operation::Machine(op),
+            target,
+            left,
+            right: Operand::Temporary(number),
         },
-        Operation::Equal => false,
-        Operation::NotEqual => false,
+        Operand::Cell(number) => Instruction::Compute {
+            operation: Operation::Machine(op),
+            target,
+            left,
+            right: Operand::Cell(number),
+        },
+        Operand::Constant(word) => with_word(op, target, left, word),
+        Operand::Argument(number) => Instruction::Compute {
+            operation: Operation::Machine(op),
+            target,
+            left,
+            right: Operand::Argument(number),
+        },
     }
 }
 
 fn arranged(operation: Operation, target: Target, left: Operand, right: Operand) -> Instruction
     ensures { result ≡ rules.arranged operation target left right }
 {
-    if is_product(operation) {
-        multiplied(target, left, right)
-    } else {
-        Instruction::Compute {
-            operation,
+    match operation {
+        Operation::Machine(op) => on_machine(op, target, left, right),
+        Operation::Equal => Instruction::Compute {
+            operation: Operation::Equal,
             target,
             left,
             right,
-        }
+        },
+        Operation::NotEqual => Instruction::Compute {
+            operation: Operation::NotEqual,
+            target,
+            left,
+            right,
+        },
     }
 }
 
-/// An operation with a constant after the other operand, where they may change places, and with a shift in place of a product.
+/// An operation with a constant after the other operand, where they may change places, and with a shift or a mask in place of an operation with a power of two.
 pub fn compute(operation: Operation, target: Target, left: Operand, right: Operand) -> Instruction
     ensures { result ≡ rules.compute operation target left right }
 {

@@ -9,7 +9,7 @@ use Rattle.frames_code.specs.declared.code.Width.{Width}
 use Rattle.frames_code.specs.declared.code.Instruction.{Instruction}
 use Rattle.frames_code.specs.declared.code.Instruction.TheVariants as instruction
 use Rattle.frames_code.specs.Code.{Program}
-use Rattle.frames_code.specs.Costs.{cost, cost_if, cost_on, next_of, spent}
+use Rattle.frames_code.specs.Costs.{entry_cost_of, cost_in, cost_in_if, cost_on, next_of, spent_in}
 use Rattle.frames_code.specs.Run.{Value, Frame, State, Reference, Progress, running, ended, stuck, word, reference, value, word_at, word_in, reference_in, set, next, past, goes_to, place, memory, with_memory, with_element, element_in, fits, gives, gives_word, operate, converted, loaded, stored, put, got, returned, act, step, run, start, goes_on, function_at, unset, ◌>>=◌}
 use Rattle.frames_regalloc.specs.Renumbered.{renumbered, renumbered_operand, renumbered_target, renumbered_location}
 use Rattle.frames_regalloc.specs.Laws.{moved_frame, moved, moved_progress}
@@ -41,28 +41,31 @@ module _ (from : ℕ → ℕ → ℕ) where
   got_same s [] = refl
   got_same s (b ∷ rest) = refl
 
-cost_same : (to : ℕ → ℕ) (x : Instruction) → cost (renumbered to x) ≡ cost x
-cost_same to instruction.Nothing = refl
-cost_same to (instruction.Move d x) = refl
-cost_same to (instruction.Compute o d x y) = refl
-cost_same to (instruction.Convert c d x) = refl
-cost_same to (instruction.Load w d l) = refl
-cost_same to (instruction.Store w x l) = refl
-cost_same to (instruction.Address d l) = refl
-cost_same to (instruction.Element d x y size) = refl
-cost_same to (instruction.Jump k) = refl
-cost_same to (instruction.Branch t x y k) = refl
-cost_same to (instruction.Call f) = refl
-cost_same to instruction.PutByte = refl
-cost_same to instruction.GetByte = refl
-cost_same to instruction.Exit = refl
-cost_same to instruction.Return = refl
-
-cost_mapped : (to : ℕ → ℕ) (o : Option Instruction) → cost_if (option_map (renumbered to) o) ≡ cost_if o
-cost_mapped to None = refl
-cost_mapped to (Some x) = cost_same to x
-
 module _ (p q : Program) (to from : ℕ → ℕ → ℕ) (r : Alike p q to from) where
+  pub entry_same : (k : ℕ) → entry_cost_of (function_at q k) ≡ entry_cost_of (function_at p k)
+  entry_same k = ap entry_cost_of (r.at k)
+
+  cost_same : (here : ℕ → ℕ) (x : Instruction) → cost_in q (renumbered here x) ≡ cost_in p x
+  cost_same here instruction.Nothing = refl
+  cost_same here (instruction.Move d x) = refl
+  cost_same here (instruction.Compute o d x y) = refl
+  cost_same here (instruction.Convert c d x) = refl
+  cost_same here (instruction.Load w d l) = refl
+  cost_same here (instruction.Store w x l) = refl
+  cost_same here (instruction.Address d l) = refl
+  cost_same here (instruction.Element d x y size) = refl
+  cost_same here (instruction.Jump k) = refl
+  cost_same here (instruction.Branch t x y k) = refl
+  cost_same here (instruction.Call f) = ap (λ n. 2 + n) (entry_same f)
+  cost_same here instruction.PutByte = refl
+  cost_same here instruction.GetByte = refl
+  cost_same here instruction.Exit = refl
+  cost_same here instruction.Return = refl
+
+  cost_mapped : (here : ℕ → ℕ) (o : Option Instruction) → cost_in_if q (option_map (renumbered here) o) ≡ cost_in_if p o
+  cost_mapped here None = refl
+  cost_mapped here (Some x) = cost_same here x
+
   module _ (s : State) where
     abbrev s2 : State
     s2 = moved from s
@@ -153,8 +156,8 @@ module _ (p q : Program) (to from : ℕ → ℕ → ℕ) (r : Alike p q to from)
     unfolding step
     step_same = ap (λ o. o >>= act q s2) next_same ∙ act_mapped (next_of p s)
 
-    cost_next : cost_if (next_of q s2) ≡ cost_if (next_of p s)
-    cost_next = ap cost_if next_same ∙ cost_mapped here (next_of p s)
+    cost_next : cost_in_if q (next_of q s2) ≡ cost_in_if p (next_of p s)
+    cost_next = ap (cost_in_if q) next_same ∙ cost_mapped here (next_of p s)
 
   goes_same : (n : ℕ) (x : Progress) → ((s : State) → run q n (moved from s) ≡ moved_progress from (run p n s)) → goes_on (moved_progress from x) (run q n) ≡ moved_progress from (goes_on x (run p n))
   goes_same n (running s) each = each s
@@ -165,16 +168,16 @@ module _ (p q : Program) (to from : ℕ → ℕ → ℕ) (r : Alike p q to from)
   run_same zero s = refl
   run_same (suc n) s = ap (λ x. goes_on x (run q n)) (step_same s) ∙ goes_same n (step p s) (run_same n)
 
-  cost_rest : (n : ℕ) (x : Progress) → ((s : State) → spent q n (moved from s) ≡ spent p n s) → cost_on (moved_progress from x) (spent q n) ≡ cost_on x (spent p n)
+  cost_rest : (n : ℕ) (x : Progress) → ((s : State) → spent_in q n (moved from s) ≡ spent_in p n s) → cost_on (moved_progress from x) (spent_in q n) ≡ cost_on x (spent_in p n)
   cost_rest n (running s) each = each s
   cost_rest n (ended status input trace) each = refl
   cost_rest n stuck each = refl
 
-  pub spent_same : (n : ℕ) (s : State) → spent q n (moved from s) ≡ spent p n s
+  pub spent_same : (n : ℕ) (s : State) → spent_in q n (moved from s) ≡ spent_in p n s
   spent_same zero s = refl
   spent_same (suc n) s =
-      ap (λ k. k + cost_on (step q (moved from s)) (spent q n)) (cost_next s)
-      ∙ ap (λ k. cost_if (next_of p s) + k) (ap (λ x. cost_on x (spent q n)) (step_same s) ∙ cost_rest n (step p s) (spent_same n))
+      ap (λ k. k + cost_on (step q (moved from s)) (spent_in q n)) (cost_next s)
+      ∙ ap (λ k. cost_in_if p (next_of p s) + k) (ap (λ x. cost_on x (spent_in q n)) (step_same s) ∙ cost_rest n (step p s) (spent_same n))
 
   abbrev started : ℕ → List ℕ → List ℕ → State
   started main statics input = record {

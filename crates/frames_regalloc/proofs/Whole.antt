@@ -1,15 +1,15 @@
 -- A renumbered program: its runs, costs, frames, soundness.
-use Rattle.std.proofs.Common.{◌≡◌, ℕ, zero, suc, List, [], ◌∷◌, map, Option, Some, None, refl, sym, ap, ◌∙◌, subst}
+use Rattle.std.proofs.Common.{◌≡◌, ℕ, zero, suc, List, [], ◌∷◌, map, Option, Some, None, refl, sym, ap, ◌∙◌, subst, arith}
 use Rattle.std.specs.Prelude.{slice_get, option_map}
 use Rattle.frames_code.specs.declared.code.Instruction.{Instruction}
 use Rattle.frames_code.specs.declared.code.Instruction.TheVariants as instruction
 use Rattle.frames_code.specs.Code.{Function, Program, frame_bytes}
 use Rattle.frames_code.specs.Run.{run, start, function_at}
-use Rattle.frames_code.specs.Costs.{next_of, spent}
+use Rattle.frames_code.specs.Costs.{entry_cost_of, next_of, spent_in}
 use Rattle.frames_regalloc.specs.Renumbered.{renumbered, renumbered_function, AreRenumbered, IsRenumbered}
 use Rattle.frames_regalloc.specs.Laws.{words_of, moved, RunsAlike, CallsAlike, CostsAlike, FramesAlike}
 use Rattle.frames_regalloc.proofs.Words.{Alike}
-use Rattle.frames_regalloc.proofs.Steps.{next_same, run_same, spent_same, start_same}
+use Rattle.frames_regalloc.proofs.Steps.{next_same, run_same, entry_same, spent_same, start_same}
 
 -- ---- functions by their numbers
 
@@ -126,7 +126,11 @@ calls_alike p q same s =
 pub costs_alike : CostsAlike
 costs_alike p q same n input =
     let r = alike p q same in
-    ap (spent q n) (start_same p q (to p q same) (from p q same) r input) ∙ spent_same p q (to p q same) (from p q same) r n (start p input)
+    let entry : entry_cost_of (function_at q q.main) ≡ entry_cost_of (function_at p p.main) =
+    ap (λ m. entry_cost_of (function_at q m)) same.main ∙ entry_same p q (to p q same) (from p q same) r p.main in
+    let rest : spent_in q n (start q input) ≡ spent_in p n (start p input) =
+    ap (spent_in q n) (start_same p q (to p q same) (from p q same) r input) ∙ spent_same p q (to p q same) (from p q same) r n (start p input) in
+    omega (arith, entry, rest)
 
 frames_in : (fs gs : List Function) → AreRenumbered fs gs → map frame_bytes gs ≡ map frame_bytes fs
 frames_in [] [] each = refl

@@ -3,7 +3,7 @@ use Rattle.std.specs.Prelude.{◌≡◌, ℕ, zero, suc, List, [], ◌∷◌, ma
 use Rattle.frames_code.specs.declared.code.Instruction.TheVariants as instruction
 use Rattle.frames_code.specs.Code.{Function, Program, frame_bytes}
 use Rattle.frames_code.specs.Run.{Frame, State, Progress, running, ended, stuck, run, start}
-use Rattle.frames_code.specs.Costs.{next_of, spent}
+use Rattle.frames_code.specs.Costs.{next_of, spent_with_entry}
 use Rattle.frames_code.specs.Sound.{IsSoundProgram}
 use Rattle.frames_regalloc.specs.Renumbered.{AreRenumbered, IsRenumbered}
 
@@ -38,8 +38,9 @@ CallsAlike = (p q : Program) → (same : IsRenumbered p q) → (s : State)
     → ((g : ℕ) → next_of q (moved (words_of p.functions q.functions same.functions) s) ≡ Some (instruction.Call g) → next_of p s ≡ Some (instruction.Call g))
     × (next_of q (moved (words_of p.functions q.functions same.functions) s) ≡ Some instruction.Return → next_of p s ≡ Some instruction.Return)
 
+-- with the entry of main, where the size of each frame is known
 abbrev pub CostsAlike : Type 0
-CostsAlike = (p q : Program) → IsRenumbered p q → (n : ℕ) (input : List ℕ) → spent q n (start q input) ≡ spent p n (start p input)
+CostsAlike = (p q : Program) → IsRenumbered p q → (n : ℕ) (input : List ℕ) → spent_with_entry q n (start q input) ≡ spent_with_entry p n (start p input)
 
 abbrev pub FramesAlike : Type 0
 FramesAlike = (p q : Program) → IsRenumbered p q → map frame_bytes q.functions ≡ map frame_bytes p.functions

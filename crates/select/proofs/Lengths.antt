@@ -94,15 +94,15 @@ ending_short operation.NotEqual rd = omega arith
 operate_short : (o : Operation) (rd a b : ℕ) → longest (operate o rd a b) ≤ 8
 operate_short o rd a b = with_one (instr.Op (selected.machine_of o) rd a b) (ending o rd) 4 (ending_short o rd)
 
-form_short : (t : Option Instr) (xs ys : List Item) → longest xs ≤ 4 → longest ys ≤ 16 → longest (form_or t xs ys) ≤ 16
-form_short (Some i) xs ys p q = more (item.Plain i ∷ xs) 8 16 (omega arith) (with_one i xs 4 p)
-form_short None xs ys p q = q
+form_short : (t : Option Instr) (xs ys : List Item) (a b : ℕ) → 4 + a ≤ b → longest xs ≤ a → longest ys ≤ b → longest (form_or t xs ys) ≤ b
+form_short (Some i) xs ys a b le p q = more (item.Plain i ∷ xs) (4 + a) b le (with_one i xs a p)
+form_short None xs ys a b le p q = q
 
 combine_short : (o : Operation) (rd a : ℕ) (y : Source) → longest (combine o rd a y) ≤ fetch_bytes y + 8
 combine_short o rd a (source.Register r) = operate_short o rd a r
 combine_short o rd a (source.Frame p) = both (load_word 6 p) (operate o rd a 6) (word_bytes p) 8 (load_word_short 6 p) (operate_short o rd a 6)
 combine_short o rd a (source.Constant v) =
-    form_short (selected.constant_form (selected.machine_of o) rd a v) (ending o rd) (set_to 6 v ∷ operate o rd a 6) (ending_short o rd)
+    form_short (selected.constant_form (selected.machine_of o) rd a v) (ending o rd) (set_to 6 v ∷ operate o rd a 6) 4 16 (omega arith) (ending_short o rd)
     (both (set_to 6 v ∷ []) (operate o rd a 6) 8 8 (set_short 6 v) (operate_short o rd a 6))
 
 narrow_short : (c : Conversion) (rd a : ℕ) → longest (narrow c rd a) ≤ 8
@@ -150,8 +150,42 @@ scale_short a n =
     scale_by (n == 1) (n == 2) (n == 4) (shift_or_multiply (log2_of n) a n)
     (λ e. subst (TakesOne a) (sym (eqb-true n 2 e)) (two_takes_one a)) (λ e. subst (TakesOne a) (sym (eqb-true n 4 e)) (four_takes_one a)) (product_short (log2_of n) a n)
 
+-- ---- an element
+
+into_more : (s : Source) → into_bytes s ≤ fetch_bytes s + 4
+into_more (source.Register r) = omega arith
+into_more (source.Frame o) = omega arith
+into_more (source.Constant v) = omega arith
+
+move_more : (d : Home) (s : Source) → move_bytes d s ≤ fetch_bytes s + (4 + keep_bytes d)
+move_more (home.Register r) s = omega (arith, into_more s)
+move_more (home.Frame o) s = omega arith
+
+-- a sum with a constant
+sum_short : (rd a v : ℕ) → longest (combine (operation.Machine register_op.Add) rd a (source.Constant v)) ≤ 12
+sum_short rd a v =
+    form_short (selected.constant_form register_op.Add rd a v) [] (set_to 6 v ∷ operate_on register_op.Add rd a 6 ∷ []) 0 12 (omega arith) (omega arith)
+    (both (set_to 6 v ∷ []) (operate_on register_op.Add rd a 6 ∷ []) 8 4 (set_short 6 v) (omega arith))
+
 with_sum : (xs ys : List Item) (a b : ℕ) → longest xs + 4 ≤ a → longest ys ≤ 4 + b → longest (xs ++ ys) ≤ a + b
 with_sum xs ys a b p q = let sum : longest (xs ++ ys) ≡ longest xs + longest ys = sum_by-append (size true) xs ys in omega (arith, p, q, sum)
+
+counted_short : (d : Home) (x y : Source) (n : ℕ) → longest (selected.counted d x y n) ≤ fetch_bytes x + (fetch_bytes y + (scale_bytes n + keep_bytes d))
+counted_short d x y n =
+    let sum = instr.Op register_op.Add (made_in d) (register_of 5 x) (selected.scaled_in (register_of 6 y) n) in
+    both (fetch 5 x) _ _ _ (fetch_short 5 x)
+    (both (fetch 6 y) _ _ _ (fetch_short 6 y)
+    (with_sum (scale (register_of 6 y) n) (item.Plain sum ∷ keep d) (scale_bytes n) (keep_bytes d) (scale_short (register_of 6 y) n) (with_one sum (keep d) _ (keep_short d))))
+
+element_short : (d : Home) (x y : Source) (n : ℕ) → longest (selected.element d x y n) ≤ fetch_bytes x + (fetch_bytes y + (scale_bytes n + keep_bytes d))
+element_short d x (source.Register q) n =
+    let moved : longest (move d x) ≤ fetch_bytes x + (0 + (scale_bytes n + keep_bytes d)) = omega (arith, move_short d x, move_more d x, scale_short 6 n) in
+    either (q == 0) (move d x) (selected.counted d x (source.Register q) n) _ moved (counted_short d x (source.Register q) n)
+element_short d x (source.Frame o) n = counted_short d x (source.Frame o) n
+element_short d x (source.Constant v) n =
+    let sum = combine (operation.Machine register_op.Add) (made_in d) (register_of 5 x) (source.Constant (v * n % 2 ^ 32)) in
+    let last : longest (sum ++ keep d) ≤ 12 + keep_bytes d = both sum (keep d) 12 _ (sum_short (made_in d) (register_of 5 x) (v * n % 2 ^ 32)) (keep_short d) in
+    both (fetch 5 x) (sum ++ keep d) _ _ (fetch_short 5 x) (more (sum ++ keep d) (12 + keep_bytes d) (8 + (scale_bytes n + keep_bytes d)) (omega (arith, scale_short 6 n)) last)
 
 change_short : (by : ℕ) → longest (change_sp by) ≤ 12
 change_short by =
@@ -200,13 +234,7 @@ items_short f first (instruction.Load w d l) =
 items_short f first (instruction.Store w x l) =
     both (fetch 5 (source_of f x)) _ _ _ (fetch_short 5 (source_of f x)) (both (reach f l) _ _ 4 (reach_short f l) (omega arith))
 items_short f first (instruction.Address d l) = reference_short f (home_of f d) l
-items_short f first (instruction.Element d x y n) =
-    both (fetch 5 (source_of f x)) _ _ _ (fetch_short 5 (source_of f x))
-    (both (fetch 6 (source_of f y)) _ _ _ (fetch_short 6 (source_of f y))
-    (let sum = instr.Op register_op.Add (made_in (home_of f d)) (register_of 5 (source_of f x)) (selected.scaled_in (register_of 6 (source_of f y)) n) in
-    let last = keep (home_of f d) in
-    let scaled = scale (register_of 6 (source_of f y)) n in
-    with_sum scaled (item.Plain sum ∷ last) (scale_bytes n) (keep_bytes (home_of f d)) (scale_short _ n) (with_one sum last _ (keep_short (home_of f d)))))
+items_short f first (instruction.Element d x y n) = element_short (home_of f d) (source_of f x) (source_of f y) n
 items_short f first (instruction.Jump to) = omega arith
 items_short f first (instruction.Branch t x y to) =
     both (fetch 5 (source_of f x)) _ _ _ (fetch_short 5 (source_of f x)) (both (fetch 6 (source_of f y)) _ _ 8 (fetch_short 6 (source_of f y)) (omega arith))

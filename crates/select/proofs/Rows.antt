@@ -1,7 +1,7 @@
 -- Flat programs, and the execution of their items on the symbolic machine. Status and output are those of the C text above each by ISO/IEC 9899:2011. Branches
 -- are short here, and the address of a label or of the data is put into one instruction whole.
 use Rattle.std.proofs.Common.{◌≡◌, refl}
-use Rattle.std.specs.Prelude.{ℕ, suc, zero, ◌+◌, ◌-◌, ◌*◌, ◌/◌, ◌%◌, ◌^◌, ◌==◌, nat_lt, true, if◌then◌else◌, List, [], ◌∷◌, ◌++◌, length, slice_get, slice_index_or, Option, Some, None}
+use Rattle.std.specs.Prelude.{ℕ, ◌+◌, ◌-◌, ◌/◌, ◌^◌, ◌==◌, nat_lt, true, if◌then◌else◌, List, [], ◌∷◌, ◌++◌, slice_get, slice_index_or, Option}
 use Rattle.std.specs.Int.Count.{count_trailing_zeros}
 use Rattle.rv32.specs.declared.instr.Instr.{Instr}
 use Rattle.rv32.specs.declared.instr.Instr.TheVariants as instr
@@ -10,7 +10,7 @@ use Rattle.rv32.specs.declared.instr.RegisterOp.TheVariants as op
 use Rattle.rv32.specs.declared.instr.ShiftOp.TheVariants as shift_op
 use Rattle.rv32.specs.declared.instr.StoreKind.TheVariants as store_kind
 use Rattle.rv32.specs.declared.instr.Test.TheVariants as test
-use Rattle.csem_events.specs.Events.{Event, Got, GotEnd, Put}
+use Rattle.csem_events.specs.Events.{Got, GotEnd, Put}
 use Rattle.asm.specs.declared.item.Item.{Item}
 use Rattle.asm.specs.declared.item.Item.TheVariants as item
 use Rattle.frames_code.specs.declared.code.Operand.TheVariants.{Temporary as temporary, Cell as cell, Constant as constant, Argument as argument}
@@ -19,12 +19,12 @@ use Rattle.frames_code.specs.declared.code.Width.TheVariants.{Byte as byte, Sign
 use Rattle.frames_code.specs.declared.code.Location.TheVariants.{Statics as in_statics, Frame as in_frame, At as at}
 use Rattle.frames_code.specs.declared.code.Operation.TheVariants.{Machine as machine, Equal as equal, NotEqual as not_equal}
 use Rattle.frames_code.specs.declared.code.Conversion.TheVariants.{ToByte as to_byte, ToSignedByte as to_signed_byte, ToHalf as to_half, ToSignedHalf as to_signed_half, ToTruth as to_truth}
-use Rattle.frames_code.specs.declared.code.Instruction.TheVariants.{Nothing as nothing, Move as move, Compute as compute, Convert as convert, Load as load, Store as store, Address as address, Element as element, Jump as jump, Branch as branch, Call as call, PutByte as put_byte, GetByte as get_byte, Exit as exit, Return as return}
+use Rattle.frames_code.specs.declared.code.Instruction.TheVariants.{Move as move, Compute as compute, Convert as convert, Load as load, Store as store, Address as address, Element as element, Jump as jump, Branch as branch, Call as call, PutByte as put_byte, GetByte as get_byte, Exit as exit, Return as return}
 use Rattle.frames_code.specs.declared.code.Operand.{Operand}
 use Rattle.frames_code.specs.declared.code.Target.{Target}
 use Rattle.frames_code.specs.declared.code.Instruction.{Instruction}
 use Rattle.frames_code.specs.Code.{Function, Program}
-use Rattle.select_exec.specs.Light.{Fixed, Light, Go, Done, light_run, sum32}
+use Rattle.select_exec.specs.Light.{Light, Go, Done, light_run, sum32}
 use Rattle.select.specs.Selected.{entry, items_of}
 use Rattle.select.specs.Program.{code_items, program_items}
 
@@ -194,6 +194,17 @@ rows_of_three_pages :
     items_of (function 0 0 0 0 []) 0 (element t0 (temporary 0) (temporary 1) 0x3000) ≡ item.Plain (instr.Lui 7 0x3000) ∷ item.Plain (instr.Op op.Mul 6 11 7) ∷ item.Plain (instr.Op op.Add 10 10 6) ∷ []
 unfolding count_trailing_zeros
 rows_of_three_pages = refl
+
+-- a subscript that is a constant: with zero a move, within 12 bits one sum, past them a constant and a sum
+no_element : items_of (function 0 0 0 0 []) 0 (element t0 (temporary 1) (constant 0) 4) ≡ item.Plain (instr.Immediate immediate_op.Add 10 11 0) ∷ []
+no_element = refl
+
+third_element : items_of (function 0 0 0 0 []) 0 (element t0 (temporary 1) (constant 3) 4) ≡ item.Plain (instr.Immediate immediate_op.Add 10 11 12) ∷ []
+third_element = refl
+
+far_element :
+    items_of (function 0 0 0 0 []) 0 (element t0 (temporary 1) (constant 300) 12) ≡ item.Constant 6 3600 ∷ item.Plain (instr.Op op.Add 10 11 6) ∷ []
+far_element = refl
 
 -- static unsigned char s[] = { 1, 2 }; s[0] = 5; return s[0] + s[1];
 statics :

@@ -1,10 +1,11 @@
 -- The items of a sound flat program can be assembled: each label is marked once, and no other is named.
-use Rattle.std.proofs.Common.{◌≡◌, ◌⊎◌, inl, inr, ⊎_elim, ℕ, zero, suc, ◌+◌, ◌-◌, ◌<◌, ◌≤◌, ◌%◌, ◌^◌, Bool, true, false, List, [], ◌∷◌, ◌++◌, length, Option, Some, None, refl, sym, ap, ◌∙◌, subst, arith}
+use Rattle.std.proofs.Common.{◌≡◌, ◌⊎◌, inl, inr, ⊎_elim, ℕ, zero, suc, ◌+◌, ◌*◌, ◌-◌, ◌<◌, ◌≤◌, ◌%◌, ◌^◌, Bool, true, false, List, [], ◌∷◌, ◌++◌, length, Option, Some, None, refl, sym, ap, ◌∙◌, subst, arith}
 use Rattle.std.specs.Prelude.{if◌then◌else◌, nat_lt, ◌==◌, slice_get}
 use Rattle.std.proofs.lemmas.Bool.{cases_lt}
 use Rattle.std.proofs.lemmas.List.{length-append}
 use Rattle.std.proofs.lemmas.List.Sums.{sum_by-cons}
 use Rattle.rv32.specs.declared.instr.Instr.{Instr}
+use Rattle.rv32.specs.declared.instr.RegisterOp.TheVariants as register_op
 use Rattle.asm.specs.declared.item.Item.{Item}
 use Rattle.asm.specs.declared.item.Item.TheVariants.{Mark, Plain, Branch, Jump, Call, NearCall, Constant, LabelAddress, DataAddress}
 use Rattle.asm.specs.Layout.{item_at, Refers, IsSound}
@@ -32,6 +33,9 @@ use Rattle.select.proofs.Shortened.{shortened_fits}
 bool_cases : {A : Type 0} (b : Bool) → (b ≡ true → A) → (b ≡ false → A) → A
 bool_cases true on_true on_false = on_true refl
 bool_cases false on_true on_false = on_false refl
+
+below_word : (v : ℕ) → v % 2 ^ 32 < 2 ^ 32
+below_word v = omega arith
 
 -- ---- items that mark no label, and name only labels below n
 
@@ -162,8 +166,16 @@ module _ (n : ℕ) where
   scale_un : (a size : ℕ) → size < 2 ^ 32 → Unmarked n (scale a size)
   scale_un a size lt = either (size == 1) _ _ tt (product_un (log2_of size) a size lt)
 
+  counted_un : (d : Home) (x y : Source) (size : ℕ) → SmallSource x → SmallSource y → size < 2 ^ 32 → Unmarked n (selected.counted d x y size)
+  counted_un d x y size p q lt = both (fetch 5 x) _ (fetch_un 5 x p) (both (fetch 6 y) _ (fetch_un 6 y q) (both (scale (register_of 6 y) size) _ (scale_un (register_of 6 y) size lt) (keep_un d)))
+
   element_un : (d : Home) (x y : Source) (size : ℕ) → SmallSource x → SmallSource y → size < 2 ^ 32 → Unmarked n (element d x y size)
-  element_un d x y size p q lt = both (fetch 5 x) _ (fetch_un 5 x p) (both (fetch 6 y) _ (fetch_un 6 y q) (both (scale (register_of 6 y) size) _ (scale_un (register_of 6 y) size lt) (keep_un d)))
+  element_un d x (source.Register q) size p u lt = either (q == 0) (move d x) (selected.counted d x (source.Register q) size) (move_un d x p) (counted_un d x (source.Register q) size p u lt)
+  element_un d x (source.Frame o) size p u lt = counted_un d x (source.Frame o) size p u lt
+  element_un d x (source.Constant v) size p q lt =
+      let bytes = source.Constant (v * size % 2 ^ 32) in
+      both (fetch 5 x) _ (fetch_un 5 x p)
+      (both (combine (operation.Machine register_op.Add) (made_in d) (register_of 5 x) bytes) (keep d) (combine_un (operation.Machine register_op.Add) (made_in d) (register_of 5 x) bytes (below_word (v * size))) (keep_un d))
 
   change_un : (by : ℕ) → by < 2 ^ 32 → Unmarked n (change_sp by)
   change_un by lt = either (nat_lt ((by + 0x800) % 2 ^ 32) 0x1000) _ _ tt (both (load_constant 7 by ∷ []) _ (constant_un 7 by lt) tt)

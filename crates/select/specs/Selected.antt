@@ -282,9 +282,16 @@ scale a size = if size == 1 then [] else shift_or_multiply (log2_of size) a size
 abbrev pub scaled_in : ℕ → ℕ → ℕ
 scaled_in a size = if size == 1 then a else 6
 
-abbrev pub element : Home → Source → Source → ℕ → List Item
-element d x y size =
+-- by a number of elements that is in a register or in the frame
+abbrev pub counted : Home → Source → Source → ℕ → List Item
+counted d x y size =
     fetch 5 x ++ (fetch 6 y ++ (scale (register_of 6 y) size ++ (operate_on register_op.Add (made_in d) (register_of 5 x) (scaled_in (register_of 6 y) size) ∷ keep d)))
+
+-- a number that is a constant is a sum with its bytes, modulo 2^32; no element, which x0 counts, is a move
+abbrev pub element : Home → Source → Source → ℕ → List Item
+element d x (source.Register q) size = if q == 0 then move d x else counted d x (source.Register q) size
+element d x (source.Frame o) size = counted d x (source.Frame o) size
+element d x (source.Constant n) size = compute (operation.Machine register_op.Add) d x (source.Constant (n * size % 2 ^ 32))
 
 abbrev pub branch : Test → Source → Source → ℕ → List Item
 branch t x y to = fetch 5 x ++ (fetch 6 y ++ (item.Branch t (register_of 5 x) (register_of 6 y) to ∷ []))

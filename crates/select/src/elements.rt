@@ -7,14 +7,14 @@ ghost use Rattle.frames_code.specs.Sound.{LocationFits, most_bytes};
 ghost use Rattle.select.specs.Selected as selected;
 ghost use Rattle.select.specs.inside.Ranges.{SourceIsNear, HomeIsNear};
 
-use crate::operations::put_move;
+use crate::operations::{put_compute, put_move};
 use crate::places::{Home, Source, source_of};
 use crate::words::{
     address_of, base_of, fetch, from_gp, global_pointer, is_near_gp, keep, lower_of, made_in,
     operate_on, put, put_far, put_one, register_of, set_to, static_address,
 };
 use asm::Item;
-use frames_code::{Function, Location, Width};
+use frames_code::{Function, Location, Operation, Width};
 use rv32::{Five, Instr, LoadKind, RegisterOp, ShiftOp, Short, StoreKind};
 use std::alloc::AllocError;
 
@@ -252,8 +252,8 @@ fn scaled_in(register: Five, size: usize) -> Five
     if size == 1 { register } else { Five::new(6) }
 }
 
-/// The reference advanced by a number of elements.
-pub fn put_element(
+/// The reference advanced by a number of elements that is in a register or in the frame.
+fn put_counted(
     items: &mut Vec<Item>,
     home: &Home,
     array: &Source,
@@ -264,7 +264,7 @@ pub fn put_element(
     requires index_near { SourceIsNear index.now }
     requires home_near { HomeIsNear home.now }
     requires small { size < 2 ^ 32 }
-    ensures { OnOk result (items.new.items ≡ items.old.items ++ selected.element home.now array.now index.now size) }
+    ensures { OnOk result (items.new.items ≡ items.old.items ++ selected.counted home.now array.now index.now size) }
 {
     let first = Five::new(5);
     let second = Five::new(6);
@@ -281,4 +281,35 @@ pub fn put_element(
     put_scale(items, counted, size)?;
     put_one(items, sum)?;
     keep(items, home)
+}
+
+/// The reference advanced by a number of elements: a constant number of them is a constant number of bytes.
+pub fn put_element(
+    items: &mut Vec<Item>,
+    home: &Home,
+    array: &Source,
+    index: &Source,
+    size: usize,
+) -> Result<(), AllocError>
+    requires array_near { SourceIsNear array.now }
+    requires index_near { SourceIsNear index.now }
+    requires home_near { HomeIsNear home.now }
+    requires small { size < 2 ^ 32 }
+    ensures { OnOk result (items.new.items ≡ items.old.items ++ selected.element home.now array.now index.now size) }
+{
+    match index {
+        Source::Register(register) => {
+            if register.get() == 0 {
+                put_move(items, home, array)
+            } else {
+                put_counted(items, home, array, index, size)
+            }
+        }
+        Source::Frame(_) => put_counted(items, home, array, index, size),
+        Source::Constant(number) => {
+            let bytes = Source::Constant(number.wrapping_mul(size as u32));
+            let add = Operation::Machine(RegisterOp::Add);
+            put_compute(items, add, home, array, &bytes)
+        }
+    }
 }

@@ -1,5 +1,5 @@
 -- The machine follows flat code: operations, and references to elements.
-use Rattle.std.proofs.Common.{◌≡◌, ℕ, suc, ◌+◌, ◌%◌, ◌^◌, ◌<◌, ◌≤◌, ◌++◌, Some, refl, sym, ap, ◌∙◌, arith}
+use Rattle.std.proofs.Common.{◌≡◌, ℕ, suc, ◌+◌, ◌%◌, ◌^◌, ◌<◌, ◌≤◌, ◌++◌, Some, refl, sym, ap, ◌∙◌, subst, arith}
 use Rattle.std.specs.Prelude.{slice_get}
 use Rattle.rv32.specs.declared.instr.ImmediateOp.TheVariants as immediate_op
 use Rattle.select_exec.specs.Standing.{Stands}
@@ -8,7 +8,7 @@ use Rattle.frames_code.specs.declared.code.Operand.TheVariants as operand
 use Rattle.frames_code.specs.declared.code.Target.{Target}
 use Rattle.frames_code.specs.declared.code.Operation.{Operation}
 use Rattle.frames_code.specs.declared.code.Instruction.TheVariants as instruction
-use Rattle.frames_code.specs.Run.{word, unset, State, Progress, stuck, ended, value, word_at, gives_word, act, ◌>>=◌}
+use Rattle.frames_code.specs.Run.{word, unset, State, Progress, stuck, ended, value, word_at, gives, gives_word, act, ◌>>=◌}
 use Rattle.frames_code.specs.Run as flat
 use Rattle.frames_code.specs.Sound.{TargetFits}
 use Rattle.select_exec.specs.Light.{Light, Go, Done, with_reg, Comes}
@@ -18,7 +18,7 @@ use Rattle.select_exec.proofs.Standing.{stands_parts}
 use Rattle.select.specs.declared.places.Source.{Source}
 use Rattle.select.specs.declared.places.Home.{Home}
 use Rattle.select.specs.Selected.{source_of, home_of, fetch, register_of, made_in, keep, combine, compute}
-use Rattle.select_correct.specs.Matches.{Ground, Matched, Matches, Ready, address}
+use Rattle.select_correct.specs.Matches.{Ground, Matched, Matches, Ready, address, shown}
 use Rattle.select_correct.specs.Costs.{fetch_cost, second_cost, ending_cost, compute_cost, keep_cost, row}
 use Rattle.select_correct.specs.Laws.{Anything, Follows}
 use Rattle.select_correct.proofs.Registers.{off_none, off_only}
@@ -40,11 +40,13 @@ module _ (G : Ground) (s : State) (r b : ℕ → ℕ) (ready : Ready G) (m : Mat
 
   -- ---- Compute
 
-  computes_at : (o : Operation) (d : Target) (x y : Source) (a c : ℕ) → TargetFits (fn G s r b ready m) d → a < 2 ^ 32 → c < 2 ^ 32 → SourceHolds r b m.sp x a → SourceHolds r b m.sp y c → (hm : Home) → home_of (fn G s r b ready m) d ≡ hm
-      → Stands G.machine.text G.env G.data_at (compute o hm x y) start end → Comes G.machine Anything 1 (compute_cost o hm x y) (Go r start b s.input s.trace) (Matches G (gives_word d s (flat.operate o a c)))
-  computes_at o d x y a c fit ha hc hx hy hm eh st =
-      let w = flat.operate o a c in
-      let Q : Light → Type 0 = Matches G (gives_word d s w) in
+  -- a value that is shown as the result of an operation
+  pub shown_at : (o : Operation) (d : Target) (v : flat.Value) (x y : Source) (a c : ℕ) → shown G v ≡ flat.operate o a c
+      → TargetFits (fn G s r b ready m) d → a < 2 ^ 32 → c < 2 ^ 32
+      → SourceHolds r b m.sp x a → SourceHolds r b m.sp y c → (hm : Home) → home_of (fn G s r b ready m) d ≡ hm
+      → Stands G.machine.text G.env G.data_at (compute o hm x y) start end → Comes G.machine Anything 1 (compute_cost o hm x y) (Go r start b s.input s.trace) (Matches G (gives d s v))
+  shown_at o d v x y a c is fit ha hc hx hy hm eh st =
+      let Q : Light → Type 0 = Matches G (gives d s v) in
       let rd = made_in hm in
       let above : 5 ≤ rd = made_above G s r b ready m d hm eh in
       let pos : 0 < rd = omega (arith, above) in
@@ -54,7 +56,7 @@ module _ (G : Ground) (s : State) (r b : ℕ → ℕ) (ready : Ready G) (m : Mat
       comes_by G.machine Anything (fetch_cost x + count) (compute_cost o hm x y) (Go r start b s.input s.trace) Q (omega arith)
       (fetches G.machine G.env G.data_at s.input s.trace Q m.sp (open_stack G s r b ready m) r b m.sp_is count 5 (omega arith) (omega arith) x a start one.0 r (off_none 5 r) hx one.1 (λ r2 only2 held2.
       combines G.machine G.env G.data_at s.input s.trace Q m.sp (open_stack G s r b ready m) r b m.sp_is rd pos (keep_cost hm) o (register_of 5 x) a y c one.0 two.0 r2 ha hc (off_only 5 r r2 only2) held2 (source_stays r b m.sp a x hx).0 hy two.1 (λ r3 off3 held.
-      finishes G s r b ready m unset none_left d (word w) fit (result_small o a c ha hc) hm eh r3 off3 (reg_is r3 rd pos ∙ held) two.0 two.2)))
+      finishes G s r b ready m unset none_left d v fit (subst (λ z. z < 2 ^ 32) (sym is) (result_small o a c ha hc)) hm eh r3 off3 (reg_is r3 rd pos ∙ (held ∙ sym is)) two.0 two.2)))
 
   does_compute : (o : Operation) (d : Target) (x y : Operand) → slice_get (fn G s r b ready m).code s.frame.at ≡ Some (instruction.Compute o d x y)
       → Comes G.machine Anything 1 (row (fn G s r b ready m) (instruction.Compute o d x y)) (Go r start b s.input s.trace) (Matches G (act G.program s (instruction.Compute o d x y)))
@@ -67,7 +69,8 @@ module _ (G : Ground) (s : State) (r b : ℕ → ℕ) (ready : Ready G) (m : Mat
       used (word_at s y) (λ c. gives_word d s (flat.operate o a c)) R none (λ c ec.
       let hx = operand_holds G ready s r start b m x (word a) fit.1 (word_some (value s x) a ea) in
       let hy = operand_holds G ready s r start b m y (word c) fit.2 (word_some (value s y) c ec) in
-      computes_at o d (source_of f x) (source_of f y) a c fit.0 hx.1 hy.1 hx.0 hy.0 (home_of f d) refl (ready.stands s.frame.function s.frame.at (instruction.Compute o d x y) e)))
+      shown_at o d (word (flat.operate o a c)) (source_of f x) (source_of f y) a c refl
+      fit.0 hx.1 hy.1 hx.0 hy.0 (home_of f d) refl (ready.stands s.frame.function s.frame.at (instruction.Compute o d x y) e)))
 
   -- ---- Exit
 

@@ -11,6 +11,7 @@ use Rattle.select_exec.specs.Standing.{Stands}
 use Rattle.csem_events.specs.Events.{Event}
 use Rattle.frames_code.specs.declared.code.Operand.{Operand}
 use Rattle.frames_code.specs.declared.code.Target.{Target}
+use Rattle.frames_code.specs.declared.code.Operation.TheVariants as operation
 use Rattle.frames_code.specs.declared.code.Instruction.TheVariants as instruction
 use Rattle.frames_code.specs.Sound.{TargetFits}
 use Rattle.frames_code.specs.Run.{Value, word, reference, reference_in, unset, State, Progress, stuck, value, word_at, gives, act, ◌>>=◌}
@@ -22,15 +23,16 @@ use Rattle.select_exec.proofs.Standing.{stands_parts}
 use Rattle.select.specs.declared.places.Source.{Source}
 use Rattle.select.specs.declared.places.Source.TheVariants as source
 use Rattle.select.specs.declared.places.Home.{Home}
-use Rattle.select.specs.Selected.{source_of, home_of, fetch, register_of, made_in, keep, set_to, operate_on, shifted, log2_of, shift_or_multiply, scale, scaled_in, element}
+use Rattle.select.specs.Selected.{source_of, home_of, fetch, register_of, made_in, keep, set_to, operate_on, shifted, log2_of, shift_or_multiply, scale, scaled_in, move, counted, element}
 use Rattle.select_correct.specs.Matches.{Ground, Matched, Matches, Ready, address, shown}
-use Rattle.select_correct.specs.Costs.{set_cost, fetch_cost, keep_cost, product_cost, scale_cost, row}
+use Rattle.select_correct.specs.Costs.{set_cost, keep_cost, product_cost, scale_cost, move_cost, counted_cost, element_cost, row}
 use Rattle.select_correct.specs.Laws.{Anything, Follows}
 use Rattle.select_correct.proofs.Registers.{Only, Off, off_last, only_reg, only_one}
 use Rattle.select_correct.proofs.Places.{SourceHolds, source_stays, onward, sets, fetches_two}
 use Rattle.select_correct.proofs.Frames.{operand_holds}
-use Rattle.select_correct.proofs.Forms.{used, word_some, fn, open_stack, fits, no_more, made_above, finishes}
+use Rattle.select_correct.proofs.Forms.{used, word_some, fn, open_stack, fits, no_more, made_above, finishes, move_some, moves_at}
 use Rattle.select_correct.proofs.References.{reference_some}
+use Rattle.select_correct.proofs.Computing.{shown_at}
 
 -- an offset more, modulo 2^32
 shown_plus : (G : Ground) (l o k : ℕ) → shown G (reference l (o + k)) ≡ (shown G (reference l o) + k % 2 ^ 32) % 2 ^ 32
@@ -40,6 +42,19 @@ shown_plus G (suc l) o k = omega arith
 shown_small : (G : Ground) (l o : ℕ) → shown G (reference l o) < 2 ^ 32
 shown_small G zero o = omega arith
 shown_small G (suc l) o = omega arith
+
+below_word : (v : ℕ) → v % 2 ^ 32 < 2 ^ 32
+below_word v = omega arith
+
+either_some : (t : Bool) (a b : ℕ) → 1 ≤ a → 1 ≤ b → 1 ≤ (if t then a else b)
+either_some true a b p q = p
+either_some false a b p q = q
+
+-- an element has an item
+element_some : (d : Home) (x y : Source) (size : ℕ) → 1 ≤ element_cost d x y size
+element_some d x (source.Register q) size = either_some (q == 0) (move_cost d x) (counted_cost d x (source.Register q) size) (move_some d x) (omega arith)
+element_some d x (source.Frame o) size = omega arith
+element_some d x (source.Constant v) size = omega arith
 
 -- registers that agree but for x6 and x7
 pub record Scaled (r r2 : ℕ → ℕ) : Type 0 where
@@ -135,9 +150,11 @@ module _ (G : Ground) (s : State) (r b : ℕ → ℕ) (ready : Ready G) (m : Mat
   second_free (source.Frame o) w p = λ e. omega (arith, e)
   second_free (source.Constant v) w p = λ e. omega (arith, e)
 
-  elements_at : (d : Target) (x y : Source) (l o k size : ℕ) → TargetFits (fn G s r b ready m) d → size < 2 ^ 32 → k < 2 ^ 32 → SourceHolds r b m.sp x (shown G (reference l o)) → SourceHolds r b m.sp y k → (hm : Home) → home_of (fn G s r b ready m) d ≡ hm
-      → Stands G.machine.text G.env G.data_at (element hm x y size) start end → Comes G.machine Anything 1 (fetch_cost x + (fetch_cost y + (scale_cost size + (1 + keep_cost hm)))) (Go r start b s.input s.trace) (Matches G (gives d s (reference l (o + k * size))))
-  elements_at d x y l o k size fit ss sk hx hy hm eh st =
+  counted_at : (d : Target) (x y : Source) (l o k size : ℕ) → TargetFits (fn G s r b ready m) d → size < 2 ^ 32 → k < 2 ^ 32
+      → SourceHolds r b m.sp x (shown G (reference l o)) → SourceHolds r b m.sp y k → (hm : Home) → home_of (fn G s r b ready m) d ≡ hm
+      → Stands G.machine.text G.env G.data_at (counted hm x y size) start end
+      → Comes G.machine Anything 1 (counted_cost hm x y size) (Go r start b s.input s.trace) (Matches G (gives d s (reference l (o + k * size))))
+  counted_at d x y l o k size fit ss sk hx hy hm eh st =
       let v = reference l (o + k * size) in
       let w = shown G v in
       let a = shown G (reference l o) in
@@ -165,13 +182,46 @@ module _ (G : Ground) (s : State) (r b : ℕ → ℕ) (ready : Ready G) (m : Mat
       (on_op G.machine Anything Q (keep_cost hm) r3 three.0 b s.input s.trace tt register_op.Add rd p (scaled_in q size) last.1.0
       (subst (λ z. Comes G.machine Anything 0 (keep_cost hm) (Go (with_reg r3 rd z) (three.0 + 4) b s.input s.trace) Q) (sym is) c))))
 
+  -- no element more
+  moved_at : (d : Target) (x : Source) (l o k size : ℕ) → TargetFits (fn G s r b ready m) d → k ≡ 0
+      → SourceHolds r b m.sp x (shown G (reference l o)) → (hm : Home) → home_of (fn G s r b ready m) d ≡ hm
+      → Stands G.machine.text G.env G.data_at (move hm x) start end → Comes G.machine Anything 1 (move_cost hm x) (Go r start b s.input s.trace) (Matches G (gives d s (reference l (o + k * size))))
+  moved_at d x l o k size fit none hx hm eh st =
+      let same : o + k * size ≡ o = ap (λ z. o + z * size) none ∙ omega arith in
+      subst (λ z. Comes G.machine Anything 1 (move_cost hm x) (Go r start b s.input s.trace) (Matches G (gives d s (reference l z)))) (sym same)
+      (moves_at G s r b ready m unset none_left d (reference l o) x fit (shown_small G l o) hx hm eh st)
+
+  elements_at : (d : Target) (x y : Source) (l o k size : ℕ) → TargetFits (fn G s r b ready m) d → size < 2 ^ 32 → k < 2 ^ 32
+      → SourceHolds r b m.sp x (shown G (reference l o)) → SourceHolds r b m.sp y k → (hm : Home) → home_of (fn G s r b ready m) d ≡ hm
+      → Stands G.machine.text G.env G.data_at (element hm x y size) start end
+      → Comes G.machine Anything 1 (element_cost hm x y size) (Go r start b s.input s.trace) (Matches G (gives d s (reference l (o + k * size))))
+  elements_at d x (source.Register q) l o k size fit ss sk hx hy hm eh st =
+      let Q : Light → Type 0 = Matches G (gives d s (reference l (o + k * size))) in
+      bool_cases (eqb q 0)
+      (λ t.
+      let none : k ≡ 0 = sym hy.0 ∙ rw t refl in
+      let moved : Stands G.machine.text G.env G.data_at (move hm x) start end = rw t at st in
+      let count : element_cost hm x (source.Register q) size ≡ move_cost hm x = rw t refl in
+      subst (λ n. Comes G.machine Anything 1 n (Go r start b s.input s.trace) Q) (sym count) (moved_at d x l o k size fit none hx hm eh moved))
+      (λ t.
+      let some : Stands G.machine.text G.env G.data_at (counted hm x (source.Register q) size) start end = rw t at st in
+      let count : element_cost hm x (source.Register q) size ≡ counted_cost hm x (source.Register q) size = rw t refl in
+      subst (λ n. Comes G.machine Anything 1 n (Go r start b s.input s.trace) Q) (sym count) (counted_at d x (source.Register q) l o k size fit ss sk hx hy hm eh some))
+  elements_at d x (source.Frame p) l o k size fit ss sk hx hy hm eh st = counted_at d x (source.Frame p) l o k size fit ss sk hx hy hm eh st
+  elements_at d x (source.Constant n) l o k size fit ss sk hx hy hm eh st =
+      let c = n * size % 2 ^ 32 in
+      let a = shown G (reference l o) in
+      let is : shown G (reference l (o + k * size)) ≡ (a + c) % 2 ^ 32 = ap (λ z. shown G (reference l (o + z * size))) (sym hy.0) ∙ shown_plus G l o (n * size) in
+      shown_at G s r b ready m (operation.Machine register_op.Add) d (reference l (o + k * size)) x (source.Constant c)
+      a c is fit (shown_small G l o) (below_word (n * size)) hx (refl, below_word (n * size)) hm eh st
+
   does_element : (d : Target) (x y : Operand) (size : ℕ) → slice_get (fn G s r b ready m).code s.frame.at ≡ Some (instruction.Element d x y size)
       → Comes G.machine Anything 1 (row (fn G s r b ready m) (instruction.Element d x y size)) (Go r start b s.input s.trace) (Matches G (act G.program s (instruction.Element d x y size)))
   does_element d x y size e =
       let R : Progress → Type 0 = λ p. Comes G.machine Anything 1 (row (fn G s r b ready m) (instruction.Element d x y size)) (Go r start b s.input s.trace) (Matches G p) in
       let f = fn G s r b ready m in
       let fit = fits G s r b ready m (instruction.Element d x y size) e in
-      let none : R stuck = no_more G s r b ready m 1 (row (fn G s r b ready m) (instruction.Element d x y size)) (Go r start b s.input s.trace) (omega arith) in
+      let none : R stuck = no_more G s r b ready m 1 (row (fn G s r b ready m) (instruction.Element d x y size)) (Go r start b s.input s.trace) (element_some (home_of f d) (source_of f x) (source_of f y) size) in
       used (reference_in (value s x)) (λ v. word_at s y >>= λ k. gives d s (reference v.list (v.offset + k * size))) R none (λ v ev.
       used (word_at s y) (λ k. gives d s (reference v.list (v.offset + k * size))) R none (λ k ek.
       let hx = operand_holds G ready s r start b m x (reference v.list v.offset) fit.1 (reference_some (value s x) v ev) in

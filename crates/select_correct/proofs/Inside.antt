@@ -1,7 +1,8 @@
 -- Each jump of a function's items names the label of one of its instructions.
-use Rattle.std.proofs.Common.{◌≡◌, ℕ, zero, suc, ◌+◌, ◌-◌, ◌%◌, ◌^◌, ◌<◌, ◌≤◌, Bool, true, false, List, [], ◌∷◌, ◌++◌, length, Option, Some, None, refl, arith}
+use Rattle.std.proofs.Common.{◌≡◌, ℕ, zero, suc, ◌+◌, ◌*◌, ◌-◌, ◌%◌, ◌^◌, ◌<◌, ◌≤◌, Bool, true, false, List, [], ◌∷◌, ◌++◌, length, Option, Some, None, refl, arith}
 use Rattle.std.specs.Prelude.{if◌then◌else◌, nat_lt, ◌==◌, slice_get}
 use Rattle.rv32.specs.declared.instr.Instr.{Instr}
+use Rattle.rv32.specs.declared.instr.RegisterOp.TheVariants as register_op
 use Rattle.asm.specs.declared.item.Item.{Item}
 use Rattle.asm.specs.declared.item.Item.TheVariants.{Mark, Plain, Branch, Jump, Call, NearCall, Constant, LabelAddress, DataAddress}
 use Rattle.asm.specs.Layout.{item_at}
@@ -162,8 +163,17 @@ module _ (a b : ℕ) where
   scale_in : (x size : ℕ) → Inside a b (scale x size)
   scale_in x size = either (size == 1) [] _ tt (product_in (log2_of size) x size)
 
+  counted_in : (d : Home) (x y : Source) (size : ℕ) → Inside a b (selected.counted d x y size)
+  counted_in d x y size = both (fetch 5 x) _ (fetch_in 5 x) (both (fetch 6 y) _ (fetch_in 6 y) (both (scale (register_of 6 y) size) _ (scale_in (register_of 6 y) size) (keep_in d)))
+
   element_in : (d : Home) (x y : Source) (size : ℕ) → Inside a b (element d x y size)
-  element_in d x y size = both (fetch 5 x) _ (fetch_in 5 x) (both (fetch 6 y) _ (fetch_in 6 y) (both (scale (register_of 6 y) size) _ (scale_in (register_of 6 y) size) (keep_in d)))
+  element_in d x (source.Register q) size = either (q == 0) (move d x) (selected.counted d x (source.Register q) size) (move_in d x) (counted_in d x (source.Register q) size)
+  element_in d x (source.Frame o) size = counted_in d x (source.Frame o) size
+  element_in d x (source.Constant v) size =
+      let bytes = source.Constant (v * size % 2 ^ 32) in
+      both (fetch 5 x) _ (fetch_in 5 x)
+      (both (combine (operation.Machine register_op.Add) (made_in d) (register_of 5 x) bytes) (keep d)
+      (combine_in (operation.Machine register_op.Add) (made_in d) (register_of 5 x) bytes) (keep_in d))
 
   change_in : (by : ℕ) → Inside a b (change_sp by)
   change_in by = either (nat_lt ((by + 0x800) % 2 ^ 32) 0x1000) _ _ tt (both (load_constant 7 by ∷ []) _ (constant_in 7 by) tt)

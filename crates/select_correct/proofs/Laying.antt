@@ -1,5 +1,5 @@
 -- Where a program's items are placed, each instruction's items and each function's entry are at their labels.
-use Rattle.std.proofs.Common.{◌≡◌, ℕ, zero, suc, ◌+◌, ◌%◌, ◌<◌, ◌≤◌, inl, Bool, true, false, List, [], ◌∷◌, length, map, take, Option, Some, None, refl, sym, ap, ◌∙◌, subst, arith}
+use Rattle.std.proofs.Common.{◌≡◌, ℕ, zero, suc, ◌+◌, ◌%◌, ◌<◌, ◌≤◌, Bool, true, false, List, [], ◌∷◌, length, map, take, Option, Some, None, refl, sym, ap, ◌∙◌, subst, arith}
 use Rattle.std.specs.Prelude.{slice_get}
 use Rattle.std.proofs.lemmas.List.Sums.{sum_by-cons}
 use Rattle.rv32.specs.declared.instr.Instr.{Instr}
@@ -8,7 +8,7 @@ use Rattle.asm.specs.declared.item.Item.TheVariants.{Mark, Plain, Branch, Jump, 
 use Rattle.asm.specs.Layout.{nearer}
 use Rattle.asm.specs.Placed as placed
 use Rattle.asm.specs.Placed.{ItemAt}
-use Rattle.select_exec.specs.Standing.{CallAt, ItemSo, StandsSo, Stands}
+use Rattle.select_exec.specs.Standing.{CallAt, ItemSo, StandsSo}
 use Rattle.frames_code.specs.declared.code.Instruction.{Instruction}
 use Rattle.frames_code.specs.declared.code.Instruction.TheVariants as instruction
 use Rattle.frames_code.specs.Code.{Function, Program}

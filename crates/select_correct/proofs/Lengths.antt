@@ -21,8 +21,8 @@ use Rattle.select.specs.declared.places.Source.{Source}
 use Rattle.select.specs.declared.places.Source.TheVariants as source
 use Rattle.select.specs.declared.places.Home.{Home}
 use Rattle.select.specs.declared.places.Home.TheVariants as home
-use Rattle.select.specs.Selected.{is_near_gp, static_address, source_of, home_of, kept, machine_of, constant_form, fetch, into, keep, made_in, register_of, load_constant, far, load_word, store_word, address_of, move, ending, operate, form_or, combine, narrow, operate_on, reach, reach_base, reach_offset, load_of, reference, log2_of, shift_or_multiply, scale, scaled_in, put_byte, change_sp, saves, restores, calls, keep_return, take_return, entry, leave, return_home, byte_home, items_of, set_to}
-use Rattle.select_correct.specs.Costs.{far_cost, word_cost, constant_cost, address_cost, set_cost, fetch_cost, keep_cost, into_cost, move_cost, form_cost, second_cost, ending_cost, compute_cost, narrow_cost, reach_cost, reference_cost, product_cost, scale_cost, frame_cost, saved_cost, return_cost, opening_cost, row, RowsAreLengths, item_count}
+use Rattle.select.specs.Selected.{is_near_gp, static_address, source_of, home_of, kept, machine_of, constant_form, fetch, into, keep, made_in, register_of, load_constant, far, load_word, store_word, address_of, move, ending, operate, form_or, combine, narrow, operate_on, reach, reach_base, reach_offset, load_of, reference, log2_of, shift_or_multiply, scale, scaled_in, counted, element, put_byte, change_sp, saves, restores, calls, keep_return, take_return, entry, leave, return_home, byte_home, items_of, set_to}
+use Rattle.select_correct.specs.Costs.{far_cost, word_cost, constant_cost, address_cost, set_cost, fetch_cost, keep_cost, into_cost, move_cost, form_cost, second_cost, ending_cost, compute_cost, narrow_cost, reach_cost, reference_cost, product_cost, scale_cost, counted_cost, element_cost, frame_cost, saved_cost, return_cost, opening_cost, row, RowsAreLengths, item_count}
 
 both : (xs ys : List Item) (a b : ℕ) → longest xs ≡ 4 * a → longest ys ≡ 4 * b → longest (xs ++ ys) ≡ 4 * (a + b)
 both xs ys a b p q = let sum : longest (xs ++ ys) ≡ longest xs + longest ys = sum_by-append (size true) xs ys in omega (arith, p, q, sum)
@@ -127,6 +127,18 @@ product_long None a n = both (set_to 7 n ∷ []) (operate_on register_op.Mul 6 a
 scale_long : (a n : ℕ) → longest (scale a n) ≡ 4 * scale_cost n
 scale_long a n = either (n == 1) [] _ 0 _ refl (product_long (log2_of n) a n)
 
+counted_long : (d : Home) (x y : Source) (n : ℕ) → longest (counted d x y n) ≡ 4 * counted_cost d x y n
+counted_long d x y n =
+    both (fetch 5 x) _ _ _ (fetch_long 5 x)
+    (both (fetch 6 y) _ _ _ (fetch_long 6 y)
+    (both (scale (register_of 6 y) n) _ _ _ (scale_long (register_of 6 y) n)
+    (both (operate_on register_op.Add (made_in d) (register_of 5 x) (scaled_in (register_of 6 y) n) ∷ []) (keep d) 1 _ refl (keep_long d))))
+
+element_long : (d : Home) (x y : Source) (n : ℕ) → longest (element d x y n) ≡ 4 * element_cost d x y n
+element_long d x (source.Register q) n = either (q == 0) (move d x) (counted d x (source.Register q) n) _ _ (move_long d x) (counted_long d x (source.Register q) n)
+element_long d x (source.Frame o) n = counted_long d x (source.Frame o) n
+element_long d x (source.Constant v) n = compute_long (operation.Machine register_op.Add) d x (source.Constant (v * n % 2 ^ 32))
+
 saves_long : (f : Function) (n : ℕ) → longest (saves f n) ≡ 4 * saved_cost f n
 saves_long f zero = refl
 saves_long f (suc n) = both (saves f n) _ _ _ (saves_long f n) (store_long (kept n) (cell_home f n))
@@ -165,11 +177,7 @@ items_long f first (instruction.Load w d l) =
 items_long f first (instruction.Store w x l) =
     both (fetch 5 (source_of f x)) _ _ _ (fetch_long 5 (source_of f x)) (both (reach f l) _ _ 1 (reach_long f l) refl)
 items_long f first (instruction.Address d l) = reference_long f (home_of f d) l
-items_long f first (instruction.Element d x y n) =
-    both (fetch 5 (source_of f x)) _ _ _ (fetch_long 5 (source_of f x))
-    (both (fetch 6 (source_of f y)) _ _ _ (fetch_long 6 (source_of f y))
-    (both (scale (register_of 6 (source_of f y)) n) _ _ _ (scale_long (register_of 6 (source_of f y)) n)
-    (both (operate_on register_op.Add (made_in (home_of f d)) (register_of 5 (source_of f x)) (scaled_in (register_of 6 (source_of f y)) n) ∷ []) (keep (home_of f d)) 1 _ refl (keep_long (home_of f d)))))
+items_long f first (instruction.Element d x y n) = element_long (home_of f d) (source_of f x) (source_of f y) n
 items_long f first (instruction.Jump to) = refl
 items_long f first (instruction.Branch t x y to) =
     both (fetch 5 (source_of f x)) _ _ _ (fetch_long 5 (source_of f x)) (both (fetch 6 (source_of f y)) _ _ 2 (fetch_long 6 (source_of f y)) refl)

@@ -3,7 +3,7 @@ use Rattle.std.proofs.Common.{◌≡◌, ◌<◌, ◌^◌, ℕ, List, [], refl, 
 use Rattle.memory_map.specs.MemoryMap.{stack_end}
 use Rattle.csem_events.specs.Events.{Event}
 use Rattle.sim.specs.Runs as machine
-use Rattle.frames_code.specs.Run.{State, Progress, running, start}
+use Rattle.frames_code.specs.Run.{State, running, start}
 use Rattle.select_exec.specs.Light.{Light, Go, Done, Fell, light_run}
 use Rattle.select_exec.specs.Whole.{Permits, fixed}
 use Rattle.select_exec.specs.Worlds.{world, Follows}

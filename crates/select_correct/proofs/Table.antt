@@ -1,7 +1,9 @@
--- The sums of the table of costs: never more than the table of `frames`, and few where nothing is far.
-use Rattle.std.proofs.Common.{◌≡◌, ℕ, zero, suc, ◌+◌, ◌*◌, ◌-◌, ◌%◌, ◌^◌, ◌≤◌, Option, Some, None, Bool, true, false, arith}
+-- The sums of the table of costs: never more than the table of `frames_code`, and few where nothing is far.
+use Rattle.std.proofs.Common.{◌≡◌, ℕ, zero, suc, ◌+◌, ◌*◌, ◌-◌, ◌%◌, ◌^◌, ◌<◌, ◌≤◌, Option, Some, None, Bool, true, false, refl, arith}
 use Rattle.std.specs.Prelude.{if◌then◌else◌, ◌==◌, nat_lt}
+use Rattle.std.proofs.lemmas.Bool.{lt-ltb, ltb-true}
 use Rattle.rv32.specs.declared.instr.Instr.{Instr}
+use Rattle.rv32.specs.declared.instr.RegisterOp.TheVariants as register_op
 use Rattle.frames_code.specs.declared.code.Location.{Location}
 use Rattle.frames_code.specs.declared.code.Location.TheVariants as location
 use Rattle.frames_code.specs.declared.code.Operation.{Operation}
@@ -13,19 +15,23 @@ use Rattle.frames_code.specs.declared.code.Instruction.TheVariants as instructio
 use Rattle.frames_code.specs.Code.{Function, Program, cell_home, area_home, frame_bytes}
 use Rattle.frames_code.specs.Sound.{IsSoundProgram}
 use Rattle.frames_code.specs.Run.{State, Progress, running, ended, stuck, function_at, step}
-use Rattle.frames_code.specs.Costs.{cost, cost_if, next_of, cost_on, spent}
+use Rattle.frames_code.specs.Costs.{entry_cost_of, cost_in, cost_in_if, next_of, cost_on, spent_in}
 use Rattle.select.specs.declared.places.Source.{Source}
 use Rattle.select.specs.declared.places.Source.TheVariants as source
 use Rattle.select.specs.declared.places.Home.{Home}
 use Rattle.select.specs.declared.places.Home.TheVariants as home
 use Rattle.select.specs.Program.{calls_are_near}
 use Rattle.select.specs.Selected.{is_near_gp, source_of, home_of, register_of, made_in, machine_of, constant_form, log2_of, byte_home, return_home, calls, is_same, skips_nothing}
-use Rattle.select_correct.specs.Costs.{call_cost, far_cost, word_cost, constant_cost, address_cost, set_cost, fetch_cost, keep_cost, into_cost, move_cost, form_cost, second_cost, ending_cost, compute_cost, narrow_cost, reach_cost, reference_cost, product_cost, scale_cost, frame_cost, far_frame, saved_cost, opening_cost, step_cost, most_at, most_if, most_next, most_spent, SpentIsMore, far_source, far_home, far_location, far_saved, RowsAreFew}
-use Rattle.select_correct.proofs.Fits.{function_fits}
+use Rattle.select_correct.specs.Costs.{call_cost, far_cost, word_cost, constant_cost, address_cost, set_cost, fetch_cost, keep_cost, into_cost, move_cost, form_cost, second_cost, ending_cost, compute_cost, narrow_cost, reach_cost, reference_cost, product_cost, scale_cost, counted_cost, element_cost, frame_cost, far_frame, saved_cost, opening_cost, step_cost, most_at, most_if, most_next, most_spent, SpentIsMore, far_source, far_home, far_location, far_saved, RowsAreFew}
+use Rattle.select_correct.proofs.Fits.{function_fits, frame_room}
 
 choice_most : (t : Bool) (n : ℕ) → (if t then 0 else n) ≤ n
 choice_most true n = omega arith
 choice_most false n = omega arith
+
+of_either : (t : Bool) (a b n : ℕ) → a ≤ n → b ≤ n → (if t then a else b) ≤ n
+of_either true a b n p q = p
+of_either false a b n p q = q
 
 one_or_more : (t : Bool) (n : ℕ) → n ≤ 2 → (if t then 1 else n) ≤ 2
 one_or_more true n le = omega arith
@@ -106,6 +112,15 @@ move_near : (d : Home) (x : Source) → move_cost d x ≤ 3 + (far_source x + fa
 move_near (home.Register r) x = omega (arith, into_near x)
 move_near (home.Frame o) x = omega (arith, fetch_near x)
 
+counted_near : (d : Home) (x y : Source) (size : ℕ) → counted_cost d x y size ≤ 12 + (far_source x + far_source y + far_home d)
+counted_near d x y size = omega (arith, fetch_near x, fetch_near y, scale_most size, keep_near d)
+
+element_near : (d : Home) (x y : Source) (size : ℕ) → element_cost d x y size ≤ 12 + (far_source x + far_source y + far_home d)
+element_near d x (source.Register q) size =
+    of_either (q == 0) (move_cost d x) (counted_cost d x (source.Register q) size) _ (omega (arith, move_near d x)) (counted_near d x (source.Register q) size)
+element_near d x (source.Frame o) size = counted_near d x (source.Frame o) size
+element_near d x (source.Constant v) size = omega (arith, compute_near (operation.Machine register_op.Add) d x (source.Constant (v * size % 2 ^ 32)))
+
 reach_near : (f : Function) (l : Location) → reach_cost f l ≤ 2 + far_location f l
 reach_near f (location.Statics o) = choice_most (is_near_gp o) 2
 reach_near f (location.Frame o) = omega arith
@@ -132,7 +147,7 @@ rows_are_few p f (instruction.Convert c d x) = omega (arith, narrow_most c, fetc
 rows_are_few p f (instruction.Load w d l) = omega (arith, reach_near f l, keep_near (home_of f d))
 rows_are_few p f (instruction.Store w x l) = omega (arith, fetch_near (source_of f x), reach_near f l)
 rows_are_few p f (instruction.Address d l) = omega (arith, reference_near f (home_of f d) l)
-rows_are_few p f (instruction.Element d x y size) = omega (arith, fetch_near (source_of f x), fetch_near (source_of f y), scale_most size, keep_near (home_of f d))
+rows_are_few p f (instruction.Element d x y size) = element_near (home_of f d) (source_of f x) (source_of f y) size
 rows_are_few p f (instruction.Jump to) = omega arith
 rows_are_few p f (instruction.Branch t x y to) = omega (arith, fetch_near (source_of f x), fetch_near (source_of f y))
 rows_are_few p f (instruction.Call g) = omega (arith, few_at_call (calls_are_near p), return_near (calls (function_at p g).code) (return_home (function_at p g)), saved_near (function_at p g) (function_at p g).resident, frame_near (2 ^ 32 - frame_bytes (function_at p g)))
@@ -178,6 +193,15 @@ move_most : (d : Home) (x : Source) → move_cost d x ≤ 6
 move_most (home.Register r) x = omega (arith, into_most x)
 move_most (home.Frame o) x = omega (arith, fetch_most x, far_most o)
 
+counted_most : (d : Home) (x y : Source) (size : ℕ) → counted_cost d x y size ≤ 13
+counted_most d x y size = omega (arith, fetch_most x, fetch_most y, scale_most size, keep_most d)
+
+element_most : (d : Home) (x y : Source) (size : ℕ) → element_cost d x y size ≤ 13
+element_most d x (source.Register q) size =
+    of_either (q == 0) (move_cost d x) (counted_cost d x (source.Register q) size) 13 (omega (arith, move_most d x)) (counted_most d x (source.Register q) size)
+element_most d x (source.Frame o) size = counted_most d x (source.Frame o) size
+element_most d x (source.Constant v) size = omega (arith, compute_most (operation.Machine register_op.Add) d x (source.Constant (v * size % 2 ^ 32)))
+
 reach_most : (f : Function) (l : Location) → reach_cost f l ≤ 3
 reach_most f (location.Statics o) = omega (arith, choice_most (is_near_gp o) 2)
 reach_most f (location.Frame o) = omega (arith, far_most (area_home f + o))
@@ -195,11 +219,44 @@ saved_most f (suc n) = omega (arith, saved_most f n, far_most (cell_home f n))
 opening_most : (f : Function) → f.resident ≤ 12 → opening_cost f ≤ 42
 opening_most f few = omega (arith, few, return_near (calls f.code) (return_home f), frame_most (2 ^ 32 - frame_bytes f), far_most (return_home f), saved_most f f.resident)
 
+-- ---- where the whole frame is within the reach of 12 bits
+
+word_near : (o : ℕ) → o < 0x800 → far_cost o ≡ 0
+word_near o lt = let t : nat_lt o 0x800 ≡ true = lt-ltb o 0x800 lt in rw t refl
+
+sp_near : (n : ℕ) → 0 < n → n < 0x800 → far_frame (2 ^ 32 - n) ≡ 0
+sp_near n some lt =
+    let within : (2 ^ 32 - n + 0x800) % 2 ^ 32 < 0x1000 = omega (arith, some, lt) in
+    let t : nat_lt ((2 ^ 32 - n + 0x800) % 2 ^ 32) 0x1000 ≡ true = lt-ltb ((2 ^ 32 - n + 0x800) % 2 ^ 32) 0x1000 within in
+    rw t refl
+
+module _ (f : Function) (small : frame_bytes f < 0x800) where
+  saved_few : (n : ℕ) → n ≤ f.cells → saved_cost f n ≤ n
+  saved_few zero le = omega arith
+  saved_few (suc n) le = omega (arith, saved_few n (omega (arith, le)), word_near (cell_home f n) (omega (arith, le, frame_room f, small)))
+
+  opening_few : f.resident ≤ 12 → f.resident ≤ f.cells → opening_cost f ≤ 14
+  opening_few few all =
+      let room = frame_room f in
+      let down = sp_near (frame_bytes f) (omega (arith, room)) small in
+      let back = word_near (return_home f) (omega (arith, room, small)) in
+      omega (arith, few, down, back, saved_few f.resident all, frame_near (2 ^ 32 - frame_bytes f), return_near (calls f.code) (return_home f))
+
+opening_within : (f : Function) → f.resident ≤ 12 → f.resident ≤ f.cells → opening_cost f ≤ entry_cost_of f
+opening_within f few all = on (nat_lt (frame_bytes f) 0x800) refl
+  where
+    on : (t : Bool) → nat_lt (frame_bytes f) 0x800 ≡ t → opening_cost f ≤ entry_cost_of f
+    on true e = let most : entry_cost_of f ≡ 16 = rw e refl in omega (arith, most, opening_few f (ltb-true (frame_bytes f) 0x800 e) few all)
+    on false e = let most : entry_cost_of f ≡ 42 = rw e refl in omega (arith, most, opening_most f few)
+
 module _ (p : Program) (sound : IsSoundProgram p) where
   few : (k : ℕ) → (function_at p k).resident ≤ 12
   few k = (function_fits p sound k).few
 
-  step_is_more : (f : Function) → f.resident ≤ 12 → (x : Instruction) → step_cost p f x ≤ cost x
+  opening : (k : ℕ) → opening_cost (function_at p k) ≤ entry_cost_of (function_at p k)
+  opening k = let fit = function_fits p sound k in opening_within (function_at p k) fit.few fit.all
+
+  step_is_more : (f : Function) → f.resident ≤ 12 → (x : Instruction) → step_cost p f x ≤ cost_in p x
   step_is_more f le instruction.Nothing = omega arith
   step_is_more f le (instruction.Move d x) = move_most (home_of f d) (source_of f x)
   step_is_more f le (instruction.Compute o d x y) = compute_most o (home_of f d) (source_of f x) (source_of f y)
@@ -207,20 +264,20 @@ module _ (p : Program) (sound : IsSoundProgram p) where
   step_is_more f le (instruction.Load w d l) = omega (arith, reach_most f l, keep_most (home_of f d))
   step_is_more f le (instruction.Store w x l) = omega (arith, fetch_most (source_of f x), reach_most f l)
   step_is_more f le (instruction.Address d l) = reference_most f (home_of f d) l
-  step_is_more f le (instruction.Element d x y size) = omega (arith, fetch_most (source_of f x), fetch_most (source_of f y), scale_most size, keep_most (home_of f d))
+  step_is_more f le (instruction.Element d x y size) = element_most (home_of f d) (source_of f x) (source_of f y) size
   step_is_more f le (instruction.Jump to) = omega arith
   step_is_more f le (instruction.Branch t x y to) = omega (arith, fetch_most (source_of f x), fetch_most (source_of f y))
-  step_is_more f le (instruction.Call g) = omega (arith, few_at_call (calls_are_near p), opening_most (function_at p g) (few g))
+  step_is_more f le (instruction.Call g) = omega (arith, few_at_call (calls_are_near p), opening g)
   step_is_more f le instruction.PutByte = omega (arith, address_most (byte_home f))
   step_is_more f le instruction.GetByte = omega (arith, address_most (byte_home f))
   step_is_more f le instruction.Exit = omega arith
   step_is_more f le instruction.Return = omega (arith, le, return_near (calls f.code) (return_home f), saved_most f f.resident, far_most (return_home f), frame_most (frame_bytes f))
 
-  chosen_is_more : (f : Function) → f.resident ≤ 12 → (x : Instruction) (t : Bool) → step_cost p f (if t then instruction.Nothing else x) ≤ cost x
+  chosen_is_more : (f : Function) → f.resident ≤ 12 → (x : Instruction) (t : Bool) → step_cost p f (if t then instruction.Nothing else x) ≤ cost_in p x
   chosen_is_more f le x true = omega arith
   chosen_is_more f le x false = step_is_more f le x
 
-  at_is_more : (f : Function) → f.resident ≤ 12 → (k : ℕ) (x : Instruction) → most_at p f k x ≤ cost x
+  at_is_more : (f : Function) → f.resident ≤ 12 → (k : ℕ) (x : Instruction) → most_at p f k x ≤ cost_in p x
   at_is_more f le k instruction.Nothing = step_is_more f le instruction.Nothing
   at_is_more f le k (instruction.Move d x) = chosen_is_more f le (instruction.Move d x) (is_same d x)
   at_is_more f le k (instruction.Compute o d x y) = step_is_more f le (instruction.Compute o d x y)
@@ -237,21 +294,21 @@ module _ (p : Program) (sound : IsSoundProgram p) where
   at_is_more f le k instruction.Exit = step_is_more f le instruction.Exit
   at_is_more f le k instruction.Return = step_is_more f le instruction.Return
 
-  if_is_more : (f : Function) → f.resident ≤ 12 → (k : ℕ) (o : Option Instruction) → most_if p f k o ≤ cost_if o
+  if_is_more : (f : Function) → f.resident ≤ 12 → (k : ℕ) (o : Option Instruction) → most_if p f k o ≤ cost_in_if p o
   if_is_more f le k None = omega arith
   if_is_more f le k (Some x) = at_is_more f le k x
 
-  rest_is_more : (n : ℕ) → ((s : State) → most_spent p n s ≤ spent p n s) → (x : Progress) → cost_on x (most_spent p n) ≤ cost_on x (spent p n)
+  rest_is_more : (n : ℕ) → ((s : State) → most_spent p n s ≤ spent_in p n s) → (x : Progress) → cost_on x (most_spent p n) ≤ cost_on x (spent_in p n)
   rest_is_more n more (running s) = more s
   rest_is_more n more (ended status input trace) = omega arith
   rest_is_more n more stuck = omega arith
 
-  all_is_more : (n : ℕ) (s : State) → most_spent p n s ≤ spent p n s
+  all_is_more : (n : ℕ) (s : State) → most_spent p n s ≤ spent_in p n s
   all_is_more zero s = omega arith
   all_is_more (suc n) s =
-      let now : most_next p s ≤ cost_if (next_of p s) = if_is_more (function_at p s.frame.function) (few s.frame.function) s.frame.at (next_of p s) in
-      let later : cost_on (step p s) (most_spent p n) ≤ cost_on (step p s) (spent p n) = rest_is_more n (all_is_more n) (step p s) in
+      let now : most_next p s ≤ cost_in_if p (next_of p s) = if_is_more (function_at p s.frame.function) (few s.frame.function) s.frame.at (next_of p s) in
+      let later : cost_on (step p s) (most_spent p n) ≤ cost_on (step p s) (spent_in p n) = rest_is_more n (all_is_more n) (step p s) in
       omega (arith, now, later)
 
 pub spent_is_more : SpentIsMore
-spent_is_more p sound = (omega (arith, opening_most (function_at p p.main) (few p sound p.main)), all_is_more p sound)
+spent_is_more p sound = (omega (arith, opening p sound p.main), all_is_more p sound)

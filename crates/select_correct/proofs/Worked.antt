@@ -59,6 +59,16 @@ element_by_a_long_product : row near (instruction.Element (target.Cell 4) (opera
 unfolding count_trailing_zeros
 element_by_a_long_product = refl
 
+-- by a constant: none, of 12 bits, and past them
+no_element : row near (instruction.Element (target.Temporary 0) (operand.Temporary 1) (operand.Constant 0) 12) ≡ 1
+no_element = refl
+
+third_element : row near (instruction.Element (target.Temporary 0) (operand.Temporary 1) (operand.Constant 3) 4) ≡ 1
+third_element = refl
+
+far_element : row near (instruction.Element (target.Temporary 0) (operand.Temporary 1) (operand.Constant 300) 12) ≡ 3
+far_element = refl
+
 element_attained : items near (instruction.Element (target.Cell 4) (operand.Cell 3) (operand.Cell 4) 12) ≡ 4 * 6
 unfolding count_trailing_zeros
 element_attained = refl

@@ -1,6 +1,7 @@
 -- The number of machine instructions that a run of flat code takes, at least and at most.
 use Rattle.std.specs.Prelude.{◌≡◌, ℕ, Bool, zero, suc, ◌+◌, ◌-◌, ◌*◌, ◌%◌, ◌^◌, ◌==◌, ◌≤◌, nat_lt, if◌then◌else◌, Option, Some, None}
 use Rattle.rv32.specs.declared.instr.Instr.{Instr}
+use Rattle.rv32.specs.declared.instr.RegisterOp.TheVariants as register_op
 use Rattle.asm.specs.Layout.{longest}
 use Rattle.frames_code.specs.declared.code.Location.{Location}
 use Rattle.frames_code.specs.declared.code.Location.TheVariants as location
@@ -13,7 +14,7 @@ use Rattle.frames_code.specs.declared.code.Instruction.TheVariants as instructio
 use Rattle.frames_code.specs.Code.{Function, Program, cell_home, area_home, frame_bytes}
 use Rattle.frames_code.specs.Sound.{IsSoundProgram}
 use Rattle.frames_code.specs.Run.{State, function_at, step}
-use Rattle.frames_code.specs.Costs.{entry_cost, next_of, cost_on, spent}
+use Rattle.frames_code.specs.Costs.{entry_cost_of, next_of, cost_on, spent_in}
 use Rattle.select.specs.declared.places.Source.{Source}
 use Rattle.select.specs.declared.places.Source.TheVariants as source
 use Rattle.select.specs.declared.places.Home.{Home}
@@ -143,6 +144,15 @@ product_cost None size = set_cost size + 1
 abbrev pub scale_cost : ℕ → ℕ
 scale_cost size = if size == 1 then 0 else product_cost (log2_of size) size
 
+-- a reference advanced by a number of elements: a number that is a constant takes a sum with its bytes, and none a move
+abbrev pub counted_cost : Home → Source → Source → ℕ → ℕ
+counted_cost d x y size = fetch_cost x + (fetch_cost y + (scale_cost size + (1 + keep_cost d)))
+
+abbrev pub element_cost : Home → Source → Source → ℕ → ℕ
+element_cost d x (source.Register q) size = if q == 0 then move_cost d x else counted_cost d x (source.Register q) size
+element_cost d x (source.Frame o) size = counted_cost d x (source.Frame o) size
+element_cost d x (source.Constant n) size = compute_cost (operation.Machine register_op.Add) d x (source.Constant (n * size % 2 ^ 32))
+
 -- a change of sp, by 12 bits with a sign or by more
 abbrev pub frame_cost : ℕ → ℕ
 frame_cost by = if nat_lt ((by + 0x800) % 2 ^ 32) 0x1000 then 1 else constant_cost by + 1
@@ -168,7 +178,7 @@ row f (instruction.Convert c d x) = fetch_cost (source_of f x) + (narrow_cost c 
 row f (instruction.Load w d l) = reach_cost f l + (1 + keep_cost (home_of f d))
 row f (instruction.Store w x l) = fetch_cost (source_of f x) + (reach_cost f l + 1)
 row f (instruction.Address d l) = reference_cost f (home_of f d) l
-row f (instruction.Element d x y size) = fetch_cost (source_of f x) + (fetch_cost (source_of f y) + (scale_cost size + (1 + keep_cost (home_of f d))))
+row f (instruction.Element d x y size) = element_cost (home_of f d) (source_of f x) (source_of f y) size
 row f (instruction.Jump to) = 1
 row f (instruction.Branch t x y to) = fetch_cost (source_of f x) + (fetch_cost (source_of f y) + 2)
 row f (instruction.Call g) = 2
@@ -215,12 +225,13 @@ most_spent p (suc n) s = most_next p s + cost_on (step p s) (most_spent p n)
 abbrev pub most_start : Program → ℕ
 most_start p = 6 + opening_cost (function_at p p.main)
 
-abbrev pub start_cost : ℕ
-start_cost = 6 + entry_cost
+abbrev pub start_cost : Program → ℕ
+start_cost p = 6 + entry_cost_of (function_at p p.main)
 
--- never more than by the table of `frames`, which counts all as far and twelve words as resident
+-- never more than by the table of `frames_code`, which counts all as far and twelve words as resident; but where a frame is within the reach of 12 bits, no word
+-- is far at its function's entry
 abbrev pub SpentIsMore : Type 0
-SpentIsMore = (p : Program) → IsSoundProgram p → (most_start p ≤ start_cost) × ((n : ℕ) (s : State) → most_spent p n s ≤ spent p n s)
+SpentIsMore = (p : Program) → IsSoundProgram p → (most_start p ≤ start_cost p) × ((n : ℕ) (s : State) → most_spent p n s ≤ spent_in p n s)
 
 -- ---- the same in short: what is far, and all else
 

@@ -20,7 +20,7 @@ pub fn rows_are_few()
     ensures { RowsAreFew }
 {}
 
-/// The cost of a run is at most that by the table of `frames`, which needs no function.
+/// The cost of a run is at most that by the table of `frames_code`, which needs of a function only the size of its frame.
 pub fn spent_is_more()
     ensures { SpentIsMore }
 {}

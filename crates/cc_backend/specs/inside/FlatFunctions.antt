@@ -7,6 +7,7 @@ use Rattle.frames_code.specs.Code as flat
 use Rattle.frames.specs.Layout.{Starts}
 use Rattle.frames.specs.Translated.{flat_function}
 use Rattle.frames_opt.specs.layer.Functions.{IsSimplerFunction}
+use Rattle.frames_hoist.specs.layer.Functions.{IsHoistedFunction}
 use Rattle.frames_regalloc.specs.Renumbered.{IsRenumberedFunction}
 
 -- h is flat code of f, which is main or is not, where literals and static objects begin at s
@@ -15,7 +16,9 @@ pub record IsFlatFunctionOf (p : typed.Program) (s : Starts) (is_main : Bool) (f
   pub lowered : IsFunctionWith p is_main f code
   pub simpler : flat.Function
   pub simplified : IsSimplerFunction (flat_function s code) simpler
-  pub renumbered : IsRenumberedFunction simpler h
+  pub better : flat.Function
+  pub hoisted : IsHoistedFunction simpler better
+  pub renumbered : IsRenumberedFunction better h
 
 -- these are flat code of the first `number` of the functions of a program
 pub record AreFlatFunctionsOf (p : typed.Program) (s : Starts) (number : ℕ) (all : List flat.Function) : Type 0 where

@@ -1,5 +1,5 @@
 -- The contents of the temporaries, as far as the code itself determines them.
-use Rattle.std.specs.Prelude.{◌==◌, ℕ, List, set, get_or, replicate}
+use Rattle.std.specs.Prelude.{ℕ, List, set, get_or, replicate}
 use Rattle.rv32.specs.declared.instr.RegisterOp.{RegisterOp}
 use Rattle.rv32.specs.declared.instr.RegisterOp.TheVariants as register_op
 use Rattle.rv32.specs.Arithmetic.{operate_of}

@@ -1,9 +1,8 @@
 -- The replacement of an instruction, by the facts known before it.
-use Rattle.std.specs.Prelude.{ℕ, ◌+◌, ◌*◌, ◌^◌, ◌==◌, ◌&&◌, nat_lt, not, Bool, true, false, if◌then◌else◌, List, Option, Some, None}
+use Rattle.std.specs.Prelude.{ℕ, ◌+◌, ◌-◌, ◌*◌, ◌^◌, ◌==◌, ◌&&◌, nat_lt, not, Bool, true, false, if◌then◌else◌, List, Option, Some, None}
 use Rattle.std.specs.Int.{w32, trailing_zeros}
 use Rattle.rv32.specs.declared.instr.RegisterOp.{RegisterOp}
 use Rattle.rv32.specs.declared.instr.RegisterOp.TheVariants as register_op
-use Rattle.rv32.specs.Arithmetic.{operate_of}
 use Rattle.frames_code.specs.declared.code.Operand.{Operand}
 use Rattle.frames_code.specs.declared.code.Operand.TheVariants as operand
 use Rattle.frames_code.specs.declared.code.Target.{Target}
@@ -72,52 +71,51 @@ commutes (operation.Machine o) = commutes_on_machine o
 commutes operation.Equal = false
 commutes operation.NotEqual = false
 
-abbrev pub is_product_on_machine : RegisterOp → Bool
-is_product_on_machine register_op.Add = false
-is_product_on_machine register_op.Sub = false
-is_product_on_machine register_op.ShiftLeft = false
-is_product_on_machine register_op.Less = false
-is_product_on_machine register_op.LessUnsigned = false
-is_product_on_machine register_op.Xor = false
-is_product_on_machine register_op.ShiftRight = false
-is_product_on_machine register_op.ShiftRightArithmetic = false
-is_product_on_machine register_op.Or = false
-is_product_on_machine register_op.And = false
-is_product_on_machine register_op.Mul = true
-is_product_on_machine register_op.MulHigh = false
-is_product_on_machine register_op.MulHighSignedUnsigned = false
-is_product_on_machine register_op.MulHighUnsigned = false
-is_product_on_machine register_op.Div = false
-is_product_on_machine register_op.DivUnsigned = false
-is_product_on_machine register_op.Rem = false
-is_product_on_machine register_op.RemUnsigned = false
+abbrev pub with_constant : RegisterOp → Target → Operand → ℕ → Instruction
+with_constant o d x v = instruction.Compute (operation.Machine o) d x (operand.Constant v)
 
-abbrev pub is_product : Operation → Bool
-is_product (operation.Machine o) = is_product_on_machine o
-is_product operation.Equal = false
-is_product operation.NotEqual = false
+-- the remainder by v, which is 2^k: an instruction has the mask in itself where it has at most 11 bits
+abbrev pub low_bits : Target → Operand → (k v : ℕ) → Instruction
+low_bits d x k v = if nat_lt k 12 then with_constant register_op.And d x (v - 1) else with_constant register_op.RemUnsigned d x v
 
-abbrev pub product : Target → Operand → Operand → Instruction
-product d x y = instruction.Compute (operation.Machine register_op.Mul) d x y
-
-abbrev pub shift : Target → Operand → ℕ → Instruction
-shift d x k = instruction.Compute (operation.Machine register_op.ShiftLeft) d x (operand.Constant k)
+-- an operation with v, which is 2^k: by a shift or a mask where there is one
+abbrev pub with_power : RegisterOp → Target → Operand → (k v : ℕ) → Instruction
+with_power register_op.Add d x k v = with_constant register_op.Add d x v
+with_power register_op.Sub d x k v = with_constant register_op.Sub d x v
+with_power register_op.ShiftLeft d x k v = with_constant register_op.ShiftLeft d x v
+with_power register_op.Less d x k v = with_constant register_op.Less d x v
+with_power register_op.LessUnsigned d x k v = with_constant register_op.LessUnsigned d x v
+with_power register_op.Xor d x k v = with_constant register_op.Xor d x v
+with_power register_op.ShiftRight d x k v = with_constant register_op.ShiftRight d x v
+with_power register_op.ShiftRightArithmetic d x k v = with_constant register_op.ShiftRightArithmetic d x v
+with_power register_op.Or d x k v = with_constant register_op.Or d x v
+with_power register_op.And d x k v = with_constant register_op.And d x v
+with_power register_op.Mul d x k v = with_constant register_op.ShiftLeft d x k
+with_power register_op.MulHigh d x k v = with_constant register_op.MulHigh d x v
+with_power register_op.MulHighSignedUnsigned d x k v = with_constant register_op.MulHighSignedUnsigned d x v
+with_power register_op.MulHighUnsigned d x k v = with_constant register_op.MulHighUnsigned d x v
+with_power register_op.Div d x k v = with_constant register_op.Div d x v
+with_power register_op.DivUnsigned d x k v = with_constant register_op.ShiftRight d x k
+with_power register_op.Rem d x k v = with_constant register_op.Rem d x v
+with_power register_op.RemUnsigned d x k v = low_bits d x k v
 
 -- a power of two is its number of zeros' power
 abbrev pub is_power : ℕ → ℕ → Bool
 is_power k v = nat_lt k 32 && (2 ^ k == v)
 
-abbrev pub scaled : Target → Operand → ℕ → Instruction
-scaled d x v = if is_power (trailing_zeros w32 v) v then shift d x (trailing_zeros w32 v) else product d x (operand.Constant v)
+abbrev pub with_word : RegisterOp → Target → Operand → ℕ → Instruction
+with_word o d x v = if is_power (trailing_zeros w32 v) v then with_power o d x (trailing_zeros w32 v) v else with_constant o d x v
 
-abbrev pub multiplied : Target → Operand → Operand → Instruction
-multiplied d x (operand.Temporary k) = product d x (operand.Temporary k)
-multiplied d x (operand.Cell c) = product d x (operand.Cell c)
-multiplied d x (operand.Constant v) = scaled d x v
-multiplied d x (operand.Argument k) = product d x (operand.Argument k)
+abbrev pub on_machine : RegisterOp → Target → Operand → Operand → Instruction
+on_machine o d x (operand.Temporary k) = instruction.Compute (operation.Machine o) d x (operand.Temporary k)
+on_machine o d x (operand.Cell c) = instruction.Compute (operation.Machine o) d x (operand.Cell c)
+on_machine o d x (operand.Constant v) = with_word o d x v
+on_machine o d x (operand.Argument k) = instruction.Compute (operation.Machine o) d x (operand.Argument k)
 
 abbrev pub arranged : Operation → Target → Operand → Operand → Instruction
-arranged o d x y = if is_product o then multiplied d x y else instruction.Compute o d x y
+arranged (operation.Machine o) d x y = on_machine o d x y
+arranged operation.Equal d x y = instruction.Compute operation.Equal d x y
+arranged operation.NotEqual d x y = instruction.Compute operation.NotEqual d x y
 
 abbrev pub compute : Operation → Target → Operand → Operand → Instruction
 compute o d x y = if is_constant x && (not (is_constant y) && commutes o) then arranged o d y x else arranged o d x y

@@ -1,6 +1,6 @@
--- Simplified flat code behaves as before.
+-- Optimised flat code behaves as before.
 use Rattle.std.proofs.Common.{◌≡◌, ◌≤◌, ℕ, ◌+◌, ◌-◌, List, length, Option, Some, None, refl, sym, ap, ◌∙◌, subst, arith}
-use Rattle.std.specs.Prelude.{slice_get, sum_by, option_map}
+use Rattle.std.specs.Prelude.{slice_get, option_map}
 use Rattle.std.proofs.lemmas.List.{length-map}
 use Rattle.std.proofs.lemmas.Option.{slice_get-map}
 use Rattle.tac_code.specs.Code as tac
@@ -8,14 +8,15 @@ use Rattle.frames_code.specs.Code as flat
 use Rattle.frames_code.specs.Code.{frame_bytes}
 use Rattle.frames_code.specs.Run as flat_run
 use Rattle.csem_events.specs.Events.{Event}
-use Rattle.frames.specs.Costs.{code_bytes}
+use Rattle.frames.specs.Costs.{function_bytes, function_bytes_in}
 use Rattle.cc_backend.proofs.Plain.{same_some}
 use Rattle.frames_correct.proofs.Runs.{run_both}
-use Rattle.frames.specs.Flattened.{IsCodeOf, behind}
-use Rattle.frames_opt.specs.Simplified.{IsSimplified, DoesTheSame, IsDefined}
-use Rattle.cc_backend.specs.Forms.{IsFormOf}
+use Rattle.frames.specs.Flattened.{IsFlattened, IsCodeOf, behind}
+use Rattle.frames_opt.specs.Simplified.{DoesTheSame, IsDefined}
+use Rattle.frames_hoist.specs.Optimised.{IsOptimised}
+use Rattle.cc_backend.specs.Forms.{IsOptimisedCodeOf, IsFormOf}
 use Rattle.cc_backend.specs.Simulation.{Simulates, step_for_step}
-use Rattle.cc_backend.specs.Chain.{of_flat, SimplerSimulatesFlat}
+use Rattle.cc_backend.specs.Chain.{of_plain, of_flat, OptimisedSimulatesFlat}
 
 -- ---- runs
 
@@ -29,7 +30,7 @@ GoesOn (flat_run.running s) = Unit {0}
 GoesOn (flat_run.ended status left trace) = ⊥
 GoesOn flat_run.stuck = ⊥
 
-module _ (f g : flat.Program) (simple : IsSimplified f g) (input : List ℕ) where
+module _ (f g : flat.Program) (better : IsOptimised f g) (input : List ℕ) where
   -- where the one goes on, and where it ends
   pub record Goes (m : ℕ) (s : flat_run.State) : Type 0 where
     pub t : flat_run.State
@@ -39,7 +40,7 @@ module _ (f g : flat.Program) (simple : IsSimplified f g) (input : List ℕ) whe
     pub calls : flat_run.active t ≡ flat_run.active s
 
   goes : (m : ℕ) (s : flat_run.State) → behind f input m ≡ flat_run.running s → Goes m s
-  goes m s e = on (behind g input m) refl (subst (λ x. DoesTheSame x (behind g input m)) e (simple.runs m input))
+  goes m s e = on (behind g input m) refl (subst (λ x. DoesTheSame x (behind g input m)) e (better.runs m input))
     where
       on : (y : flat_run.Progress) → behind g input m ≡ y → DoesTheSame (flat_run.running s) (behind g input m) → Goes m s
       on (flat_run.running t) h same =
@@ -49,7 +50,7 @@ module _ (f g : flat.Program) (simple : IsSimplified f g) (input : List ℕ) whe
       on flat_run.stuck h same = absurd (subst (DoesTheSame (flat_run.running s)) h same)
 
   ends_too : (m status : ℕ) (left : List ℕ) (trace : List Event) → behind f input m ≡ flat_run.ended status left trace → behind g input m ≡ flat_run.ended status left trace
-  ends_too m status left trace e = subst (λ x. DoesTheSame x (behind g input m)) e (simple.runs m input)
+  ends_too m status left trace e = subst (λ x. DoesTheSame x (behind g input m)) e (better.runs m input)
 
   -- defined after m steps, so after fewer too
   pub defined_before : (j m : ℕ) → j ≤ m → IsDefined (behind f input m) → IsDefined (behind f input j)
@@ -66,10 +67,10 @@ module _ (f g : flat.Program) (simple : IsSimplified f g) (input : List ℕ) whe
       on (flat_run.ended status left trace) e = subst IsDefined (sym e) tt
       on flat_run.stuck e = absurd (subst (λ x. IsDefined (flat_run.goes_on x (flat_run.run f (m - j)))) e (subst IsDefined whole defined))
 
-  same_calls : (n : ℕ) → IsDefined (behind f input n) → (calls : List ℕ) → (of_flat g input).Calls n calls → (of_flat f input).Calls n calls
+  same_calls : (n : ℕ) → IsDefined (behind f input n) → (calls : List ℕ) → (of_flat g input).Calls n calls → (of_plain f input).Calls n calls
   same_calls n defined calls c = on (behind f input c.0) refl
     where
-      on : (x : flat_run.Progress) → behind f input c.0 ≡ x → (of_flat f input).Calls n calls
+      on : (x : flat_run.Progress) → behind f input c.0 ≡ x → (of_plain f input).Calls n calls
       on (flat_run.running u) h =
           let other = goes c.0 u h in
           let same : other.t ≡ c.1 = ap (state_or c.1) (sym other.is ∙ c.3) in
@@ -77,51 +78,51 @@ module _ (f g : flat.Program) (simple : IsSimplified f g) (input : List ℕ) whe
       on (flat_run.ended status left trace) h = absurd (subst GoesOn (sym (sym (ends_too c.0 status left trace h) ∙ c.3)) tt)
       on flat_run.stuck h = absurd (subst IsDefined h (defined_before c.0 n c.2 defined))
 
-  pub simulates : (weight : ℕ → ℕ) (limit : ℕ) → Simulates step_for_step weight limit (of_flat f input) (of_flat g input)
+  pub simulates : (weight : ℕ → ℕ) (limit : ℕ) → Simulates step_for_step weight limit (of_plain f input) (of_flat g input)
   simulates weight limit = record {
     goes_on = λ n x at fit.
         let other = goes n at.0 at.1 in
         let defined : IsDefined (behind f input n) = subst IsDefined (sym at.1) tt in
-        let less = simple.costs n input defined in
+        let less = better.costs n input defined in
         (n, omega arith, omega arith, omega (arith, less), (other.t, other.is, other.trace ∙ at.2, other.left ∙ at.3, other.calls ∙ at.4), same_calls n defined);
     halts = λ n x at fit.
         let other = goes n at.0 at.1 in
         let defined : IsDefined (behind f input n) = subst IsDefined (sym at.1) tt in
-        let less = simple.costs n input defined in
+        let less = better.costs n input defined in
         (n, omega (arith, less), (other.t, other.is, other.trace ∙ at.2, other.left ∙ at.3, other.calls ∙ at.4), same_calls n defined);
     ends = λ n x at fit.
         let defined : IsDefined (behind f input n) = subst IsDefined (sym at) tt in
-        let less = simple.costs n input defined in
+        let less = better.costs n input defined in
         (n, omega (arith, less), ends_too n x.status x.input x.trace at, same_calls n defined);
   }
 
-pub simpler_simulates_flat : SimplerSimulatesFlat
-simpler_simulates_flat weight limit f g input simple = simulates f g simple input weight limit
+pub optimised_simulates_flat : OptimisedSimulatesFlat
+optimised_simulates_flat weight limit f g input better = simulates f g better input weight limit
 
 -- ---- functions
 
-module _ (q : tac.Program) (f g : flat.Program) (simple : IsSimplified f g) where
+module _ (q : tac.Program) (f g : flat.Program) (better : IsOptimised f g) where
   same_frames : (k : ℕ) → option_map frame_bytes (slice_get g.functions k) ≡ option_map frame_bytes (slice_get f.functions k)
-  same_frames k = sym (slice_get-map frame_bytes g.functions k) ∙ (ap (λ xs. slice_get xs k) simple.frames ∙ slice_get-map frame_bytes f.functions k)
+  same_frames k = sym (slice_get-map frame_bytes g.functions k) ∙ (ap (λ xs. slice_get xs k) better.frames ∙ slice_get-map frame_bytes f.functions k)
 
   code_too : ((k : ℕ) (a : tac.Function) (x : flat.Function) → slice_get q.functions k ≡ Some a → slice_get f.functions k ≡ Some x → IsCodeOf a x)
-      → (k : ℕ) (a : tac.Function) (y : flat.Function) → slice_get q.functions k ≡ Some a → slice_get g.functions k ≡ Some y → IsCodeOf a y
+      → (k : ℕ) (a : tac.Function) (y : flat.Function) → slice_get q.functions k ≡ Some a → slice_get g.functions k ≡ Some y → IsOptimisedCodeOf a y
   code_too all k a y ea ey = on (slice_get f.functions k) refl
     where
-      on : (o : Option flat.Function) → slice_get f.functions k ≡ o → IsCodeOf a y
+      on : (o : Option flat.Function) → slice_get f.functions k ≡ o → IsOptimisedCodeOf a y
       on None e = let no : Some (frame_bytes y) ≡ None = ap (option_map frame_bytes) (sym ey) ∙ (same_frames k ∙ ap (option_map frame_bytes) e) in absurd (let z : ⊥ = cc in z)
       on (Some x) e =
           let both : Some (frame_bytes y) ≡ Some (frame_bytes x) = ap (option_map frame_bytes) (sym ey) ∙ (same_frames k ∙ ap (option_map frame_bytes) e) in
           let same : frame_bytes y ≡ frame_bytes x = same_some (frame_bytes y) (frame_bytes x) both in
           let old = all k a x ea e in
-          let less : sum_by code_bytes y.code ≤ sum_by code_bytes x.code = simple.bytes k x y e ey in
+          let less : function_bytes_in y ≤ function_bytes x = better.bytes k x y e ey in
           record { frame = omega (arith, same, old.frame); code = (let most = old.code in omega (arith, less, most)) }
 
-pub simplified_form : (q : tac.Program) (f g : flat.Program) → IsFormOf q f → IsSimplified f g → IsFormOf q g
-simplified_form q f g form simple = record {
-  sound = simple.sound form.sound;
-  statics = simple.statics ∙ form.statics;
-  main = simple.main ∙ form.main;
-  count = sym (length-map g.functions frame_bytes) ∙ (ap length simple.frames ∙ (length-map f.functions frame_bytes ∙ form.count));
-  each = code_too q f g simple form.each;
+pub optimised_form : (q : tac.Program) (f g : flat.Program) → IsFlattened q f → IsOptimised f g → IsFormOf q g
+optimised_form q f g flattened better = record {
+  sound = better.sound flattened.sound;
+  statics = better.statics ∙ flattened.statics;
+  main = better.main ∙ flattened.main;
+  count = sym (length-map g.functions frame_bytes) ∙ (ap length better.frames ∙ (length-map f.functions frame_bytes ∙ flattened.count));
+  each = code_too q f g better flattened.each;
 }

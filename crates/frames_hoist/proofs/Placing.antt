@@ -1,0 +1,425 @@
+-- Where each instruction of code whose constants were hoisted stands.
+use Rattle.std.proofs.Common.{◌≡◌, ◌≤◌, ◌⊎◌, inl, inr, ⊎_elim, ℕ, zero, suc, ◌+◌, ◌-◌, List, [], ◌∷◌, length, Option, Some, None, Bool, true, false, refl, sym, ap, ◌∙◌, subst, arith}
+use Rattle.std.specs.Prelude.{◌&&◌, if◌then◌else◌, nat_lt, nat_le, slice_get}
+use Rattle.std.specs.List.{list_all}
+use Rattle.std.proofs.lemmas.Bool.{ltb-true, ltb-false, lt-ltb, le-ltb, leb-true}
+use Rattle.std.proofs.lemmas.Option.{slice_get_within}
+use Rattle.frames_code.specs.declared.code.Operand.{Operand}
+use Rattle.frames_code.specs.declared.code.Operand.TheVariants as operand
+use Rattle.frames_code.specs.declared.code.Target.{Target}
+use Rattle.frames_code.specs.declared.code.Target.TheVariants as target
+use Rattle.frames_code.specs.declared.code.Location.{Location}
+use Rattle.frames_code.specs.declared.code.Location.TheVariants as location
+use Rattle.frames_code.specs.declared.code.Instruction.{Instruction}
+use Rattle.frames_code.specs.declared.code.Instruction.TheVariants as instruction
+use Rattle.frames_code.specs.Code.{Function}
+use Rattle.frames_hoist.specs.layer.Hoisting.{reads_below, writes_below, lies_below, is_fine, is_straight, is_nothing, from_pool, with_pool, put_word, filled, more_filled, hoisted_one, next_filled, hoisted, filled_at, is_straight_at, are_straight}
+use Rattle.frames_hoist.specs.layer.Functions.{IsPooled}
+use Rattle.frames_hoist.proofs.Agreeing.{Outside, OperandOutside, TargetOutside, LocationOutside, IsOutside, LeadsAlike, PutsOne, Reads, Position}
+
+-- ---- tests
+
+abbrev IsNo : Bool → Type 0
+IsNo true = ⊥
+IsNo false = Unit {0}
+
+pub not_true : false ≡ true → ⊥
+not_true e = subst IsNo e tt
+
+pub left_true : (a b : Bool) → (a && b) ≡ true → a ≡ true
+left_true true b e = refl
+left_true false b e = absurd (not_true e)
+
+pub right_true : (a b : Bool) → (a && b) ≡ true → b ≡ true
+right_true true b e = e
+right_true false b e = absurd (not_true e)
+
+-- less, or not
+pub less_or : (a b : ℕ) → (nat_lt a b ≡ true) ⊎ (nat_lt a b ≡ false)
+less_or a b = on (nat_lt a b)
+  where
+    on : (t : Bool) → (t ≡ true) ⊎ (t ≡ false)
+    on true = inl refl
+    on false = inr refl
+
+pub no_item : {A : Type 0} (i : ℕ) (x : A) → slice_get [] i ≡ Some x → ⊥
+no_item i x e = cc
+
+-- ---- the count of constants before each instruction
+
+module _ (m start : ℕ) where
+  pub filled_first : (k n : ℕ) (xs : List Instruction) → filled_at m start k n xs zero ≡ n
+  filled_first k n [] = refl
+  filled_first k n (x ∷ xs) = refl
+
+  -- the count at the end of its own loop
+  pub filled_end : (k n : ℕ) (xs : List Instruction) (d r : ℕ) → d ≡ 0 → filled_at m start k n xs d ≡ r → n ≡ r
+  filled_end k n xs zero r g e = sym (filled_first k n xs) ∙ e
+  filled_end k n xs (suc d) r g e = absurd (omega (arith, g))
+
+  pub filled_next : (k n : ℕ) (xs : List Instruction) (i j : ℕ) (x : Instruction) → slice_get xs i ≡ Some x → j ≡ k + i → filled_at m start k n xs (suc i) ≡ next_filled m start j (filled_at m start k n xs i) x
+  filled_next k n [] i j x e g = absurd (no_item i x e)
+  filled_next k n (y ∷ ys) zero j x e g =
+      let here : j ≡ k = omega (arith, g) in
+      let same : y ≡ x = cc in
+      filled_first (k + 1) (next_filled m start k n y) ys ∙ (ap (λ z. next_filled m start k n z) same ∙ ap (λ o. next_filled m start o n x) (sym here))
+  filled_next k n (y ∷ ys) (suc i) j x e g = filled_next (k + 1) (next_filled m start k n y) ys i j x e (omega (arith, g))
+
+  later_same : (k n : ℕ) (x : Instruction) → nat_lt k start ≡ false → next_filled m start k n x ≡ n
+  later_same k n x e = ap (λ b. if b then more_filled m n x else n) e
+
+  -- from `start` on it stays
+  pub filled_stays : (k n : ℕ) (xs : List Instruction) (i j : ℕ) → j ≡ k + i → nat_lt j start ≡ false → filled_at m start k n xs (suc i) ≡ filled_at m start k n xs i
+  filled_stays k n [] i j g e = refl
+  filled_stays k n (x ∷ xs) zero j g e =
+      let here : j ≡ k = omega (arith, g) in
+      filled_first (k + 1) (next_filled m start k n x) xs ∙ later_same k n x (ap (λ o. nat_lt o start) (sym here) ∙ e)
+  filled_stays k n (x ∷ xs) (suc i) j g e = filled_stays (k + 1) (next_filled m start k n x) xs i j (omega (arith, g)) e
+
+  more_most : (n : ℕ) (x : Instruction) → n ≤ m → more_filled m n x ≤ m
+  more_most n x le = on (is_nothing x) (nat_lt n m) refl
+    where
+      on : (a b : Bool) → nat_lt n m ≡ b → (if a && b then n + 1 else n) ≤ m
+      on true true e = let lt = ltb-true n m e in omega (arith, lt)
+      on true false e = le
+      on false b e = le
+
+  next_most : (k n : ℕ) (x : Instruction) → n ≤ m → next_filled m start k n x ≤ m
+  next_most k n x le = on (nat_lt k start)
+    where
+      on : (b : Bool) → (if b then more_filled m n x else n) ≤ m
+      on true = more_most n x le
+      on false = le
+
+  pub filled_most : (k n : ℕ) (xs : List Instruction) (i : ℕ) → n ≤ m → filled_at m start k n xs i ≤ m
+  filled_most k n [] i le = le
+  filled_most k n (x ∷ xs) zero le = le
+  filled_most k n (x ∷ xs) (suc i) le = filled_most (k + 1) (next_filled m start k n x) xs i (next_most k n x le)
+
+  -- all are there from `start` on
+  pub filled_full : (xs : List Instruction) (i d : ℕ) → i ≡ start + d → filled_at m start 0 0 xs start ≡ m → filled_at m start 0 0 xs i ≡ m
+  filled_full xs i zero g full = let here : i ≡ start = omega (arith, g) in ap (filled_at m start 0 0 xs) here ∙ full
+  filled_full xs zero (suc d) g full = absurd (omega (arith, g))
+  filled_full xs (suc i) (suc d) g full =
+      filled_stays 0 0 xs i i (omega arith) (le-ltb i start (omega (arith, g))) ∙ filled_full xs i d (omega (arith, g)) full
+
+-- ---- each instruction
+
+module _ (c : ℕ) (pool : List ℕ) (start : ℕ) where
+  pub hoisted_at : (k n : ℕ) (xs : List Instruction) (i j : ℕ) (x : Instruction) → slice_get xs i ≡ Some x → j ≡ k + i
+      → slice_get (hoisted c pool start k n xs) i ≡ Some (hoisted_one c pool start j (filled_at (length pool) start k n xs i) x)
+  hoisted_at k n [] i j x e g = absurd (no_item i x e)
+  hoisted_at k n (y ∷ ys) zero j x e g =
+      let here : j ≡ k = omega (arith, g) in
+      let same : y ≡ x = cc in
+      ap (λ z. Some (hoisted_one c pool start k n z)) same ∙ ap (λ o. Some (hoisted_one c pool start o n x)) (sym here)
+  hoisted_at k n (y ∷ ys) (suc i) j x e g = hoisted_at (k + 1) (next_filled (length pool) start k n y) ys i j x e (omega (arith, g))
+
+  pub hoisted_length : (k n : ℕ) (xs : List Instruction) → length (hoisted c pool start k n xs) ≡ length xs
+  hoisted_length k n [] = refl
+  hoisted_length k n (x ∷ xs) = ap suc (hoisted_length (k + 1) (next_filled (length pool) start k n x) xs)
+
+pub straight_at : (start k : ℕ) (xs : List Instruction) (i j : ℕ) (x : Instruction) → are_straight start k xs ≡ true → slice_get xs i ≡ Some x → j ≡ k + i → nat_lt j start ≡ true → is_straight x ≡ true
+straight_at start k [] i j x h e g lt = absurd (no_item i x e)
+straight_at start k (y ∷ ys) zero j x h e g lt =
+    let here : j ≡ k = omega (arith, g) in
+    let same : y ≡ x = cc in
+    let first : is_straight_at start k y ≡ true = left_true (is_straight_at start k y) (are_straight start (k + 1) ys) h in
+    let less : nat_lt k start ≡ true = ap (λ n. nat_lt n start) (sym here) ∙ lt in
+    ap is_straight (sym same) ∙ (ap (λ b. if b then is_straight y else true) (sym less) ∙ first)
+straight_at start k (y ∷ ys) (suc i) j x h e g lt =
+    straight_at start (k + 1) ys i j x (right_true (is_straight_at start k y) (are_straight start (k + 1) ys) h) e (omega (arith, g)) lt
+
+pub all_at : {A : Type 0} (f : A → Bool) (xs : List A) (i : ℕ) (x : A) → list_all f xs ≡ true → slice_get xs i ≡ Some x → f x ≡ true
+all_at f [] i x h e = absurd (no_item i x e)
+all_at f (y ∷ ys) zero x h e = let same : y ≡ x = cc in ap f (sym same) ∙ left_true (f y) (list_all f ys) h
+all_at f (y ∷ ys) (suc i) x h e = all_at f ys i x (right_true (f y) (list_all f ys) h) e
+
+-- ---- what an instruction names
+
+module _ (base start : ℕ) (pool : List ℕ) (f g : Function) where
+  word_outside : (c : ℕ) → nat_lt c base ≡ true → Outside base pool c
+  word_outside c e = λ i w h same. let lt = ltb-true c base e in omega (arith, lt, same)
+
+  operand_outside : (x : Operand) → reads_below base x ≡ true → OperandOutside base pool x
+  operand_outside (operand.Temporary k) e = tt
+  operand_outside (operand.Cell c) e = word_outside c e
+  operand_outside (operand.Constant v) e = tt
+  operand_outside (operand.Argument k) e = tt
+
+  target_outside : (d : Target) → writes_below base d ≡ true → TargetOutside base pool d
+  target_outside (target.Temporary k) e = tt
+  target_outside (target.Cell c) e = word_outside c e
+
+  location_outside : (l : Location) → lies_below base l ≡ true → LocationOutside base pool f g l
+  location_outside (location.Statics o) e = tt
+  location_outside (location.Frame o) e = absurd (not_true e)
+  location_outside (location.At x) e = operand_outside x e
+
+  pub is_outside : (x : Instruction) → is_fine base start x ≡ true → IsOutside base pool f g x
+  is_outside instruction.Nothing e = tt
+  is_outside (instruction.Move d x) e = (target_outside d (left_true (writes_below base d) (reads_below base x) e), operand_outside x (right_true (writes_below base d) (reads_below base x) e))
+  is_outside (instruction.Compute o d x y) e =
+      let more = right_true (writes_below base d) (reads_below base x && reads_below base y) e in
+      (target_outside d (left_true (writes_below base d) (reads_below base x && reads_below base y) e), operand_outside x (left_true (reads_below base x) (reads_below base y) more), operand_outside y (right_true (reads_below base x) (reads_below base y) more))
+  is_outside (instruction.Convert c d x) e = (target_outside d (left_true (writes_below base d) (reads_below base x) e), operand_outside x (right_true (writes_below base d) (reads_below base x) e))
+  is_outside (instruction.Load w d l) e = (target_outside d (left_true (writes_below base d) (lies_below base l) e), location_outside l (right_true (writes_below base d) (lies_below base l) e))
+  is_outside (instruction.Store w x l) e = (operand_outside x (left_true (reads_below base x) (lies_below base l) e), location_outside l (right_true (reads_below base x) (lies_below base l) e))
+  is_outside (instruction.Address d l) e = (target_outside d (left_true (writes_below base d) (lies_below base l) e), location_outside l (right_true (writes_below base d) (lies_below base l) e))
+  is_outside (instruction.Element d x y size) e =
+      let more = right_true (writes_below base d) (reads_below base x && reads_below base y) e in
+      (target_outside d (left_true (writes_below base d) (reads_below base x && reads_below base y) e), operand_outside x (left_true (reads_below base x) (reads_below base y) more), operand_outside y (right_true (reads_below base x) (reads_below base y) more))
+  is_outside (instruction.Jump to) e = tt
+  is_outside (instruction.Branch t x y to) e =
+      let more = right_true (reads_below base x) (reads_below base y && nat_le start to) e in
+      (operand_outside x (left_true (reads_below base x) (reads_below base y && nat_le start to) e), operand_outside y (left_true (reads_below base y) (nat_le start to) more))
+  is_outside (instruction.Call k) e = tt
+  is_outside instruction.PutByte e = tt
+  is_outside instruction.GetByte e = tt
+  is_outside instruction.Exit e = tt
+  is_outside instruction.Return e = tt
+
+  -- jumps lead to where as many constants are in the frame
+  pub leads_alike : (fill : ℕ → ℕ) (n : ℕ) → ((to : ℕ) → start ≤ to → fill to ≡ n) → (x : Instruction) → is_fine base start x ≡ true → LeadsAlike fill n x
+  leads_alike fill n each instruction.Nothing e = tt
+  leads_alike fill n each (instruction.Move d x) e = tt
+  leads_alike fill n each (instruction.Compute o d x y) e = tt
+  leads_alike fill n each (instruction.Convert c d x) e = tt
+  leads_alike fill n each (instruction.Load w d l) e = tt
+  leads_alike fill n each (instruction.Store w x l) e = tt
+  leads_alike fill n each (instruction.Address d l) e = tt
+  leads_alike fill n each (instruction.Element d x y size) e = tt
+  leads_alike fill n each (instruction.Jump to) e = each to (leb-true start to e)
+  leads_alike fill n each (instruction.Branch t x y to) e =
+      each to (leb-true start to (right_true (reads_below base y) (nat_le start to) (right_true (reads_below base x) (reads_below base y && nat_le start to) e)))
+  leads_alike fill n each (instruction.Call k) e = tt
+  leads_alike fill n each instruction.PutByte e = tt
+  leads_alike fill n each instruction.GetByte e = tt
+  leads_alike fill n each instruction.Exit e = tt
+  leads_alike fill n each instruction.Return e = tt
+
+pub leads_nowhere : (fill : ℕ → ℕ) (n : ℕ) (x : Instruction) → is_straight x ≡ true → LeadsAlike fill n x
+leads_nowhere fill n instruction.Nothing e = tt
+leads_nowhere fill n (instruction.Move d x) e = tt
+leads_nowhere fill n (instruction.Compute o d x y) e = tt
+leads_nowhere fill n (instruction.Convert c d x) e = tt
+leads_nowhere fill n (instruction.Load w d l) e = tt
+leads_nowhere fill n (instruction.Store w x l) e = tt
+leads_nowhere fill n (instruction.Address d l) e = tt
+leads_nowhere fill n (instruction.Element d x y size) e = tt
+leads_nowhere fill n (instruction.Jump to) e = absurd (not_true e)
+leads_nowhere fill n (instruction.Branch t x y to) e = absurd (not_true e)
+leads_nowhere fill n (instruction.Call k) e = absurd (not_true e)
+leads_nowhere fill n instruction.PutByte e = absurd (not_true e)
+leads_nowhere fill n instruction.GetByte e = tt
+leads_nowhere fill n instruction.Exit e = tt
+leads_nowhere fill n instruction.Return e = tt
+
+none_read : (c : ℕ) (x : Operand) → from_pool c [] x ≡ x
+none_read c (operand.Temporary k) = refl
+none_read c (operand.Cell k) = refl
+none_read c (operand.Constant v) = refl
+none_read c (operand.Argument k) = refl
+
+-- with no constants it stays
+pub no_pool : (c : ℕ) (x : Instruction) → x ≡ with_pool c [] x
+no_pool c instruction.Nothing = refl
+no_pool c (instruction.Move d x) = ap (instruction.Move d) (sym (none_read c x))
+no_pool c (instruction.Compute o d x y) = ap (λ z. instruction.Compute o d z y) (sym (none_read c x)) ∙ ap (instruction.Compute o d (from_pool c [] x)) (sym (none_read c y))
+no_pool c (instruction.Convert k d x) = refl
+no_pool c (instruction.Load w d l) = refl
+no_pool c (instruction.Store w x l) = ap (λ z. instruction.Store w z l) (sym (none_read c x))
+no_pool c (instruction.Address d l) = refl
+no_pool c (instruction.Element d x y size) = refl
+no_pool c (instruction.Jump to) = refl
+no_pool c (instruction.Branch t x y to) = ap (λ z. instruction.Branch t z y to) (sym (none_read c x)) ∙ ap (λ z. instruction.Branch t (from_pool c [] x) z to) (sym (none_read c y))
+no_pool c (instruction.Call f) = refl
+no_pool c instruction.PutByte = refl
+no_pool c instruction.GetByte = refl
+no_pool c instruction.Exit = refl
+no_pool c instruction.Return = refl
+
+nothing_is : (x : Instruction) → is_nothing x ≡ true → x ≡ instruction.Nothing
+nothing_is instruction.Nothing e = refl
+nothing_is (instruction.Move d x) e = absurd (not_true e)
+nothing_is (instruction.Compute o d x y) e = absurd (not_true e)
+nothing_is (instruction.Convert k d x) e = absurd (not_true e)
+nothing_is (instruction.Load w d l) e = absurd (not_true e)
+nothing_is (instruction.Store w x l) e = absurd (not_true e)
+nothing_is (instruction.Address d l) e = absurd (not_true e)
+nothing_is (instruction.Element d x y size) e = absurd (not_true e)
+nothing_is (instruction.Jump to) e = absurd (not_true e)
+nothing_is (instruction.Branch t x y to) e = absurd (not_true e)
+nothing_is (instruction.Call f) e = absurd (not_true e)
+nothing_is instruction.PutByte e = absurd (not_true e)
+nothing_is instruction.GetByte e = absurd (not_true e)
+nothing_is instruction.Exit e = absurd (not_true e)
+nothing_is instruction.Return e = absurd (not_true e)
+
+get_none : (xs : List ℕ) (n : ℕ) → slice_get xs n ≡ None → nat_lt n (length xs) ≡ false
+get_none [] n e = le-ltb n 0 (omega arith)
+get_none (x ∷ xs) zero e = absurd (let z : ⊥ = cc in z)
+get_none (x ∷ xs) (suc n) e =
+    let h = ltb-false n (length xs) (get_none xs n e) in
+    le-ltb (suc n) (suc (length xs)) (omega (arith, h))
+
+-- ---- a function whose constants were hoisted
+
+module _ (f g : Function) (is : IsPooled f g) where
+  abbrev m : ℕ
+  m = length is.pool
+
+  abbrev pub fill : ℕ → ℕ
+  fill = filled_at m is.start 0 0 f.code
+
+  pub fill_few : (i : ℕ) → fill i ≤ m
+  fill_few i = filled_most m is.start 0 0 f.code i (omega arith)
+
+  full_from : (i : ℕ) → is.start ≤ i → fill i ≡ m
+  full_from i le = filled_full m is.start f.code i (i - is.start) (omega (arith, le)) is.ready.full
+
+  pub count : length g.code ≡ length f.code
+  count = ap (λ (h : Function). length h.code) is.is ∙ hoisted_length f.cells is.pool is.start 0 0 f.code
+
+  module _ (i : ℕ) (x : Instruction) (e : slice_get f.code i ≡ Some x) where
+    abbrev done : Instruction
+    done = hoisted_one f.cells is.pool is.start i (fill i) x
+
+    there : slice_get g.code i ≡ Some done
+    there = ap (λ (h : Function). slice_get h.code i) is.is ∙ hoisted_at f.cells is.pool is.start 0 0 f.code i i x e (omega arith)
+
+    one : suc i ≡ i + 1
+    one = omega arith
+
+    outside : IsOutside f.cells is.pool f g x
+    outside = is_outside f.cells is.start is.pool f g x (all_at (is_fine f.cells is.start) f.code i x is.ready.fine e)
+
+    further : fill (i + 1) ≡ next_filled m is.start i (fill i) x
+    further = ap fill (sym one) ∙ filled_next m is.start 0 0 f.code i i x e (omega arith)
+
+    abbrev By : Instruction → Type 0
+    By y = PutsOne f.cells is.pool fill i x y ⊎ Reads f.cells is.pool fill f g i x y
+
+    later : nat_lt i is.start ≡ false → By done
+    later past_it =
+        let le = ltb-false i is.start past_it in
+        let full : fill i ≡ m = full_from i (omega (arith, le)) in
+        let same : done ≡ with_pool f.cells is.pool x = ap (λ b. if b then filled f.cells is.pool (fill i) x else with_pool f.cells is.pool x) past_it in
+        inr (record {
+          read = is.pool;
+          held = inr (refl, full);
+          is = same;
+          outside = outside;
+          after = further ∙ ap (λ b. if b then more_filled m (fill i) x else fill i) past_it;
+          leads = leads_alike f.cells is.start is.pool f g fill (fill i) (λ to h. full_from to h ∙ sym full) x (all_at (is_fine f.cells is.start) f.code i x is.ready.fine e);
+          whole = inr full;
+        })
+
+    -- before `start`, where it stays
+    stays : nat_lt i is.start ≡ true → (y : Instruction) → y ≡ x → more_filled m (fill i) x ≡ fill i → By y
+    stays ahead y same none =
+        let straight = straight_at is.start 0 f.code i i x is.ready.straight e (omega arith) ahead in
+        inr (record {
+          read = [];
+          held = inl refl;
+          is = same ∙ no_pool f.cells x;
+          outside = outside;
+          after = further ∙ (ap (λ b. if b then more_filled m (fill i) x else fill i) ahead ∙ none);
+          leads = leads_nowhere fill (fill i) x straight;
+          whole = inl straight;
+        })
+
+    puts : nat_lt i is.start ≡ true → x ≡ instruction.Nothing → (o : Option ℕ) → slice_get is.pool (fill i) ≡ o → By (put_word (f.cells + fill i) o)
+    puts ahead was None h =
+        let none : more_filled m (fill i) x ≡ fill i = ap (λ z. more_filled m (fill i) z) was ∙ ap (λ b. if b then fill i + 1 else fill i) (get_none is.pool (fill i) h) in
+        stays ahead instruction.Nothing (sym was) none
+    puts ahead was (Some w) h =
+        let lt : nat_lt (fill i) m ≡ true = lt-ltb (fill i) m (slice_get_within is.pool (fill i) w h) in
+        let more : more_filled m (fill i) x ≡ fill i + 1 = ap (λ z. more_filled m (fill i) z) was ∙ ap (λ b. if b then fill i + 1 else fill i) lt in
+        inl (record {
+          was = was;
+          constant = w;
+          there = h;
+          is = refl;
+          more = further ∙ (ap (λ b. if b then more_filled m (fill i) x else fill i) ahead ∙ (more ∙ omega arith));
+        })
+
+    before : nat_lt i is.start ≡ true → By done
+    before ahead = subst By (sym same) (on (is_nothing x) refl)
+      where
+        same : done ≡ filled f.cells is.pool (fill i) x
+        same = ap (λ b. if b then filled f.cells is.pool (fill i) x else with_pool f.cells is.pool x) ahead
+
+        on : (b : Bool) → is_nothing x ≡ b → By (filled f.cells is.pool (fill i) x)
+        on true h =
+            let put : filled f.cells is.pool (fill i) x ≡ put_word (f.cells + fill i) (slice_get is.pool (fill i)) = ap (λ b. if b then put_word (f.cells + fill i) (slice_get is.pool (fill i)) else x) h in
+            subst By (sym put) (puts ahead (nothing_is x h) (slice_get is.pool (fill i)) refl)
+        on false h =
+            let kept : filled f.cells is.pool (fill i) x ≡ x = ap (λ b. if b then put_word (f.cells + fill i) (slice_get is.pool (fill i)) else x) h in
+            let none : more_filled m (fill i) x ≡ fill i = ap (λ b. if b && nat_lt (fill i) m then fill i + 1 else fill i) h in
+            stays ahead (filled f.cells is.pool (fill i) x) kept none
+
+    pub position : Position f.cells is.pool fill f g i x
+    position = record { done = done; is = there; by = ⊎_elim before later (less_or i is.start) }
+
+-- ---- a function that stays
+
+module _ (f : Function) where
+  none_outside : (c : ℕ) → Outside 0 [] c
+  none_outside c = λ i w e same. no_item i w e
+
+  operand_stays : (x : Operand) → OperandOutside 0 [] x
+  operand_stays (operand.Temporary k) = tt
+  operand_stays (operand.Cell c) = none_outside c
+  operand_stays (operand.Constant v) = tt
+  operand_stays (operand.Argument k) = tt
+
+  target_stays : (d : Target) → TargetOutside 0 [] d
+  target_stays (target.Temporary k) = tt
+  target_stays (target.Cell c) = none_outside c
+
+  location_stays : (l : Location) → LocationOutside 0 [] f f l
+  location_stays (location.Statics o) = tt
+  location_stays (location.Frame o) = refl
+  location_stays (location.At x) = operand_stays x
+
+  outside_stays : (x : Instruction) → IsOutside 0 [] f f x
+  outside_stays instruction.Nothing = tt
+  outside_stays (instruction.Move d x) = (target_stays d, operand_stays x)
+  outside_stays (instruction.Compute o d x y) = (target_stays d, operand_stays x, operand_stays y)
+  outside_stays (instruction.Convert c d x) = (target_stays d, operand_stays x)
+  outside_stays (instruction.Load w d l) = (target_stays d, location_stays l)
+  outside_stays (instruction.Store w x l) = (operand_stays x, location_stays l)
+  outside_stays (instruction.Address d l) = (target_stays d, location_stays l)
+  outside_stays (instruction.Element d x y size) = (target_stays d, operand_stays x, operand_stays y)
+  outside_stays (instruction.Jump to) = tt
+  outside_stays (instruction.Branch t x y to) = (operand_stays x, operand_stays y)
+  outside_stays (instruction.Call k) = tt
+  outside_stays instruction.PutByte = tt
+  outside_stays instruction.GetByte = tt
+  outside_stays instruction.Exit = tt
+  outside_stays instruction.Return = tt
+
+  leads_stay : (x : Instruction) → LeadsAlike (λ i. 0) 0 x
+  leads_stay instruction.Nothing = tt
+  leads_stay (instruction.Move d x) = tt
+  leads_stay (instruction.Compute o d x y) = tt
+  leads_stay (instruction.Convert c d x) = tt
+  leads_stay (instruction.Load w d l) = tt
+  leads_stay (instruction.Store w x l) = tt
+  leads_stay (instruction.Address d l) = tt
+  leads_stay (instruction.Element d x y size) = tt
+  leads_stay (instruction.Jump to) = refl
+  leads_stay (instruction.Branch t x y to) = refl
+  leads_stay (instruction.Call k) = tt
+  leads_stay instruction.PutByte = tt
+  leads_stay instruction.GetByte = tt
+  leads_stay instruction.Exit = tt
+  leads_stay instruction.Return = tt
+
+  pub same_position : (i : ℕ) (x : Instruction) → slice_get f.code i ≡ Some x → Position 0 [] (λ i. 0) f f i x
+  same_position i x e = record {
+    done = x;
+    is = e;
+    by = inr (record { read = []; held = inl refl; is = no_pool 0 x; outside = outside_stays x; after = refl; leads = leads_stay x; whole = inr refl });
+  }

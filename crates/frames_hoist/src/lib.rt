@@ -1,0 +1,13 @@
+//! Constant hoisting: constants that loops use are put into words of the frame once, at a function's beginning, and are read there.
+#![tactic(auto)]
+
+mod choosing;
+mod functions;
+mod gains;
+mod laws;
+mod loops;
+mod rewriting;
+mod tests;
+
+pub use functions::hoist_function;
+pub use laws::{functions_are_hoisted, optimised_in_turn};
