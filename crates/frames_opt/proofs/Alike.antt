@@ -1,6 +1,6 @@
--- An instruction does the same where only temporaries differ that are not read any more.
+-- An instruction does the same where only temporaries differ that are dead.
 use Rattle.std.proofs.Common.{◌≡◌, ◌⊎◌, inl, inr, ⊎_elim, ℕ, zero, suc, ◌+◌, List, [], ◌∷◌, length, Option, Some, None, Bool, true, false, refl, sym, ap, ◌∙◌, subst}
-use Rattle.std.specs.Prelude.{◌==◌, ◌||◌, if◌then◌else◌}
+use Rattle.std.specs.Prelude.{◌==◌, ◌&&◌, ◌||◌, if◌then◌else◌}
 use Rattle.std.proofs.lemmas.Bool.{eqb-true, eqb-false, eq-eqb, ne_eqb}
 use Rattle.frames_code.specs.declared.code.Operand.{Operand}
 use Rattle.frames_code.specs.declared.code.Operand.TheVariants as operand
@@ -12,7 +12,7 @@ use Rattle.frames_code.specs.declared.code.Location.TheVariants as location
 use Rattle.frames_code.specs.declared.code.Instruction.{Instruction}
 use Rattle.frames_code.specs.Code.{Function, Program, area_home, frame_bytes}
 use Rattle.frames_code.specs.Run.{Value, Values, Bytes, Frame, State, Reference, Memory, Progress, running, ended, stuck, word, value, word_at, word_in, reference_in, set, with_at, unset, next, past, place, arrays, memory, memory_among, changed_among, with_frames, with_memory, with_element, element_in, fits, gives, gives_word, loaded, stored, function_at, bytes_of, name_of, ◌>>=◌}
-use Rattle.frames_opt.specs.inside.Unread.{names, is_through, reads, temporary_of, written, is_number, is_written, is_unread}
+use Rattle.frames_opt.specs.inside.Liveness.{names, is_through, reads, temporary_of, written, is_number, is_written}
 
 -- ---- the same functions but for their code
 
@@ -97,54 +97,49 @@ abbrev IsNo : Bool → Type 0
 IsNo true = ⊥
 IsNo false = Unit {0}
 
-not_both : (b : Bool) → b ≡ true → b ≡ false → ⊥
+pub left_true : (a b : Bool) → (a && b) ≡ true → a ≡ true
+left_true true b e = refl
+left_true false b e = absurd (subst IsNo e tt)
+
+pub right_true : (a b : Bool) → (a && b) ≡ true → b ≡ true
+right_true true b e = e
+right_true false b e = absurd (subst IsNo e tt)
+
+pub not_both : (b : Bool) → b ≡ true → b ≡ false → ⊥
 not_both b e g = subst IsNo (sym g ∙ e) tt
 
--- temporary k is dead before x: so instruction x does not read it, and if it does not write it, it is dead after x
-unread_reads : (k : ℕ) (x : Instruction) (xs : List Instruction) → is_unread k (x ∷ xs) ≡ true → reads k x ≡ false
-unread_reads k x xs e = on (reads k x) refl
-  where
-    on : (t : Bool) → reads k x ≡ t → reads k x ≡ false
-    on false u = u
-    on true u = absurd (not_both false (ap (λ t. if t then false else (if is_written k x then true else is_unread k xs)) (sym u) ∙ e) refl)
+-- ---- states that differ in dead temporaries
 
-unread_behind : (k : ℕ) (x : Instruction) (xs : List Instruction) → is_unread k (x ∷ xs) ≡ true → is_written k x ≡ false → is_unread k xs ≡ true
-unread_behind k x xs e w =
-    let first : reads k x ≡ false = unread_reads k x xs e in
-    ap (λ t. if t then true else is_unread k xs) (sym w) ∙ (ap (λ t. if t then false else (if is_written k x then true else is_unread k xs)) (sym first) ∙ e)
-
--- ---- states that differ in temporaries that are not read
-
-pub record Agree (rest : List Instruction) (s : State) (u a : Values) : Type 0 where
-  pub temporaries : (k : ℕ) → (u k ≡ s.temporaries k) ⊎ (is_unread k rest ≡ true)
+pub record Agree (dead : ℕ → Bool) (s : State) (u a : Values) : Type 0 where
+  pub temporaries : (k : ℕ) → (u k ≡ s.temporaries k) ⊎ (dead k ≡ true)
   pub arguments : (k : ℕ) (v : Value) → s.arguments k ≡ Some v → a k ≡ Some v
 
 -- a temporary that the next instruction reads is the same
-pub same_where_read : (y : Instruction) (xs : List Instruction) (s : State) (u a : Values) → Agree (y ∷ xs) s u a → (k : ℕ) → reads k y ≡ true → u k ≡ s.temporaries k
-same_where_read y xs s u a agree k e = ⊎_elim (λ g. g) (λ g. absurd (not_both (reads k y) e (unread_reads k y xs g))) (agree.temporaries k)
+pub same_where_read : (y : Instruction) (here : ℕ → Bool) (s : State) (u a : Values) → ((k : ℕ) → here k ≡ true → reads k y ≡ false) → Agree here s u a → (k : ℕ) → reads k y ≡ true → u k ≡ s.temporaries k
+same_where_read y here s u a unread agree k e = ⊎_elim (λ g. g) (λ g. absurd (not_both (reads k y) e (unread k g))) (agree.temporaries k)
 
--- the second has gone on from the first, where it goes on; rest of the code is that after the state reached
-pub record Goes (rest : List Instruction) (s : State) (z : Progress) : Type 0 where
+-- the second has gone on from the first, where it goes on; what is dead is so before the next instruction
+pub record Goes (dead : ℕ → Bool) (s : State) (z : Progress) : Type 0 where
   pub others : Values
   pub given : Values
   pub is : z ≡ running (over others given s)
-  pub agree : Agree rest s others given
+  pub agree : Agree dead s others given
 
-abbrev pub Match : (State → List Instruction) → Progress → Progress → Type 0
-Match rest (running s) z = Goes (rest s) s z
-Match rest (ended status input trace) z = z ≡ ended status input trace
-Match rest stuck z = Unit {0}
+abbrev pub Match : (State → ℕ → Bool) → Progress → Progress → Type 0
+Match dead (running s) z = Goes (dead s) s z
+Match dead (ended status input trace) z = z ≡ ended status input trace
+Match dead stuck z = Unit {0}
 
-module _ (rest : State → List Instruction) where
-  pub match_bind : {A : Type 0} (o o2 : Option A) (go go2 : A → Progress) → ((x : A) → o ≡ Some x → o2 ≡ Some x) → ((x : A) → Match rest (go x) (go2 x)) → Match rest (o >>= go) (o2 >>= go2)
+module _ (dead : State → ℕ → Bool) where
+  pub match_bind : {A : Type 0} (o o2 : Option A) (go go2 : A → Progress) → ((x : A) → o ≡ Some x → o2 ≡ Some x) → ((x : A) → Match dead (go x) (go2 x)) → Match dead (o >>= go) (o2 >>= go2)
   match_bind None o2 go go2 below each = tt
-  match_bind (Some x) o2 go go2 below each = subst (λ m. Match rest (go x) (m >>= go2)) (sym (below x refl)) (each x)
+  match_bind (Some x) o2 go go2 below each = subst (λ m. Match dead (go x) (m >>= go2)) (sym (below x refl)) (each x)
 
-  pub match_left : {A : Type 0} (o : Option A) (go : A → Progress) (z : Progress) → ((x : A) → Match rest (go x) z) → Match rest (o >>= go) z
+  pub match_left : {A : Type 0} (o : Option A) (go : A → Progress) (z : Progress) → ((x : A) → Match dead (go x) z) → Match dead (o >>= go) z
   match_left None go z each = tt
   match_left (Some x) go z each = each x
 
-  pub match_if : (t : Bool) (x x2 : Progress) → Match rest x x2 → Match rest (if t then x else stuck) (if t then x2 else stuck)
+  pub match_if : (t : Bool) (x x2 : Progress) → Match dead x x2 → Match dead (if t then x else stuck) (if t then x2 else stuck)
   match_if true x x2 m = m
   match_if false x x2 m = tt
 
@@ -156,7 +151,7 @@ reference_below : (o o2 : Option Value) → ((v : Value) → o ≡ Some v → o2
 reference_below None o2 below w e = absurd (let x : ⊥ = cc in x)
 reference_below (Some v) o2 below w e = ap reference_in (below v refl) ∙ e
 
-module _ (p q : Program) (r : Sized p q) (rest : State → List Instruction) (s : State) where
+module _ (p q : Program) (r : Sized p q) (dead : State → ℕ → Bool) (s : State) where
   module _ (u a : Values) (args : (k : ℕ) (v : Value) → s.arguments k ≡ Some v → a k ≡ Some v) where
     abbrev t : State
     t = over u a s
@@ -186,34 +181,32 @@ module _ (p q : Program) (r : Sized p q) (rest : State → List Instruction) (s 
 
   -- ---- an instruction that goes on to the next
 
-  module _ (u a : Values) (y : Instruction) (xs : List Instruction) (agree : Agree (y ∷ xs) s u a) (behind : (s2 : State) → s2.frame.function ≡ s.frame.function → s2.frame.at ≡ s.frame.at + 1 → rest s2 ≡ xs) where
+  module _ (u a : Values) (y : Instruction) (here there : ℕ → Bool) (stays : (k : ℕ) → here k ≡ true → is_written k y ≡ false → there k ≡ true) (agree : Agree here s u a)
+      (behind : (s2 : State) → s2.frame.function ≡ s.frame.function → s2.frame.at ≡ s.frame.at + 1 → dead s2 ≡ there) where
     abbrev t2 : State
     t2 = over u a s
 
-    pub same_read : (k : ℕ) → reads k y ≡ true → u k ≡ s.temporaries k
-    same_read k e = same_where_read y xs s u a agree k e
-
     -- a temporary that is not written
-    kept_agrees : (k : ℕ) → is_written k y ≡ false → (u k ≡ s.temporaries k) ⊎ (is_unread k xs ≡ true)
-    kept_agrees k w = ⊎_elim (λ g. inl g) (λ g. inr (unread_behind k y xs g w)) (agree.temporaries k)
+    kept_agrees : (k : ℕ) → is_written k y ≡ false → (u k ≡ s.temporaries k) ⊎ (there k ≡ true)
+    kept_agrees k w = ⊎_elim (λ g. inl g) (λ g. inr (stays k g w)) (agree.temporaries k)
 
     -- temporary j is written
-    written_agrees : (j : ℕ) (v : Value) → written y ≡ Some j → (k : ℕ) → (with_at u j v k ≡ with_at s.temporaries j v k) ⊎ (is_unread k xs ≡ true)
+    written_agrees : (j : ℕ) (v : Value) → written y ≡ Some j → (k : ℕ) → (with_at u j v k ≡ with_at s.temporaries j v k) ⊎ (there k ≡ true)
     written_agrees j v w k = on (k == j) refl
       where
-        on : (b : Bool) → (k == j) ≡ b → ((if k == j then Some v else u k) ≡ (if k == j then Some v else s.temporaries k)) ⊎ (is_unread k xs ≡ true)
+        on : (b : Bool) → (k == j) ≡ b → ((if k == j then Some v else u k) ≡ (if k == j then Some v else s.temporaries k)) ⊎ (there k ≡ true)
         on true e = inl (rw e refl)
         on false e =
             let other : is_written k y ≡ false = ap (is_number k) w ∙ ne_eqb j k (λ g. eqb-false k j e (sym g)) in
             rw e (kept_agrees k other)
 
-    pub none_written : written y ≡ None → (k : ℕ) → (u k ≡ s.temporaries k) ⊎ (is_unread k xs ≡ true)
+    pub none_written : written y ≡ None → (k : ℕ) → (u k ≡ s.temporaries k) ⊎ (there k ≡ true)
     none_written w k = kept_agrees k (ap (is_number k) w)
 
-    goes : (s2 : State) (z : Progress) → s2.frame.function ≡ s.frame.function → s2.frame.at ≡ s.frame.at + 1 → Goes xs s2 z → Goes (rest s2) s2 z
-    goes s2 z f e g = subst (λ ys. Goes ys s2 z) (sym (behind s2 f e)) g
+    goes : (s2 : State) (z : Progress) → s2.frame.function ≡ s.frame.function → s2.frame.at ≡ s.frame.at + 1 → Goes there s2 z → Goes (dead s2) s2 z
+    goes s2 z f e g = subst (λ d. Goes d s2 z) (sym (behind s2 f e)) g
 
-    pub gives_match : (d : Target) (v : Value) → written y ≡ temporary_of d → Goes (rest (set d v (next s))) (set d v (next s)) (gives d t2 v)
+    pub gives_match : (d : Target) (v : Value) → written y ≡ temporary_of d → Goes (dead (set d v (next s))) (set d v (next s)) (gives d t2 v)
     gives_match (target.Temporary j) v w =
         goes (set (target.Temporary j) v (next s)) (gives (target.Temporary j) t2 v) refl refl
         (record { others = with_at u j v; given = unset; is = refl; agree = record { temporaries = written_agrees j v w; arguments = λ k v2 e. e } })
@@ -221,7 +214,7 @@ module _ (p q : Program) (r : Sized p q) (rest : State → List Instruction) (s 
         goes (set (target.Cell c) v (next s)) (gives (target.Cell c) t2 v) refl refl
         (record { others = u; given = unset; is = refl; agree = record { temporaries = none_written w; arguments = λ k v2 e. e } })
 
-    pub move_match : (d : Target) (v : Value) → written y ≡ temporary_of d → Goes (rest (set d v (past s))) (set d v (past s)) (running (set d v (past t2)))
+    pub move_match : (d : Target) (v : Value) → written y ≡ temporary_of d → Goes (dead (set d v (past s))) (set d v (past s)) (running (set d v (past t2)))
     move_match (target.Temporary j) v w =
         goes (set (target.Temporary j) v (past s)) (running (set (target.Temporary j) v (past t2))) refl refl
         (record { others = with_at u j v; given = a; is = refl; agree = record { temporaries = written_agrees j v w; arguments = agree.arguments } })
@@ -229,14 +222,14 @@ module _ (p q : Program) (r : Sized p q) (rest : State → List Instruction) (s 
         goes (set (target.Cell c) v (past s)) (running (set (target.Cell c) v (past t2))) refl refl
         (record { others = u; given = a; is = refl; agree = record { temporaries = none_written w; arguments = agree.arguments } })
 
-    pub loaded_match : (w : Width) (d : Target) (v : Reference) → written y ≡ temporary_of d → Match rest (loaded p s w d v) (loaded q t2 w d v)
+    pub loaded_match : (w : Width) (d : Target) (v : Reference) → written y ≡ temporary_of d → Match dead (loaded p s w d v) (loaded q t2 w d v)
     loaded_match w d v wr =
-        match_bind rest (memory p s v.list) (memory q t2 v.list)
+        match_bind dead (memory p s v.list) (memory q t2 v.list)
         (λ m. if fits w v.offset m then element_in w m.bytes v.offset >>= gives_word d s else stuck)
         (λ m. if fits w v.offset m then element_in w m.bytes v.offset >>= gives_word d t2 else stuck)
         (λ m e. memory_same p q r s u a v.list ∙ e)
-        (λ m. match_if rest (fits w v.offset m) (element_in w m.bytes v.offset >>= gives_word d s) (element_in w m.bytes v.offset >>= gives_word d t2)
-        (match_bind rest (element_in w m.bytes v.offset) (element_in w m.bytes v.offset) (gives_word d s) (gives_word d t2) (λ k e. e) (λ k. gives_match d (word k) wr)))
+        (λ m. match_if dead (fits w v.offset m) (element_in w m.bytes v.offset >>= gives_word d s) (element_in w m.bytes v.offset >>= gives_word d t2)
+        (match_bind dead (element_in w m.bytes v.offset) (element_in w m.bytes v.offset) (gives_word d s) (gives_word d t2) (λ k e. e) (λ k. gives_match d (word k) wr)))
 
     put_function : (s2 : State) (l : ℕ) (b : Bytes) → (with_memory p s2 l b).frame.function ≡ s2.frame.function
     put_function s2 zero b = refl
@@ -270,7 +263,7 @@ module _ (p q : Program) (r : Sized p q) (rest : State → List Instruction) (s 
         on true = refl
         on false = refl
 
-    memory_match : (l : ℕ) (b : Bytes) → written y ≡ None → Goes (rest (with_memory p (next s) l b)) (with_memory p (next s) l b) (running (with_memory q (next t2) l b))
+    memory_match : (l : ℕ) (b : Bytes) → written y ≡ None → Goes (dead (with_memory p (next s) l b)) (with_memory p (next s) l b) (running (with_memory q (next t2) l b))
     memory_match l b w =
         goes (with_memory p (next s) l b) (running (with_memory q (next t2) l b)) (put_function (next s) l b) (put_at (next s) l b)
         (record {
@@ -278,41 +271,41 @@ module _ (p q : Program) (r : Sized p q) (rest : State → List Instruction) (s 
           given = unset;
           is = ap running (memory_put p q r (next s) u unset l b);
           agree = record {
-            temporaries = subst (λ (m : Values). (k : ℕ) → (u k ≡ m k) ⊎ (is_unread k xs ≡ true)) (sym (put_temporaries (next s) l b)) (none_written w);
+            temporaries = subst (λ (m : Values). (k : ℕ) → (u k ≡ m k) ⊎ (there k ≡ true)) (sym (put_temporaries (next s) l b)) (none_written w);
             arguments = subst (λ (m : Values). (k : ℕ) (v : Value) → m k ≡ Some v → unset k ≡ Some v) (sym (put_arguments (next s) l b)) (λ k v e. e);
           };
         })
 
-    pub stored_match : (w : Width) (n : ℕ) (v : Reference) → written y ≡ None → Match rest (stored p s w n v) (stored q t2 w n v)
+    pub stored_match : (w : Width) (n : ℕ) (v : Reference) → written y ≡ None → Match dead (stored p s w n v) (stored q t2 w n v)
     stored_match w n v wr =
-        match_bind rest (memory p s v.list) (memory q t2 v.list)
+        match_bind dead (memory p s v.list) (memory q t2 v.list)
         (λ m. if fits w v.offset m then running (with_memory p (next s) v.list (with_element w m.bytes v.offset n)) else stuck)
         (λ m. if fits w v.offset m then running (with_memory q (next t2) v.list (with_element w m.bytes v.offset n)) else stuck)
         (λ m e. memory_same p q r s u a v.list ∙ e)
-        (λ m. match_if rest (fits w v.offset m) (running (with_memory p (next s) v.list (with_element w m.bytes v.offset n))) (running (with_memory q (next t2) v.list (with_element w m.bytes v.offset n)))
+        (λ m. match_if dead (fits w v.offset m) (running (with_memory p (next s) v.list (with_element w m.bytes v.offset n))) (running (with_memory q (next t2) v.list (with_element w m.bytes v.offset n)))
         (memory_match v.list (with_element w m.bytes v.offset n) wr))
 
-    -- ---- an instruction that is left out, where the temporary that it writes is not read
+    -- ---- an instruction that is left out, where the temporary that it writes is dead after it
 
-    dropped_agrees : (j : ℕ) (v : Value) → written y ≡ Some j → is_unread j xs ≡ true → (k : ℕ) → (u k ≡ with_at s.temporaries j v k) ⊎ (is_unread k xs ≡ true)
-    dropped_agrees j v w dead k = on (k == j) refl
+    dropped_agrees : (j : ℕ) (v : Value) → written y ≡ Some j → there j ≡ true → (k : ℕ) → (u k ≡ with_at s.temporaries j v k) ⊎ (there k ≡ true)
+    dropped_agrees j v w lost k = on (k == j) refl
       where
-        on : (b : Bool) → (k == j) ≡ b → (u k ≡ (if k == j then Some v else s.temporaries k)) ⊎ (is_unread k xs ≡ true)
-        on true e = inr (subst (λ i. is_unread i xs ≡ true) (sym (eqb-true k j e)) dead)
+        on : (b : Bool) → (k == j) ≡ b → (u k ≡ (if k == j then Some v else s.temporaries k)) ⊎ (there k ≡ true)
+        on true e = inr (subst (λ i. there i ≡ true) (sym (eqb-true k j e)) lost)
         on false e =
             let other : is_written k y ≡ false = ap (is_number k) w ∙ ne_eqb j k (λ g. eqb-false k j e (sym g)) in
             rw e (kept_agrees k other)
 
-    pub gives_dropped : (j : ℕ) → written y ≡ Some j → is_unread j xs ≡ true → (d : Target) (v : Value) → written y ≡ temporary_of d → Goes (rest (set d v (next s))) (set d v (next s)) (running (past t2))
-    gives_dropped j w dead (target.Temporary i) v e =
+    pub gives_dropped : (j : ℕ) → written y ≡ Some j → there j ≡ true → (d : Target) (v : Value) → written y ≡ temporary_of d → Goes (dead (set d v (next s))) (set d v (next s)) (running (past t2))
+    gives_dropped j w lost (target.Temporary i) v e =
         let same : i ≡ j = same_some i j (sym e ∙ w) in
         goes (set (target.Temporary i) v (next s)) (running (past t2)) refl refl
-        (record { others = u; given = a; is = refl; agree = record { temporaries = dropped_agrees i v e (subst (λ m. is_unread m xs ≡ true) (sym same) dead); arguments = λ k v2 g. absurd (none_some v2 g) } })
-    gives_dropped j w dead (target.Cell c) v e = absurd (no_some j (written y) w e)
+        (record { others = u; given = a; is = refl; agree = record { temporaries = dropped_agrees i v e (subst (λ m. there m ≡ true) (sym same) lost); arguments = λ k v2 g. absurd (none_some v2 g) } })
+    gives_dropped j w lost (target.Cell c) v e = absurd (no_some j (written y) w e)
 
-    pub move_dropped : (j : ℕ) → written y ≡ Some j → is_unread j xs ≡ true → (d : Target) (v : Value) → written y ≡ temporary_of d → Goes (rest (set d v (past s))) (set d v (past s)) (running (past t2))
-    move_dropped j w dead (target.Temporary i) v e =
+    pub move_dropped : (j : ℕ) → written y ≡ Some j → there j ≡ true → (d : Target) (v : Value) → written y ≡ temporary_of d → Goes (dead (set d v (past s))) (set d v (past s)) (running (past t2))
+    move_dropped j w lost (target.Temporary i) v e =
         let same : i ≡ j = same_some i j (sym e ∙ w) in
         goes (set (target.Temporary i) v (past s)) (running (past t2)) refl refl
-        (record { others = u; given = a; is = refl; agree = record { temporaries = dropped_agrees i v e (subst (λ m. is_unread m xs ≡ true) (sym same) dead); arguments = agree.arguments } })
-    move_dropped j w dead (target.Cell c) v e = absurd (no_some j (written y) w e)
+        (record { others = u; given = a; is = refl; agree = record { temporaries = dropped_agrees i v e (subst (λ m. there m ≡ true) (sym same) lost); arguments = agree.arguments } })
+    move_dropped j w lost (target.Cell c) v e = absurd (no_some j (written y) w e)

@@ -1,5 +1,5 @@
 -- A program that was made simpler calls and returns only where the program does, with the same in its temporaries.
-use Rattle.std.proofs.Common.{◌≡◌, ⊎_elim, ℕ, zero, suc, ◌+◌, List, [], ◌∷◌, length, drop, Option, Some, None, true, refl, sym, ap, ◌∙◌, subst, arith}
+use Rattle.std.proofs.Common.{◌≡◌, ⊎_elim, ℕ, zero, suc, List, [], ◌∷◌, length, Option, Some, None, true, refl, sym, ap, ◌∙◌, subst, arith}
 use Rattle.std.specs.Prelude.{slice_get}
 use Rattle.frames_code.specs.declared.code.Instruction.{Instruction}
 use Rattle.frames_code.specs.declared.code.Instruction.TheVariants as instruction
@@ -10,10 +10,10 @@ use Rattle.frames_opt.specs.declared.facts.Known.{Known}
 use Rattle.frames_opt.specs.Simplified.{HasItsValues, IsAtCall}
 use Rattle.frames_opt.specs.inside.Facts.{known_of}
 use Rattle.frames_opt.specs.inside.Rules.{simpler_operand, simpler}
-use Rattle.frames_opt.specs.inside.Unread.{reads}
+use Rattle.frames_opt.specs.inside.Liveness.{reads, dead_at}
 use Rattle.frames_opt.proofs.Alike.{same_some, over, Agree, same_where_read}
 use Rattle.frames_opt.proofs.Positions.{compute_form, element_form}
-use Rattle.frames_opt.proofs.Runs.{Position, IsSimpler, rest, reached}
+use Rattle.frames_opt.proofs.Runs.{Position, IsSimpler, dead, reached}
 
 -- it calls, or returns
 abbrev Leaves : Instruction → Type 0
@@ -77,7 +77,7 @@ none_too [] (y ∷ ys) i count e = absurd (omega (arith, count))
 none_too (x ∷ xs) (y ∷ ys) zero count e = absurd (let z : ⊥ = cc in z)
 none_too (x ∷ xs) (y ∷ ys) (suc i) count e = none_too xs ys i (omega (arith, count)) e
 
-module _ (p q : Program) (kn : ℕ → ℕ → List Known) (middle : ℕ → List Instruction) (simple : IsSimpler p q kn middle) (s : State) (u a : Values) (agree : Agree (rest p q kn middle simple s) s u a) where
+module _ (p q : Program) (kn : ℕ → ℕ → List Known) (masks : ℕ → List ℕ) (simple : IsSimpler p q kn masks) (s : State) (u a : Values) (agree : Agree (dead p q kn masks simple s) s u a) where
   abbrev k : ℕ
   k = s.frame.function
 
@@ -85,7 +85,7 @@ module _ (p q : Program) (kn : ℕ → ℕ → List Known) (middle : ℕ → Lis
   i = s.frame.at
 
   module _ (x : Instruction) (is : slice_get (function_at p k).code i ≡ Some x) where
-    abbrev c : Position (function_at p k).area (kn k) (middle k) (function_at q k).code i x
+    abbrev c : Position (function_at p k).area (kn k) (masks k) (function_at q k).code i x
     c = simple.each k i x is
 
     half_is : Leaves c.done → c.done ≡ c.half
@@ -101,10 +101,7 @@ module _ (p q : Program) (kn : ℕ → ℕ → List Known) (middle : ℕ → Lis
     whole leaves = half_is leaves ∙ first_is (subst Leaves (half_is leaves) leaves)
 
     values : Leaves c.done → HasItsValues s (over u a s)
-    values leaves j v e =
-        let before : Agree (c.half ∷ drop (i + 1) (middle k)) s u a = subst (λ ys. Agree ys s u a) c.half_is agree in
-        let all : reads j c.half ≡ true = reads_all c.half (subst Leaves (half_is leaves) leaves) j in
-        same_where_read c.half (drop (i + 1) (middle k)) s u a before j all ∙ e
+    values leaves j v e = same_where_read c.done (λ m. dead_at (masks k) i m) s u a c.unread agree j (reads_all c.done leaves j) ∙ e
 
     -- the next instruction of the second is y
     met : (y : Instruction) → Leaves y → next_of q (over u a s) ≡ Some y → (next_of p s ≡ Some y) × HasItsValues s (over u a s)
@@ -129,7 +126,7 @@ module _ (p q : Program) (kn : ℕ → ℕ → List Known) (middle : ℕ → Lis
 same_running : (s t : State) → running s ≡ running t → s ≡ t
 same_running s t e = cc
 
-pub at_calls : (p q : Program) (kn : ℕ → ℕ → List Known) (middle : ℕ → List Instruction) → IsSimpler p q kn middle → (n : ℕ) (input : List ℕ) (s t : State) → run p n (start p input) ≡ running s → run q n (start q input) ≡ running t → IsAtCall p q s t
-at_calls p q kn middle simple n input s t e h =
-    let r = reached p q kn middle simple n input s e in
-    subst (IsAtCall p q s) (same_running (over r.others r.given s) t (sym r.is ∙ h)) (at_call p q kn middle simple s r.others r.given r.agree)
+pub at_calls : (p q : Program) (kn : ℕ → ℕ → List Known) (masks : ℕ → List ℕ) → IsSimpler p q kn masks → (n : ℕ) (input : List ℕ) (s t : State) → run p n (start p input) ≡ running s → run q n (start q input) ≡ running t → IsAtCall p q s t
+at_calls p q kn masks simple n input s t e h =
+    let r = reached p q kn masks simple n input s e in
+    subst (IsAtCall p q s) (same_running (over r.others r.given s) t (sym r.is ∙ h)) (at_call p q kn masks simple s r.others r.given r.agree)

@@ -1,6 +1,6 @@
 -- Simpler code is as sound.
 use Rattle.std.proofs.Common.{◌≡◌, ◌<◌, ⊎_elim, ℕ, zero, suc, ◌+◌, ◌-◌, ◌*◌, ◌^◌, ◌%◌, List, [], ◌∷◌, length, Option, Some, None, Bool, true, false, refl, sym, ap, ◌∙◌, subst, arith}
-use Rattle.std.specs.Prelude.{◌==◌, slice_get, set, nat_lt, if◌then◌else◌}
+use Rattle.std.specs.Prelude.{◌==◌, slice_get, set, get_or, nat_lt, if◌then◌else◌}
 use Rattle.std.specs.Int.{w32, trailing_zeros}
 use Rattle.std.proofs.lemmas.Bool.{eqb-true, eqb-false, ltb-true}
 use Rattle.std.proofs.lemmas.List.{get_or-set_other}
@@ -22,8 +22,8 @@ use Rattle.frames_opt.specs.declared.facts.Known.{Known}
 use Rattle.frames_opt.specs.declared.facts.Known.TheVariants as known
 use Rattle.frames_opt.specs.inside.Facts.{nothing, held, known_of, reference_to, learned, result_on, computed, behind}
 use Rattle.frames_opt.specs.inside.Rules.{constant_or, simpler_operand, location_or, simpler_location, with_constant, with_power, is_power, with_word, arranged, compute, within, statics_or, frame_or, numbered, simpler_element, simpler}
-use Rattle.frames_opt.specs.inside.Unread.{written, is_unread, kept, kept_by}
-use Rattle.frames_opt.specs.inside.Passes.{is_marked, fresh, forward, near, swept}
+use Rattle.frames_opt.specs.inside.Liveness.{written, is_dead, kept, kept_by, swept}
+use Rattle.frames_opt.specs.inside.Passes.{is_marked, fresh, forward}
 use Rattle.frames_opt.specs.layer.Functions.{IsSimplerCode, stayed, improved, with_code, IsSimplerFunction}
 use Rattle.frames_opt.proofs.Acts.{power_is}
 use Rattle.frames_opt.proofs.Stands.{held_in, set_same}
@@ -244,18 +244,20 @@ module _ (n : ℕ) (f : Function) where
       let fits = fresh_fits (is_marked marks i) facts h in
       forward_fits marks (i + 1) (behind here (simpler f.area here x)) xs (behind_fits here (simpler f.area here x) fits (simpler_fits here fits x (all 0 x refl))) (λ j. all (suc j)) k y e
 
-  kept_fits : (o : Option ℕ) (x : Instruction) (xs : List Instruction) → Fits x → Fits (kept_by o x xs)
-  kept_fits None x xs e = e
-  kept_fits (Some k) x xs e = either_fits (is_unread k xs) instruction.Nothing x tt e
+  kept_fits : (o : Option ℕ) (mask : ℕ) (x : Instruction) → Fits x → Fits (kept_by o mask x)
+  kept_fits None mask x e = e
+  kept_fits (Some k) mask x e = either_fits (is_dead mask k) instruction.Nothing x tt e
 
-  swept_fits : (xs : List Instruction) → AllFit xs → AllFit (swept xs)
-  swept_fits [] all k y e = absurd (let z : ⊥ = cc in z)
-  swept_fits (x ∷ xs) all zero y e = let same : kept x (near xs) ≡ y = cc in subst Fits same (kept_fits (written x) x (near xs) (all 0 x refl))
-  swept_fits (x ∷ xs) all (suc k) y e = swept_fits xs (λ j. all (suc j)) k y e
+  swept_fits : (masks : List ℕ) (i : ℕ) (xs : List Instruction) → AllFit xs → AllFit (swept masks i xs)
+  swept_fits masks i [] all k y e = absurd (let z : ⊥ = cc in z)
+  swept_fits masks i (x ∷ xs) all zero y e =
+      let same : kept (get_or masks (i + 1) 0) x ≡ y = cc in
+      subst Fits same (kept_fits (written x) (get_or masks (i + 1) 0) x (all 0 x refl))
+  swept_fits masks i (x ∷ xs) all (suc k) y e = swept_fits masks (i + 1) xs (λ j. all (suc j)) k y e
 
   simpler_code_fits : (new : List Instruction) → IsSimplerCode f.area f.code new → AllFit f.code → AllFit new
   simpler_code_fits new (stayed e) all = subst AllFit (sym e) all
-  simpler_code_fits new (improved c) all = subst AllFit (sym c.is) (swept_fits (forward f.area c.marks 0 nothing f.code) (forward_fits c.marks 0 nothing f.code nothing_fits all))
+  simpler_code_fits new (improved c) all = subst AllFit (sym c.is) (swept_fits c.masks 0 (forward f.area c.marks 0 nothing f.code) (forward_fits c.marks 0 nothing f.code nothing_fits all))
 
 -- ---- as many instructions
 
@@ -263,13 +265,13 @@ forward_length : (area : ℕ) (marks : List Bool) (i : ℕ) (facts : List Known)
 forward_length area marks i facts [] = refl
 forward_length area marks i facts (x ∷ xs) = ap suc (forward_length area marks (i + 1) (behind (fresh (is_marked marks i) facts) (simpler area (fresh (is_marked marks i) facts) x)) xs)
 
-swept_length : (xs : List Instruction) → length (swept xs) ≡ length xs
-swept_length [] = refl
-swept_length (x ∷ xs) = ap suc (swept_length xs)
+swept_length : (masks : List ℕ) (i : ℕ) (xs : List Instruction) → length (swept masks i xs) ≡ length xs
+swept_length masks i [] = refl
+swept_length masks i (x ∷ xs) = ap suc (swept_length masks (i + 1) xs)
 
 pub code_length : (area : ℕ) (old new : List Instruction) → IsSimplerCode area old new → length new ≡ length old
 code_length area old new (stayed e) = ap length e
-code_length area old new (improved c) = ap length c.is ∙ (swept_length (forward area c.marks 0 nothing old) ∙ forward_length area c.marks 0 nothing old)
+code_length area old new (improved c) = ap length c.is ∙ (swept_length c.masks 0 (forward area c.marks 0 nothing old) ∙ forward_length area c.marks 0 nothing old)
 
 -- ---- functions
 

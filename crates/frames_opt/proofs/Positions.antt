@@ -1,7 +1,8 @@
 -- The two passes over the code of a function, instruction by instruction.
-use Rattle.std.proofs.Common.{◌≡◌, ◌≤◌, ◌⊎◌, inl, inr, ⊎_elim, ℕ, zero, suc, ◌+◌, ◌-◌, List, [], ◌∷◌, length, take, drop, Option, Some, None, Bool, true, false, refl, sym, ap, ◌∙◌, subst, arith}
-use Rattle.std.specs.Prelude.{slice_get, set, min, nat_lt, if◌then◌else◌, not, ◌&&◌}
+use Rattle.std.proofs.Common.{◌≡◌, ◌≤◌, ◌⊎◌, inl, inr, ⊎_elim, ℕ, zero, suc, ◌+◌, ◌-◌, ◌/◌, ◌%◌, ◌^◌, List, [], ◌∷◌, Option, Some, None, Bool, true, false, refl, sym, ap, ◌∙◌, subst, arith}
+use Rattle.std.specs.Prelude.{◌==◌, slice_get, set, get_or, nat_lt, if◌then◌else◌, not, ◌&&◌, ◌||◌}
 use Rattle.std.specs.Int.{w32, trailing_zeros}
+use Rattle.std.proofs.lemmas.Bool.{le-ltb}
 use Rattle.rv32.specs.declared.instr.RegisterOp.{RegisterOp}
 use Rattle.rv32.specs.declared.instr.RegisterOp.TheVariants as register_op
 use Rattle.frames_code.specs.declared.code.Operand.{Operand}
@@ -17,10 +18,11 @@ use Rattle.frames_opt.specs.declared.facts.Known.{Known}
 use Rattle.frames_opt.specs.declared.facts.Known.TheVariants as known
 use Rattle.frames_opt.specs.inside.Facts.{nothing, known_of, behind}
 use Rattle.frames_opt.specs.inside.Rules.{simpler_operand, with_constant, with_power, is_power, is_constant, commutes, arranged, compute, within, statics_or, frame_or, numbered, simpler_element, simpler}
-use Rattle.frames_opt.specs.inside.Unread.{written, reads, is_written, is_unread, kept, kept_by}
-use Rattle.frames_opt.specs.inside.Passes.{jump_of, is_marked, marked_by, marked, all_marked, AreMarked, fresh, forward, near, swept}
+use Rattle.frames_opt.specs.inside.Liveness.{written, reads, is_written, is_dead, dead_at, dead_behind, kept, kept_by, swept, is_right, all_right, are_right}
+use Rattle.frames_opt.specs.inside.Passes.{jump_of, is_marked, marked_by, marked, all_marked, AreMarked, fresh, forward}
 use Rattle.frames_opt.proofs.Acts.{not_true}
 use Rattle.frames_opt.proofs.Stands.{Flow}
+use Rattle.frames_opt.proofs.Alike.{left_true, right_true}
 use Rattle.frames_opt.proofs.Runs.{Dropped, Position}
 
 -- ---- properties of each form that an operation or an element may get
@@ -194,73 +196,117 @@ module _ (area : ℕ) (marks : List Bool) where
 
 -- ---- without dead stores
 
-unread_take : (n k : ℕ) (xs : List Instruction) → is_unread k (take n xs) ≡ true → is_unread k xs ≡ true
-unread_take zero k xs e = absurd (not_true e)
-unread_take (suc n) k [] e = e
-unread_take (suc n) k (x ∷ xs) e = on (unread_take n k xs) (reads k x) (is_written k x) refl refl
+kept_out : (y : Instruction) (mask : ℕ) (o : Option ℕ) → written y ≡ o → (kept_by o mask y ≡ y) ⊎ Dropped y (kept_by o mask y) (λ k. is_dead mask k)
+kept_out y mask None w = inl refl
+kept_out y mask (Some j) w = on (is_dead mask j) refl
   where
-    on : (is_unread k (take n xs) ≡ true → is_unread k xs ≡ true) → (a b : Bool) → reads k x ≡ a → is_written k x ≡ b → (if reads k x then false else if is_written k x then true else is_unread k xs) ≡ true
-    on later true b u v = absurd (not_true (sym (ap (λ t. if t then false else (if is_written k x then true else is_unread k (take n xs))) u) ∙ e))
-    on later false true u v = rw (u, v) refl
-    on later false false u v =
-        let more : is_unread k (take n xs) ≡ true = ap (λ t. if t then true else is_unread k (take n xs)) (sym v) ∙ (ap (λ t. if t then false else (if is_written k x then true else is_unread k (take n xs))) (sym u) ∙ e) in
-        rw (u, v) (later more)
-
-kept_out : (y : Instruction) (xs : List Instruction) (o : Option ℕ) → written y ≡ o → (kept_by o y (near xs) ≡ y) ⊎ Dropped y (kept_by o y (near xs)) xs
-kept_out y xs None w = inl refl
-kept_out y xs (Some j) w = on (is_unread j (near xs)) refl
-  where
-    on : (t : Bool) → is_unread j (near xs) ≡ t → ((if is_unread j (near xs) then instruction.Nothing else y) ≡ y) ⊎ Dropped y (if is_unread j (near xs) then instruction.Nothing else y) xs
-    on true e = inr (record { is = rw e refl; number = j; writes = w; dead = unread_take (min (length xs) 16) j xs e })
+    on : (t : Bool) → is_dead mask j ≡ t → ((if is_dead mask j then instruction.Nothing else y) ≡ y) ⊎ Dropped y (if is_dead mask j then instruction.Nothing else y) (λ k. is_dead mask k)
+    on true e = inr (record { is = rw e refl; number = j; writes = w; lost = e })
     on false e = inl (rw e refl)
 
-swept_at : (xs : List Instruction) (k : ℕ) (y : Instruction) → slice_get xs k ≡ Some y → slice_get (swept xs) k ≡ Some (kept y (near (drop (suc k) xs)))
-swept_at [] k y e = absurd (let z : ⊥ = cc in z)
-swept_at (x ∷ xs) zero y e = let same : x ≡ y = cc in ap (λ z. Some (kept z (near xs))) same
-swept_at (x ∷ xs) (suc k) y e = swept_at xs k y e
+past_eight : (mask k : ℕ) → is_dead mask (suc (suc (suc (suc (suc (suc (suc (suc k)))))))) ≡ false
+past_eight mask k =
+    let none : nat_lt (suc (suc (suc (suc (suc (suc (suc (suc k)))))))) 8 ≡ false = le-ltb (suc (suc (suc (suc (suc (suc (suc (suc k)))))))) 8 (omega arith) in
+    ap (λ t. t && (mask / 2 ^ (suc (suc (suc (suc (suc (suc (suc (suc k)))))))) % 2 == 1)) none
 
-drop_at : (xs : List Instruction) (k : ℕ) (y : Instruction) → slice_get xs k ≡ Some y → drop k xs ≡ y ∷ drop (suc k) xs
-drop_at [] k y e = absurd (let z : ⊥ = cc in z)
-drop_at (x ∷ xs) zero y e = let same : x ≡ y = cc in ap (λ z. z ∷ xs) same
-drop_at (x ∷ xs) (suc k) y e = drop_at xs k y e
+module _ (masks : List ℕ) where
+  abbrev mask_at : ℕ → ℕ
+  mask_at i = get_or masks i 0
+
+  swept_at : (i : ℕ) (xs : List Instruction) (k j : ℕ) (y : Instruction) → slice_get xs k ≡ Some y → j ≡ i + k → slice_get (swept masks i xs) k ≡ Some (kept (mask_at (j + 1)) y)
+  swept_at i [] k j y e g = absurd (let z : ⊥ = cc in z)
+  swept_at i (x ∷ xs) zero j y e g =
+      let same : x ≡ y = cc in
+      let here : j ≡ i = omega (arith, g) in
+      ap (λ z. Some (kept (mask_at (i + 1)) z)) same ∙ ap (λ n. Some (kept (mask_at (n + 1)) y)) (sym here)
+  swept_at i (x ∷ xs) (suc k) j y e g = swept_at (i + 1) xs k j y e (omega (arith, g))
+
+  all_right_at : (i : ℕ) (xs : List Instruction) (k j : ℕ) (y : Instruction) → are_right masks i xs ≡ true → slice_get xs k ≡ Some y → j ≡ i + k → all_right masks j y ≡ true
+  all_right_at i [] k j y h e g = absurd (let z : ⊥ = cc in z)
+  all_right_at i (x ∷ xs) zero j y h e g =
+      let same : x ≡ y = cc in
+      let here : j ≡ i = omega (arith, g) in
+      ap (λ n. all_right masks n y) here ∙ (ap (all_right masks i) (sym same) ∙ left_true (all_right masks i x) (are_right masks (i + 1) xs) h)
+  all_right_at i (x ∷ xs) (suc k) j y h e g = all_right_at (i + 1) xs k j y (right_true (all_right masks i x) (are_right masks (i + 1) xs) h) e (omega (arith, g))
+
+  module _ (i : ℕ) (y : Instruction) (h : all_right masks i y ≡ true) where
+    abbrev Right : ℕ → Type 0
+    Right k = is_right masks i y k ≡ true
+
+    abbrev rest_right : ℕ → Bool
+    rest_right k = not (reads k (kept (mask_at (i + 1)) y)) && (is_written k y || dead_behind masks i y k)
+
+    -- each of the eight; of no other anything is said
+    right_at : (k : ℕ) → Right k
+    right_at zero = left_true (is_right masks i y 0) _ h
+    right_at (suc zero) = left_true (is_right masks i y 1) _ (right_true (is_right masks i y 0) _ h)
+    right_at (suc (suc zero)) = left_true (is_right masks i y 2) _ (right_true (is_right masks i y 1) _ (right_true (is_right masks i y 0) _ h))
+    right_at (suc (suc (suc zero))) = left_true (is_right masks i y 3) _ (right_true (is_right masks i y 2) _ (right_true (is_right masks i y 1) _ (right_true (is_right masks i y 0) _ h)))
+    right_at (suc (suc (suc (suc zero)))) = left_true (is_right masks i y 4) _ (right_true (is_right masks i y 3) _ (right_true (is_right masks i y 2) _ (right_true (is_right masks i y 1) _ (right_true (is_right masks i y 0) _ h))))
+    right_at (suc (suc (suc (suc (suc zero))))) = left_true (is_right masks i y 5) _ (right_true (is_right masks i y 4) _ (right_true (is_right masks i y 3) _ (right_true (is_right masks i y 2) _ (right_true (is_right masks i y 1) _ (right_true (is_right masks i y 0) _ h)))))
+    right_at (suc (suc (suc (suc (suc (suc zero)))))) =
+        left_true (is_right masks i y 6) _
+        (right_true (is_right masks i y 5) _ (right_true (is_right masks i y 4) _ (right_true (is_right masks i y 3) _ (right_true (is_right masks i y 2) _ (right_true (is_right masks i y 1) _ (right_true (is_right masks i y 0) _ h))))))
+    right_at (suc (suc (suc (suc (suc (suc (suc zero))))))) =
+        right_true (is_right masks i y 6) _
+        (right_true (is_right masks i y 5) _ (right_true (is_right masks i y 4) _ (right_true (is_right masks i y 3) _ (right_true (is_right masks i y 2) _ (right_true (is_right masks i y 1) _ (right_true (is_right masks i y 0) _ h))))))
+    right_at (suc (suc (suc (suc (suc (suc (suc (suc k)))))))) = ap (λ t. if t then rest_right (suc (suc (suc (suc (suc (suc (suc (suc k)))))))) else true) (past_eight (get_or masks i 0) k)
+
+    both_right : (k : ℕ) → dead_at masks i k ≡ true → rest_right k ≡ true
+    both_right k e = ap (λ t. if t then rest_right k else true) (sym e) ∙ right_at k
+
+    not_false : (b : Bool) → not b ≡ true → b ≡ false
+    not_false true e = absurd (not_true e)
+    not_false false e = refl
+
+    or_second : (a b : Bool) → (a || b) ≡ true → a ≡ false → b ≡ true
+    or_second true b e g = absurd (not_true (sym g))
+    or_second false b e g = e
+
+    unread : (k : ℕ) → dead_at masks i k ≡ true → reads k (kept (mask_at (i + 1)) y) ≡ false
+    unread k e = not_false (reads k (kept (mask_at (i + 1)) y)) (left_true (not (reads k (kept (mask_at (i + 1)) y))) (is_written k y || dead_behind masks i y k) (both_right k e))
+
+    leads : (k : ℕ) → dead_at masks i k ≡ true → is_written k y ≡ false → dead_behind masks i y k ≡ true
+    leads k e w =
+        or_second (is_written k y) (dead_behind masks i y k) (right_true (not (reads k (kept (mask_at (i + 1)) y))) (is_written k y || dead_behind masks i y k) (both_right k e)) w
 
 -- ---- both
 
-kept_cost : (y z : Instruction) (xs : List Instruction) → (z ≡ y) ⊎ Dropped y z xs → cost z ≤ cost y
-kept_cost y z xs (inl e) = let same : cost z ≡ cost y = ap cost e in omega (arith, same)
-kept_cost y z xs (inr d) = let none : cost z ≡ 0 = ap cost d.is in omega (arith, none)
+kept_cost : (y z : Instruction) (dead : ℕ → Bool) → (z ≡ y) ⊎ Dropped y z dead → cost z ≤ cost y
+kept_cost y z dead (inl e) = let same : cost z ≡ cost y = ap cost e in omega (arith, same)
+kept_cost y z dead (inr d) = let none : cost z ≡ 0 = ap cost d.is in omega (arith, none)
 
-module _ (area : ℕ) (marks : List Bool) (code : List Instruction) (are : AreMarked marks code) where
-  abbrev pub middle_of : List Instruction
+module _ (area : ℕ) (marks : List Bool) (code : List Instruction) (are : AreMarked marks code) (masks : List ℕ) (right : are_right masks 0 (forward area marks 0 nothing code) ≡ true) where
+  abbrev middle_of : List Instruction
   middle_of = forward area marks 0 nothing code
 
   abbrev pub known_at : ℕ → List Known
   known_at k = known_from area marks 0 nothing code k
 
-  pub position : (i : ℕ) (x : Instruction) → slice_get code i ≡ Some x → Position area known_at middle_of (swept middle_of) i x
+  pub position : (i : ℕ) (x : Instruction) → slice_get code i ≡ Some x → Position area known_at masks (swept masks 0 middle_of) i x
   position i x e =
       let y = simpler area (known_at i) x in
       let held : slice_get middle_of i ≡ Some y = forward_at area marks 0 nothing code i x e in
       let one : suc i ≡ i + 1 = omega arith in
-      let xs = drop (i + 1) middle_of in
-      let z = kept y (near xs) in
-      let first : drop i middle_of ≡ y ∷ xs = drop_at middle_of i y held ∙ ap (λ j. y ∷ drop j middle_of) one in
-      let second : slice_get (swept middle_of) i ≡ Some z = swept_at middle_of i y held ∙ ap (λ j. Some (kept y (near (drop j middle_of)))) one in
-      let out : (z ≡ y) ⊎ Dropped y z xs = kept_out y xs (written y) refl in
+      let z = kept (get_or masks (i + 1) 0) y in
+      let second : slice_get (swept masks 0 middle_of) i ≡ Some z = swept_at masks 0 middle_of i i y held (omega arith) in
+      let all : all_right masks i y ≡ true = all_right_at masks 0 middle_of i i y right held (omega arith) in
+      let out : (z ≡ y) ⊎ Dropped y z (λ k. dead_at masks (i + 1) k) = kept_out y (get_or masks (i + 1) 0) (written y) refl in
       let next : (known_at (i + 1) ≡ nothing) ⊎ (known_at (i + 1) ≡ behind (known_at i) y) =
       subst (λ j. (known_at j ≡ nothing) ⊎ (known_at j ≡ behind (known_at i) y)) one (next_known area marks 0 nothing code i x e) in
       record {
         half = y;
         done = z;
-        half_is = first;
         done_is = second;
         by = inr refl;
         flow = record {
           next = next;
           jumps = λ to j. marked_known area marks 0 nothing code to to (omega arith) (are i to x e (sym (jump_same area (known_at i) x) ∙ j));
         };
+        unread = unread masks i y all;
+        leads = leads masks i y all;
         out = out;
-        cheap = (let a = kept_cost y z xs out in let b = cost_less area (known_at i) x in omega (arith, a, b));
+        cheap = (let a = kept_cost y z (λ k. dead_at masks (i + 1) k) out in let b = cost_less area (known_at i) x in omega (arith, a, b));
       }
 
 -- ---- code that stays as it is
@@ -268,16 +314,31 @@ module _ (area : ℕ) (marks : List Bool) (code : List Instruction) (are : AreMa
 nothing_flows : (y : Instruction) (i : ℕ) → Flow (λ k. nothing) i y
 nothing_flows y i = record { next = inl refl; jumps = λ to e. refl }
 
-pub same_position : (area : ℕ) (code : List Instruction) (i : ℕ) (x : Instruction) → slice_get code i ≡ Some x → Position area (λ k. nothing) code code i x
-same_position area code i x e =
-    let one : suc i ≡ i + 1 = omega arith in
-    record {
-      half = x;
-      done = x;
-      half_is = drop_at code i x e ∙ ap (λ j. x ∷ drop j code) one;
-      done_is = e;
-      by = inl refl;
-      flow = nothing_flows x i;
-      out = inl refl;
-      cheap = omega arith;
-    }
+none_dead : (k : ℕ) → is_dead 0 k ≡ false
+none_dead zero = refl
+none_dead (suc zero) = refl
+none_dead (suc (suc zero)) = refl
+none_dead (suc (suc (suc zero))) = refl
+none_dead (suc (suc (suc (suc zero)))) = refl
+none_dead (suc (suc (suc (suc (suc zero))))) = refl
+none_dead (suc (suc (suc (suc (suc (suc zero)))))) = refl
+none_dead (suc (suc (suc (suc (suc (suc (suc zero))))))) = refl
+none_dead (suc (suc (suc (suc (suc (suc (suc (suc k)))))))) = past_eight 0 k
+
+-- where none is dead the masks are right
+pub none_right : (i : ℕ) (xs : List Instruction) → are_right [] i xs ≡ true
+none_right i [] = refl
+none_right i (x ∷ xs) = none_right (i + 1) xs
+
+pub same_position : (area : ℕ) (code : List Instruction) (i : ℕ) (x : Instruction) → slice_get code i ≡ Some x → Position area (λ k. nothing) [] code i x
+same_position area code i x e = record {
+  half = x;
+  done = x;
+  done_is = e;
+  by = inl refl;
+  flow = nothing_flows x i;
+  unread = λ k g. absurd (not_true (sym (none_dead k) ∙ g));
+  leads = λ k g w. absurd (not_true (sym (none_dead k) ∙ g));
+  out = inl refl;
+  cheap = omega arith;
+}

@@ -5,7 +5,8 @@ use Rattle.std.proofs.lemmas.List.{length-set}
 use Rattle.frames_code.specs.declared.code.Instruction.{Instruction}
 use Rattle.frames.specs.Costs.{code_bytes}
 use Rattle.frames_opt.specs.inside.Facts.{nothing}
-use Rattle.frames_opt.specs.inside.Passes.{jump_of, marked_by, marked, all_marked, AreMarked, forward, swept}
+use Rattle.frames_opt.specs.inside.Passes.{jump_of, marked_by, marked, all_marked, AreMarked, forward}
+use Rattle.frames_opt.specs.inside.Liveness.{swept, are_right}
 use Rattle.frames_opt.specs.layer.Functions.{IsImproved, IsSimplerCode, stayed, improved}
 use Rattle.frames_opt.proofs.Positions.{all_are_marked}
 
@@ -30,15 +31,23 @@ marks_kept size before list marks code e l =
     subst (λ m. AreMarked m code) (sym (whole ∙ e)) (all_are_marked before code)
 
 module _ {V E : Type 0} (items : V → List Instruction) (area : ℕ) (code : List Instruction) where
-  pub improved_in : (middle : List Instruction) (marks : List Bool) → AreMarked marks code → middle ≡ forward area marks 0 nothing code
-      → (r : Result V E) → IfOk r (λ m. items m ≡ swept middle) → IfOk r (λ m. IsImproved area code (items m))
-  improved_in middle marks are e (Ok m) h = record { marks = marks; are = are; is = h ∙ ap swept e }
-  improved_in middle marks are e (Err x) h = tt
+  pub improved_in : (middle : List Instruction) (marks : List Bool) (masks : List ℕ) → AreMarked marks code → middle ≡ forward area marks 0 nothing code → are_right masks 0 middle ≡ true
+      → (r : Result V E) → IfOk r (λ m. items m ≡ swept masks 0 middle) → IfOk r (λ m. IsImproved area code (items m))
+  improved_in middle marks masks are e right (Ok m) h = record {
+    marks = marks;
+    are = are;
+    masks = masks;
+    right = ap (are_right masks 0) (sym e) ∙ right;
+    is = h ∙ ap (swept masks 0) e;
+  }
+  improved_in middle marks masks are e right (Err x) h = tt
 
-  pub improved_from : (middle middle2 : List Instruction) (marks marks2 : List Bool) → AreMarked marks code → marks2 ≡ marks → middle ≡ forward area marks2 0 nothing code → middle2 ≡ middle
-      → (r : Result V E) → IfOk r (λ m. items m ≡ swept middle2) → IfOk r (λ m. IsImproved area code (items m))
-  improved_from middle middle2 marks marks2 are same e same2 r h =
-      improved_in middle2 marks2 (subst (λ m. AreMarked m code) (sym same) are) (same2 ∙ e) r h
+  pub improved_from : (middle middle2 middle3 : List Instruction) (marks marks2 : List Bool) (masks masks2 : List ℕ) → AreMarked marks code → marks2 ≡ marks → middle ≡ forward area marks2 0 nothing code
+      → middle2 ≡ middle → are_right masks 0 middle2 ≡ true → masks2 ≡ masks → middle3 ≡ middle → (r : Result V E) → IfOk r (λ m. items m ≡ swept masks2 0 middle3) → IfOk r (λ m. IsImproved area code (items m))
+  improved_from middle middle2 middle3 marks marks2 masks masks2 are same e same2 right same3 same4 r h =
+      let made : middle3 ≡ forward area marks2 0 nothing code = same4 ∙ e in
+      let right2 : are_right masks2 0 middle3 ≡ true = ap (λ m. are_right m 0 middle3) same3 ∙ (ap (are_right masks 0) (same4 ∙ sym same2) ∙ right) in
+      improved_in middle3 marks2 masks2 (subst (λ m. AreMarked m code) (sym same) are) made right2 r h
 
   pub stayed_in : (r : Result V E) → IfOk r (λ m. items m ≡ code) → IfOk r (λ m. IsSimplerCode area code (items m))
   stayed_in (Ok m) h = stayed h

@@ -1,5 +1,5 @@
 -- A program that was made simpler runs as the program does, at no more cost.
-use Rattle.std.proofs.Common.{◌≡◌, ◌≤◌, ◌⊎◌, inl, ⊎_elim, ℕ, zero, suc, ◌+◌, List, [], ◌∷◌, length, drop, Option, Some, None, true, refl, sym, ap, ◌∙◌, subst, arith}
+use Rattle.std.proofs.Common.{◌≡◌, ◌≤◌, ◌⊎◌, inl, ⊎_elim, ℕ, zero, suc, ◌+◌, List, [], length, Option, Some, None, Bool, true, false, refl, sym, ap, ◌∙◌, subst, arith}
 use Rattle.std.specs.Prelude.{slice_get}
 use Rattle.frames_code.specs.declared.code.Instruction.{Instruction}
 use Rattle.frames_code.specs.declared.code.Instruction.TheVariants as instruction
@@ -10,41 +10,43 @@ use Rattle.frames_opt.specs.declared.facts.Known.{Known}
 use Rattle.frames_opt.specs.Simplified.{DoesTheSame, IsDefined}
 use Rattle.frames_opt.specs.inside.Facts.{nothing}
 use Rattle.frames_opt.specs.inside.Rules.{simpler}
-use Rattle.frames_opt.specs.inside.Unread.{written, is_unread}
+use Rattle.frames_opt.specs.inside.Liveness.{written, is_written, reads, dead_at, dead_behind}
 use Rattle.frames_opt.proofs.Acts.{Holds, name_in, home_in, act_same}
 use Rattle.frames_opt.proofs.Stands.{Sat, Flow, Stands, act_stands, nothing_holds}
 use Rattle.frames_opt.proofs.Alike.{Sized, over, Agree, Match}
-use Rattle.frames_opt.proofs.Steps.{act_alike, dropped_alike}
+use Rattle.frames_opt.proofs.Steps.{act_alike, left_out_alike}
 
-pub record Dropped (y z : Instruction) (xs : List Instruction) : Type 0 where
+pub record Dropped (y z : Instruction) (dead : ℕ → Bool) : Type 0 where
   pub is : z ≡ instruction.Nothing
   pub number : ℕ
   pub writes : written y ≡ Some number
-  pub dead : is_unread number xs ≡ true
+  pub lost : dead number ≡ true
 
 -- instruction i, which is x in the program: simplified by the known facts, and in the end
-pub record Position (area : ℕ) (kn : ℕ → List Known) (middle new : List Instruction) (i : ℕ) (x : Instruction) : Type 0 where
+pub record Position (area : ℕ) (kn : ℕ → List Known) (masks : List ℕ) (new : List Instruction) (i : ℕ) (x : Instruction) : Type 0 where
   pub half : Instruction
   pub done : Instruction
-  pub half_is : drop i middle ≡ half ∷ drop (i + 1) middle
   pub done_is : slice_get new i ≡ Some done
   pub by : (half ≡ x) ⊎ (half ≡ simpler area (kn i) x)
   pub flow : Flow kn i half
-  pub out : (done ≡ half) ⊎ Dropped half done (drop (i + 1) middle)
+  pub unread : (k : ℕ) → dead_at masks i k ≡ true → reads k done ≡ false
+  pub leads : (k : ℕ) → dead_at masks i k ≡ true → is_written k half ≡ false → dead_behind masks i half k ≡ true
+  pub out : (done ≡ half) ⊎ Dropped half done (λ k. dead_at masks (i + 1) k)
   pub cheap : cost done ≤ cost x
 
-pub record IsSimpler (p q : Program) (kn : ℕ → ℕ → List Known) (middle : ℕ → List Instruction) : Type 0 where
+pub record IsSimpler (p q : Program) (kn : ℕ → ℕ → List Known) (masks : ℕ → List ℕ) : Type 0 where
   pub sized : Sized p q
   pub main : q.main ≡ p.main
   pub starts : (k : ℕ) → kn k 0 ≡ nothing
   pub count : (k : ℕ) → length (function_at q k).code ≡ length (function_at p k).code
-  pub each : (k i : ℕ) (x : Instruction) → slice_get (function_at p k).code i ≡ Some x → Position (function_at p k).area (kn k) (middle k) (function_at q k).code i x
+  pub each : (k i : ℕ) (x : Instruction) → slice_get (function_at p k).code i ≡ Some x → Position (function_at p k).area (kn k) (masks k) (function_at q k).code i x
 
-module _ (p q : Program) (kn : ℕ → ℕ → List Known) (middle : ℕ → List Instruction) (simple : IsSimpler p q kn middle) where
-  abbrev pub rest : State → List Instruction
-  rest s = drop s.frame.at (middle s.frame.function)
+module _ (p q : Program) (kn : ℕ → ℕ → List Known) (masks : ℕ → List ℕ) (simple : IsSimpler p q kn masks) where
+  -- the temporaries that are dead before the next instruction
+  abbrev pub dead : State → ℕ → Bool
+  dead s k = dead_at (masks s.frame.function) s.frame.at k
 
-  module _ (s : State) (u a : Values) (good : Stands p kn s) (agree : Agree (rest s) s u a) where
+  module _ (s : State) (u a : Values) (good : Stands p kn s) (agree : Agree (dead s) s u a) where
     abbrev t : State
     t = over u a s
 
@@ -54,14 +56,11 @@ module _ (p q : Program) (kn : ℕ → ℕ → List Known) (middle : ℕ → Lis
     abbrev i : ℕ
     i = s.frame.at
 
-    abbrev xs : List Instruction
-    xs = drop (i + 1) (middle k)
-
-    behind : (s2 : State) → s2.frame.function ≡ k → s2.frame.at ≡ i + 1 → rest s2 ≡ xs
-    behind s2 f e = ap (λ j. drop s2.frame.at (middle j)) f ∙ ap (λ j. drop j (middle k)) e
+    behind : (s2 : State) → s2.frame.function ≡ k → dead s2 ≡ (λ j. dead_at (masks k) s2.frame.at j)
+    behind s2 f = ap (λ (n : ℕ). λ (j : ℕ). dead_at (masks n) s2.frame.at j) f
 
     module _ (x : Instruction) (is : slice_get (function_at p k).code i ≡ Some x) where
-      abbrev c : Position (function_at p k).area (kn k) (middle k) (function_at q k).code i x
+      abbrev c : Position (function_at p k).area (kn k) (masks k) (function_at q k).code i x
       c = simple.each k i x is
 
       same : act p s c.half ≡ act p s x
@@ -70,18 +69,17 @@ module _ (p q : Program) (kn : ℕ → ℕ → List Known) (middle : ℕ → Lis
       stands : Sat (Stands p kn) (act p s x)
       stands = subst (Sat (Stands p kn)) same (act_stands p kn simple.starts s good c.half c.flow)
 
-      before : Agree (c.half ∷ xs) s u a
-      before = subst (λ ys. Agree ys s u a) c.half_is agree
-
-      alike : Match rest (act p s c.half) (act q t c.done)
+      alike : Match dead (act p s c.half) (act q t c.done)
       alike =
           ⊎_elim
-          (λ e. subst (λ w. Match rest (act p s c.half) (act q t w)) (sym e) (act_alike p q simple.sized rest s u a xs behind c.half before))
-          (λ d. subst (λ w. Match rest (act p s c.half) (act q t w)) (sym d.is) (dropped_alike p q simple.sized rest s u a xs behind d.number d.dead c.half before d.writes))
+          (λ e.
+              let unread : (j : ℕ) → dead_at (masks k) i j ≡ true → reads j c.half ≡ false = λ j g. ap (reads j) (sym e) ∙ c.unread j g in
+              subst (λ w. Match dead (act p s c.half) (act q t w)) (sym e) (act_alike p q simple.sized dead s u a (masks k) behind c.half agree (record { unread = unread; leads = c.leads })))
+          (λ d. subst (λ w. Match dead (act p s c.half) (act q t w)) (sym d.is) (left_out_alike p q simple.sized dead s u a (masks k) behind c.half c.done d.number d.lost agree (record { unread = c.unread; leads = c.leads }) d.writes))
           c.out
 
-      matches : Match rest (act p s x) (act q t c.done)
-      matches = subst (λ w. Match rest w (act q t c.done)) same alike
+      matches : Match dead (act p s x) (act q t c.done)
+      matches = subst (λ w. Match dead w (act q t c.done)) same alike
 
       step_first : step p s ≡ act p s x
       unfolding step
@@ -102,9 +100,9 @@ module _ (p q : Program) (kn : ℕ → ℕ → List Known) (middle : ℕ → Lis
     none_first e = ap (λ o. o >>= act p s) e
 
   abbrev Goal : ℕ → Type 0
-  Goal n = (s : State) (u a : Values) → Stands p kn s → Agree (rest s) s u a → DoesTheSame (run p n s) (run q n (over u a s))
+  Goal n = (s : State) (u a : Values) → Stands p kn s → Agree (dead s) s u a → DoesTheSame (run p n s) (run q n (over u a s))
 
-  goes_alike : (n : ℕ) (x z : Progress) → Match rest x z → Sat (Stands p kn) x → Goal n → DoesTheSame (goes_on x (run p n)) (goes_on z (run q n))
+  goes_alike : (n : ℕ) (x z : Progress) → Match dead x z → Sat (Stands p kn) x → Goal n → DoesTheSame (goes_on x (run p n)) (goes_on z (run q n))
   goes_alike n (running s) z m g more = subst (λ w. DoesTheSame (run p n s) (goes_on w (run q n))) (sym m.is) (more s m.others m.given g m.agree)
   goes_alike n (ended status input trace) z m g more = subst (λ w. DoesTheSame (ended status input trace) (goes_on w (run q n))) (sym m) refl
   goes_alike n stuck z m g more = tt
@@ -123,9 +121,9 @@ module _ (p q : Program) (kn : ℕ → ℕ → List Known) (middle : ℕ → Lis
           subst (λ w. DoesTheSame (goes_on w (run p n)) (goes_on (step q (over u a s)) (run q n))) (sym (step_first s u a good agree x e)) second
 
   abbrev Less : ℕ → Type 0
-  Less n = (s : State) (u a : Values) → Stands p kn s → Agree (rest s) s u a → IsDefined (run p n s) → spent q n (over u a s) ≤ spent p n s
+  Less n = (s : State) (u a : Values) → Stands p kn s → Agree (dead s) s u a → IsDefined (run p n s) → spent q n (over u a s) ≤ spent p n s
 
-  goes_less : (n : ℕ) (x z : Progress) → Match rest x z → Sat (Stands p kn) x → Less n → IsDefined (goes_on x (run p n)) → cost_on z (spent q n) ≤ cost_on x (spent p n)
+  goes_less : (n : ℕ) (x z : Progress) → Match dead x z → Sat (Stands p kn) x → Less n → IsDefined (goes_on x (run p n)) → cost_on z (spent q n) ≤ cost_on x (spent p n)
   goes_less n (running s) z m g more defined = subst (λ w. cost_on w (spent q n) ≤ spent p n s) (sym m.is) (more s m.others m.given g m.agree defined)
   goes_less n (ended status input trace) z m g more defined = subst (λ w. cost_on w (spent q n) ≤ 0) (sym m) (let le : 0 ≤ 0 = omega arith in le)
   goes_less n stuck z m g more defined = absurd defined
@@ -152,12 +150,12 @@ module _ (p q : Program) (kn : ℕ → ℕ → List Known) (middle : ℕ → Lis
     pub others : Values
     pub given : Values
     pub is : z ≡ running (over others given s)
-    pub agree : Agree (rest s) s others given
+    pub agree : Agree (dead s) s others given
 
   abbrev Reach : ℕ → Type 0
-  Reach n = (s : State) (u a : Values) → Stands p kn s → Agree (rest s) s u a → (s2 : State) → run p n s ≡ running s2 → Reached s2 (run q n (over u a s))
+  Reach n = (s : State) (u a : Values) → Stands p kn s → Agree (dead s) s u a → (s2 : State) → run p n s ≡ running s2 → Reached s2 (run q n (over u a s))
 
-  goes_to_it : (n : ℕ) (x z : Progress) → Match rest x z → Sat (Stands p kn) x → Reach n → (s2 : State) → goes_on x (run p n) ≡ running s2 → Reached s2 (goes_on z (run q n))
+  goes_to_it : (n : ℕ) (x z : Progress) → Match dead x z → Sat (Stands p kn) x → Reach n → (s2 : State) → goes_on x (run p n) ≡ running s2 → Reached s2 (goes_on z (run q n))
   goes_to_it n (running s) z m g more s2 e = subst (λ w. Reached s2 (goes_on w (run q n))) (sym m.is) (more s m.others m.given g m.agree s2 e)
   goes_to_it n (ended status input trace) z m g more s2 e = absurd (let no : ⊥ = cc in no)
   goes_to_it n stuck z m g more s2 e = absurd (let no : ⊥ = cc in no)
@@ -196,7 +194,7 @@ module _ (p q : Program) (kn : ℕ → ℕ → List Known) (middle : ℕ → Lis
   start_stands : (input : List ℕ) → Stands p kn (start p input)
   start_stands input = (subst (λ f. Holds (name_in p (start p input)) (home_in p (start p input)) f unset) (sym (simple.starts p.main)) (nothing_holds (name_in p (start p input)) (home_in p (start p input)) unset), tt)
 
-  start_agrees : (input : List ℕ) → Agree (rest (start p input)) (start p input) unset unset
+  start_agrees : (input : List ℕ) → Agree (dead (start p input)) (start p input) unset unset
   start_agrees input = record { temporaries = λ j. inl refl; arguments = λ j v e. e }
 
   pub reached : (n : ℕ) (input : List ℕ) (s : State) → run p n (start p input) ≡ running s → Reached s (run q n (start q input))

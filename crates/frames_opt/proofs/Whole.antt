@@ -13,7 +13,7 @@ use Rattle.frames_opt.specs.inside.Facts.{nothing}
 use Rattle.frames_opt.specs.layer.Functions.{IsSimplerCode, stayed, improved, AreSimpler}
 use Rattle.frames_opt.proofs.Alike.{with_code}
 use Rattle.frames_opt.proofs.Runs.{Position, IsSimpler, runs, costs}
-use Rattle.frames_opt.proofs.Positions.{known_at, middle_of, position, same_position, start_known}
+use Rattle.frames_opt.proofs.Positions.{known_at, position, same_position, start_known}
 use Rattle.frames_opt.proofs.AtCalls.{at_calls}
 use Rattle.frames_opt.proofs.Fitting.{code_length, function_fits}
 
@@ -21,16 +21,16 @@ use Rattle.frames_opt.proofs.Fitting.{code_length, function_fits}
 
 abbrev known_in : (area : ℕ) (old new : List Instruction) → IsSimplerCode area old new → ℕ → List Known
 known_in area old new (stayed e) = λ k. nothing
-known_in area old new (improved c) = known_at area c.marks old c.are
+known_in area old new (improved c) = known_at area c.marks old c.are c.masks c.right
 
-abbrev middle_in : (area : ℕ) (old new : List Instruction) → IsSimplerCode area old new → List Instruction
-middle_in area old new (stayed e) = old
-middle_in area old new (improved c) = middle_of area c.marks old c.are
+abbrev masks_in : (area : ℕ) (old new : List Instruction) → IsSimplerCode area old new → List ℕ
+masks_in area old new (stayed e) = []
+masks_in area old new (improved c) = c.masks
 
-position_in : (area : ℕ) (old new : List Instruction) (c : IsSimplerCode area old new) (i : ℕ) (x : Instruction) → slice_get old i ≡ Some x → Position area (known_in area old new c) (middle_in area old new c) new i x
-position_in area old new (stayed e) i x h = subst (λ m. Position area (λ k. nothing) old m i x) (sym e) (same_position area old i x h)
+position_in : (area : ℕ) (old new : List Instruction) (c : IsSimplerCode area old new) (i : ℕ) (x : Instruction) → slice_get old i ≡ Some x → Position area (known_in area old new c) (masks_in area old new c) new i x
+position_in area old new (stayed e) i x h = subst (λ m. Position area (λ k. nothing) [] m i x) (sym e) (same_position area old i x h)
 position_in area old new (improved c) i x h =
-    subst (λ m. Position area (known_at area c.marks old c.are) (middle_of area c.marks old c.are) m i x) (sym c.is) (position area c.marks old c.are i x h)
+    subst (λ m. Position area (known_at area c.marks old c.are c.masks c.right) c.masks m i x) (sym c.is) (position area c.marks old c.are c.masks c.right i x h)
 
 start_in : (area : ℕ) (old new : List Instruction) (c : IsSimplerCode area old new) → known_in area old new c 0 ≡ nothing
 start_in area old new (stayed e) = refl
@@ -45,12 +45,12 @@ known_of (f ∷ fs) [] each k = λ i. nothing
 known_of (f ∷ fs) (g ∷ gs) each zero = known_in f.area f.code g.code each.0.code
 known_of (f ∷ fs) (g ∷ gs) each (suc k) = known_of fs gs each.1 k
 
-abbrev middles_of : (fs gs : List Function) → AreSimpler fs gs → ℕ → List Instruction
-middles_of [] [] each k = []
-middles_of [] (g ∷ gs) each k = []
-middles_of (f ∷ fs) [] each k = []
-middles_of (f ∷ fs) (g ∷ gs) each zero = middle_in f.area f.code g.code each.0.code
-middles_of (f ∷ fs) (g ∷ gs) each (suc k) = middles_of fs gs each.1 k
+abbrev masks_of : (fs gs : List Function) → AreSimpler fs gs → ℕ → List ℕ
+masks_of [] [] each k = []
+masks_of [] (g ∷ gs) each k = []
+masks_of (f ∷ fs) [] each k = []
+masks_of (f ∷ fs) (g ∷ gs) each zero = masks_in f.area f.code g.code each.0.code
+masks_of (f ∷ fs) (g ∷ gs) each (suc k) = masks_of fs gs each.1 k
 
 start_of : (fs gs : List Function) (each : AreSimpler fs gs) (k : ℕ) → known_of fs gs each k 0 ≡ nothing
 start_of [] [] each k = refl
@@ -60,13 +60,13 @@ start_of (f ∷ fs) (g ∷ gs) each zero = start_in f.area f.code g.code each.0.
 start_of (f ∷ fs) (g ∷ gs) each (suc k) = start_of fs gs each.1 k
 
 -- both have a function of this number, or neither has
-abbrev IsPair : (ℕ → List Known) → List Instruction → Option Function → Option Function → Type 0
-IsPair kn middle None None = Unit {0}
-IsPair kn middle None (Some g) = ⊥
-IsPair kn middle (Some f) None = ⊥
-IsPair kn middle (Some f) (Some g) = (g ≡ with_code f g.code) × (length g.code ≡ length f.code) × ((i : ℕ) (x : Instruction) → slice_get f.code i ≡ Some x → Position f.area kn middle g.code i x)
+abbrev IsPair : (ℕ → List Known) → List ℕ → Option Function → Option Function → Type 0
+IsPair kn masks None None = Unit {0}
+IsPair kn masks None (Some g) = ⊥
+IsPair kn masks (Some f) None = ⊥
+IsPair kn masks (Some f) (Some g) = (g ≡ with_code f g.code) × (length g.code ≡ length f.code) × ((i : ℕ) (x : Instruction) → slice_get f.code i ≡ Some x → Position f.area kn masks g.code i x)
 
-pair_at : (fs gs : List Function) (each : AreSimpler fs gs) (k : ℕ) → IsPair (known_of fs gs each k) (middles_of fs gs each k) (slice_get fs k) (slice_get gs k)
+pair_at : (fs gs : List Function) (each : AreSimpler fs gs) (k : ℕ) → IsPair (known_of fs gs each k) (masks_of fs gs each k) (slice_get fs k) (slice_get gs k)
 pair_at [] [] each k = tt
 pair_at [] (g ∷ gs) each k = absurd each
 pair_at (f ∷ fs) [] each k = absurd each
@@ -77,17 +77,17 @@ module _ (p q : Program) (each : AreSimpler p.functions q.functions) (same_stati
   abbrev kn : ℕ → ℕ → List Known
   kn = known_of p.functions q.functions each
 
-  abbrev middle : ℕ → List Instruction
-  middle = middles_of p.functions q.functions each
+  abbrev masks : ℕ → List ℕ
+  masks = masks_of p.functions q.functions each
 
-  sized_at : (k : ℕ) (o o2 : Option Function) → slice_get p.functions k ≡ o → slice_get q.functions k ≡ o2 → IsPair (kn k) (middle k) o o2 → function_at q k ≡ with_code (function_at p k) (function_at q k).code
+  sized_at : (k : ℕ) (o o2 : Option Function) → slice_get p.functions k ≡ o → slice_get q.functions k ≡ o2 → IsPair (kn k) (masks k) o o2 → function_at q k ≡ with_code (function_at p k) (function_at q k).code
   sized_at k None None e e2 is = rw (e, e2) refl
   sized_at k None (Some g) e e2 is = absurd is
   sized_at k (Some f) None e e2 is = absurd is
   sized_at k (Some f) (Some g) e e2 is = rw (e, e2) is.0
 
-  position_at : (k : ℕ) (o o2 : Option Function) → slice_get p.functions k ≡ o → slice_get q.functions k ≡ o2 → IsPair (kn k) (middle k) o o2
-      → (i : ℕ) (x : Instruction) → slice_get (function_at p k).code i ≡ Some x → Position (function_at p k).area (kn k) (middle k) (function_at q k).code i x
+  position_at : (k : ℕ) (o o2 : Option Function) → slice_get p.functions k ≡ o → slice_get q.functions k ≡ o2 → IsPair (kn k) (masks k) o o2
+      → (i : ℕ) (x : Instruction) → slice_get (function_at p k).code i ≡ Some x → Position (function_at p k).area (kn k) (masks k) (function_at q k).code i x
   position_at k None None e e2 is i x h = let none : (function_at p k).code ≡ [] = rw e refl in let no : None ≡ Some x = ap (λ xs. slice_get xs i) (sym none) ∙ h in absurd (let z : ⊥ = cc in z)
   position_at k None (Some g) e e2 is i x h = absurd is
   position_at k (Some f) None e e2 is i x h = absurd is
@@ -95,16 +95,16 @@ module _ (p q : Program) (each : AreSimpler p.functions q.functions) (same_stati
       let first : function_at p k ≡ f = rw e refl in
       let second : function_at q k ≡ g = rw e2 refl in
       let held : slice_get f.code i ≡ Some x = ap (λ (d : Function). slice_get d.code i) (sym first) ∙ h in
-      let one : Position f.area (kn k) (middle k) (function_at q k).code i x = subst (λ (d : Function). Position f.area (kn k) (middle k) d.code i x) (sym second) (is.2 i x held) in
-      subst (λ (d : Function). Position d.area (kn k) (middle k) (function_at q k).code i x) (sym first) one
+      let one : Position f.area (kn k) (masks k) (function_at q k).code i x = subst (λ (d : Function). Position f.area (kn k) (masks k) d.code i x) (sym second) (is.2 i x held) in
+      subst (λ (d : Function). Position d.area (kn k) (masks k) (function_at q k).code i x) (sym first) one
 
-  count_at : (k : ℕ) (o o2 : Option Function) → slice_get p.functions k ≡ o → slice_get q.functions k ≡ o2 → IsPair (kn k) (middle k) o o2 → length (function_at q k).code ≡ length (function_at p k).code
+  count_at : (k : ℕ) (o o2 : Option Function) → slice_get p.functions k ≡ o → slice_get q.functions k ≡ o2 → IsPair (kn k) (masks k) o o2 → length (function_at q k).code ≡ length (function_at p k).code
   count_at k None None e e2 is = rw (e, e2) refl
   count_at k None (Some g) e e2 is = absurd is
   count_at k (Some f) None e e2 is = absurd is
   count_at k (Some f) (Some g) e e2 is = rw (e, e2) is.1
 
-  simpler : IsSimpler p q kn middle
+  simpler : IsSimpler p q kn masks
   simpler = record {
     sized = record {
       at = λ k. sized_at k (slice_get p.functions k) (slice_get q.functions k) refl refl (pair_at p.functions q.functions each k);
@@ -171,11 +171,11 @@ pub is_simplified : (p q : Program) → AreSimpler p.functions q.functions → q
 is_simplified p q each statics main =
     let r = simpler p q each statics main in
     let known = known_of p.functions q.functions each in
-    let middle = middles_of p.functions q.functions each in
+    let masks = masks_of p.functions q.functions each in
     record {
-      runs = runs p q known middle r;
-      at_calls = at_calls p q known middle r;
-      costs = costs p q known middle r;
+      runs = runs p q known masks r;
+      at_calls = at_calls p q known masks r;
+      costs = costs p q known masks r;
       frames = frames_in p.functions q.functions each;
       bytes = bytes_in p.functions q.functions each;
       sound = stays_sound p q each statics main;

@@ -1,5 +1,5 @@
 -- What only proofs and private functions need: nothing here has to be believed.
 pub mod Facts
 pub mod Rules
-pub mod Unread
+pub mod Liveness
 pub mod Passes

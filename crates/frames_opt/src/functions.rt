@@ -8,8 +8,9 @@ ghost use Rattle.frames_opt.specs.Simplified.{IsSimplified};
 ghost use Rattle.frames_opt.specs.layer.Functions.{IsImproved, IsSimplerCode, IsSimplerFunction, AreSimpler};
 
 use crate::bytes::is_no_longer;
+use crate::liveness::{masks_of, swept};
 use crate::marks::marks_of;
-use crate::passes::{forward, swept};
+use crate::passes::forward;
 use frames_code::{FlatProgram, Function, Instruction};
 use std::alloc::{AllocError, Global};
 
@@ -23,7 +24,8 @@ fn improved(
 {
     let marks = marks_of(alloc, code)?;
     let known = forward(alloc, area, &marks, code)?;
-    swept(alloc, &known)
+    let masks = masks_of(alloc, &known)?;
+    swept(alloc, &masks, &known)
 }
 
 /// The code by both passes, or as it was where it would have more bytes.

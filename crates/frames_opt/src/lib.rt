@@ -5,11 +5,11 @@ mod bytes;
 mod facts;
 mod functions;
 mod laws;
+mod liveness;
 mod marks;
 mod operations;
 mod passes;
 mod rules;
-mod unread;
 
 pub use bytes::size_of;
 pub use functions::{simplify, simplify_function};

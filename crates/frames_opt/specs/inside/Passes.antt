@@ -1,11 +1,10 @@
--- The two passes over the code of a function.
-use Rattle.std.specs.Prelude.{◌≡◌, ℕ, ◌+◌, Bool, true, if◌then◌else◌, List, [], ◌∷◌, length, take, min, set, get_or, slice_get, Option, Some, None}
+-- The first pass over the code of a function, by what is known.
+use Rattle.std.specs.Prelude.{◌≡◌, ℕ, ◌+◌, Bool, true, if◌then◌else◌, List, [], ◌∷◌, set, get_or, slice_get, Option, Some, None}
 use Rattle.frames_code.specs.declared.code.Instruction.{Instruction}
 use Rattle.frames_code.specs.declared.code.Instruction.TheVariants as instruction
 use Rattle.frames_opt.specs.declared.facts.Known.{Known}
 use Rattle.frames_opt.specs.inside.Facts.{nothing, behind}
 use Rattle.frames_opt.specs.inside.Rules.{simpler}
-use Rattle.frames_opt.specs.inside.Unread.{kept}
 
 -- ---- where jumps lead
 
@@ -54,12 +53,3 @@ forward area marks i facts [] = []
 forward area marks i facts (x ∷ xs) =
     simpler area (fresh (is_marked marks i) facts) x
     ∷ forward area marks (i + 1) (behind (fresh (is_marked marks i) facts) (simpler area (fresh (is_marked marks i) facts) x)) xs
-
--- ---- without dead stores
-
-abbrev pub near : List Instruction → List Instruction
-near xs = take (min (length xs) 16) xs
-
-abbrev pub swept : List Instruction → List Instruction
-swept [] = []
-swept (x ∷ xs) = kept x (near xs) ∷ swept xs

@@ -1,17 +1,20 @@
 -- Functions and programs of simpler code.
-use Rattle.std.specs.Prelude.{◌≡◌, ◌≤◌, ℕ, Bool, List, [], ◌∷◌, sum_by}
+use Rattle.std.specs.Prelude.{◌≡◌, ◌≤◌, ℕ, Bool, true, List, [], ◌∷◌, sum_by}
 use Rattle.frames_code.specs.declared.code.Instruction.{Instruction}
 use Rattle.frames_code.specs.Code.{Function, Program}
 use Rattle.frames.specs.Costs.{code_bytes}
 use Rattle.frames_opt.specs.Simplified.{IsSimplified}
 use Rattle.frames_opt.specs.inside.Facts.{nothing}
-use Rattle.frames_opt.specs.inside.Passes.{AreMarked, forward, swept}
+use Rattle.frames_opt.specs.inside.Liveness.{swept, are_right}
+use Rattle.frames_opt.specs.inside.Passes.{AreMarked, forward}
 
 -- code that went through both passes, in a function whose arrays have `area` bytes
 pub record IsImproved (area : ℕ) (old new : List Instruction) : Type 0 where
   pub marks : List Bool
   pub are : AreMarked marks old
-  pub is : new ≡ swept (forward area marks 0 nothing old)
+  pub masks : List ℕ
+  pub right : are_right masks 0 (forward area marks 0 nothing old) ≡ true
+  pub is : new ≡ swept masks 0 (forward area marks 0 nothing old)
 
 pub data IsSimplerCode (area : ℕ) (old new : List Instruction) : Type 0 where
   stayed : (is : new ≡ old) → IsSimplerCode area old new

@@ -1,0 +1,317 @@
+//! Liveness of temporaries, a dataflow analysis, and the elimination of dead stores by it.
+
+ghost use Rattle.std.specs.Prelude.{◌≡◌, ◌<◌, ◌^◌, true, zero, get_or, IfOk};
+ghost use Rattle.frames_opt.specs.inside.Liveness as liveness;
+
+use frames_code::{Instruction, Location, Operand, Target};
+use std::alloc::{AllocError, Global};
+
+/// How often the analysis goes over the code before it gives up.
+const ROUNDS: usize = 8;
+
+fn names(number: usize, operand: Operand) -> bool
+    ensures { result ≡ liveness.names number operand }
+{
+    match operand {
+        Operand::Temporary(other) => other == number,
+        Operand::Cell(_) => false,
+        Operand::Constant(_) => false,
+        Operand::Argument(_) => false,
+    }
+}
+
+fn is_through(number: usize, location: Location) -> bool
+    ensures { result ≡ liveness.is_through number location }
+{
+    match location {
+        Location::Statics(_) => false,
+        Location::Frame(_) => false,
+        Location::At(operand) => names(number, operand),
+    }
+}
+
+/// Whether an instruction reads a temporary; a call, a byte put or got, and an end count as reading all.
+fn reads(number: usize, instruction: Instruction) -> bool
+    ensures { result ≡ liveness.reads number instruction }
+{
+    match instruction {
+        Instruction::Nothing => false,
+        Instruction::Move { source, .. } => names(number, source),
+        Instruction::Compute { left, right, .. } => names(number, left) || names(number, right),
+        Instruction::Convert { source, .. } => names(number, source),
+        Instruction::Load { from, .. } => is_through(number, from),
+        Instruction::Store { source, to, .. } => names(number, source) || is_through(number, to),
+        Instruction::Address { of, .. } => is_through(number, of),
+        Instruction::Element { array, index, .. } => names(number, array) || names(number, index),
+        Instruction::Jump(_) => false,
+        Instruction::Branch { left, right, .. } => names(number, left) || names(number, right),
+        Instruction::Call(_) => true,
+        Instruction::PutByte => true,
+        Instruction::GetByte => true,
+        Instruction::Exit => true,
+        Instruction::Return => true,
+    }
+}
+
+fn temporary_of(target: Target) -> Option<usize>
+    ensures { result ≡ liveness.temporary_of target }
+{
+    match target {
+        Target::Temporary(number) => Some(number),
+        Target::Cell(_) => None,
+    }
+}
+
+/// The temporary that an instruction writes.
+fn written(instruction: Instruction) -> Option<usize>
+    ensures { result ≡ liveness.written instruction }
+{
+    match instruction {
+        Instruction::Nothing => None,
+        Instruction::Move { target, .. } => temporary_of(target),
+        Instruction::Compute { target, .. } => temporary_of(target),
+        Instruction::Convert { target, .. } => temporary_of(target),
+        Instruction::Load { target, .. } => temporary_of(target),
+        Instruction::Store { .. } => None,
+        Instruction::Address { target, .. } => temporary_of(target),
+        Instruction::Element { target, .. } => temporary_of(target),
+        Instruction::Jump(_) => None,
+        Instruction::Branch { .. } => None,
+        Instruction::Call(_) => None,
+        Instruction::PutByte => None,
+        Instruction::GetByte => None,
+        Instruction::Exit => None,
+        Instruction::Return => None,
+    }
+}
+
+fn is_written(number: usize, instruction: Instruction) -> bool
+    ensures { result ≡ liveness.is_written number instruction }
+{
+    match written(instruction) {
+        Some(other) => other == number,
+        None => false,
+    }
+}
+
+/// Whether a temporary is dead by a mask of the first eight.
+fn is_dead(mask: u8, number: usize) -> bool
+    ensures { result ≡ liveness.is_dead mask number }
+{
+    number < 8 && (mask >> number as u32) % 2 == 1
+}
+
+/// The mask of an instruction; past the last one none is dead.
+fn mask_at(masks: &[u8], number: usize) -> u8
+    ensures { result ≡ get_or masks.now number zero }
+{
+    if number < masks.len() {
+        masks[number]
+    } else {
+        0
+    }
+}
+
+fn dead_at(masks: &[u8], at: usize, number: usize) -> bool
+    ensures { result ≡ liveness.dead_at masks.now at number }
+{
+    is_dead(mask_at(masks, at), number)
+}
+
+/// Whether a temporary is dead wherever instruction `at` leads, if calls and ends are left aside.
+fn dead_behind(masks: &[u8], at: usize, instruction: Instruction, number: usize) -> bool
+    requires { at < 2 ^ 62 }
+    ensures { result ≡ liveness.dead_behind masks.now at instruction number }
+{
+    match instruction {
+        Instruction::Nothing => dead_at(masks, at + 1, number),
+        Instruction::Move { .. } => dead_at(masks, at + 1, number),
+        Instruction::Compute { .. } => dead_at(masks, at + 1, number),
+        Instruction::Convert { .. } => dead_at(masks, at + 1, number),
+        Instruction::Load { .. } => dead_at(masks, at + 1, number),
+        Instruction::Store { .. } => dead_at(masks, at + 1, number),
+        Instruction::Address { .. } => dead_at(masks, at + 1, number),
+        Instruction::Element { .. } => dead_at(masks, at + 1, number),
+        Instruction::Jump(to) => dead_at(masks, to, number),
+        Instruction::Branch { to, .. } => {
+            dead_at(masks, at + 1, number) && dead_at(masks, to, number)
+        }
+        Instruction::Call(_) => dead_at(masks, at + 1, number),
+        Instruction::PutByte => dead_at(masks, at + 1, number),
+        Instruction::GetByte => dead_at(masks, at + 1, number),
+        Instruction::Exit => dead_at(masks, at + 1, number),
+        Instruction::Return => dead_at(masks, at + 1, number),
+    }
+}
+
+/// An instruction, but `Nothing` where it writes a temporary that is dead after it.
+fn kept(mask: u8, instruction: Instruction) -> Instruction
+    ensures { result ≡ liveness.kept mask instruction }
+{
+    match written(instruction) {
+        Some(number) => {
+            if is_dead(mask, number) {
+                Instruction::Nothing
+            } else {
+                instruction
+            }
+        }
+        None => instruction,
+    }
+}
+
+/// The code without dead stores.
+pub fn swept(
+    alloc: Global,
+    masks: &[u8],
+    code: &[Instruction],
+) -> Result<Vec<Instruction>, AllocError>
+    ensures { IfOk result (λ made. made.items ≡ liveness.swept masks.now zero code.now) }
+{
+    let mut made = Vec::with_capacity(alloc, code.len())?;
+    for number in 0..code.len() {
+        made.push(kept(mask_at(masks, number + 1), code[number]))?;
+    }
+    Ok(made)
+}
+
+/// Whether the mask of an instruction is right of a temporary.
+fn is_right(masks: &[u8], at: usize, instruction: Instruction, number: usize) -> bool
+    requires { at < 2 ^ 62 }
+    ensures { result ≡ liveness.is_right masks.now at instruction number }
+{
+    if dead_at(masks, at, number) {
+        !reads(number, kept(mask_at(masks, at + 1), instruction))
+            && (is_written(number, instruction) || dead_behind(masks, at, instruction, number))
+    } else {
+        true
+    }
+}
+
+fn all_right(masks: &[u8], at: usize, instruction: Instruction) -> bool
+    requires { at < 2 ^ 62 }
+    ensures { result ≡ liveness.all_right masks.now at instruction }
+{
+    is_right(masks, at, instruction, 0)
+        && is_right(masks, at, instruction, 1)
+        && is_right(masks, at, instruction, 2)
+        && is_right(masks, at, instruction, 3)
+        && is_right(masks, at, instruction, 4)
+        && is_right(masks, at, instruction, 5)
+        && is_right(masks, at, instruction, 6)
+        && is_right(masks, at, instruction, 7)
+}
+
+/// Whether all masks are right.
+fn are_right(masks: &[u8], code: &[Instruction]) -> bool
+    ensures { result ≡ liveness.are_right masks.now zero code.now }
+{
+    for number in 0..code.len() {
+        if !all_right(masks, number, code[number]) {
+            return false;
+        }
+    }
+    true
+}
+
+fn bit_of(number: usize) -> u8 {
+    if number < 8 { 1u8 << number as u32 } else { 0 }
+}
+
+fn bits_named(operand: Operand) -> u8 {
+    match operand {
+        Operand::Temporary(number) => bit_of(number),
+        Operand::Cell(_) => 0,
+        Operand::Constant(_) => 0,
+        Operand::Argument(_) => 0,
+    }
+}
+
+fn bits_through(location: Location) -> u8 {
+    match location {
+        Location::Statics(_) => 0,
+        Location::Frame(_) => 0,
+        Location::At(operand) => bits_named(operand),
+    }
+}
+
+/// The temporaries that an instruction reads.
+fn bits_read(instruction: Instruction) -> u8 {
+    match instruction {
+        Instruction::Nothing => 0,
+        Instruction::Move { source, .. } => bits_named(source),
+        Instruction::Compute { left, right, .. } => bits_named(left) | bits_named(right),
+        Instruction::Convert { source, .. } => bits_named(source),
+        Instruction::Load { from, .. } => bits_through(from),
+        Instruction::Store { source, to, .. } => bits_named(source) | bits_through(to),
+        Instruction::Address { of, .. } => bits_through(of),
+        Instruction::Element { array, index, .. } => bits_named(array) | bits_named(index),
+        Instruction::Jump(_) => 0,
+        Instruction::Branch { left, right, .. } => bits_named(left) | bits_named(right),
+        Instruction::Call(_) => 255,
+        Instruction::PutByte => 255,
+        Instruction::GetByte => 255,
+        Instruction::Exit => 255,
+        Instruction::Return => 255,
+    }
+}
+
+/// The mask before an instruction, by those of the instructions that it leads to.
+fn mask_before(masks: &[u8], at: usize, instruction: Instruction) -> u8
+    requires { at < 2 ^ 62 }
+{
+    let next = mask_at(masks, at + 1);
+    match instruction {
+        Instruction::Nothing => next,
+        Instruction::Jump(to) => mask_at(masks, to),
+        Instruction::Branch { to, .. } => next & mask_at(masks, to) & !bits_read(instruction),
+        _ => match written(instruction) {
+            Some(number) => {
+                if is_dead(next, number) {
+                    next
+                } else {
+                    (next | bit_of(number)) & !bits_read(instruction)
+                }
+            }
+            None => next & !bits_read(instruction),
+        },
+    }
+}
+
+/// Goes over the code once, from its end. Returns whether a mask changed.
+fn go_back(masks: &mut [u8], code: &[Instruction]) -> bool {
+    let mut changed = false;
+    for behind in 0..code.len() {
+        let number = code.len() - 1 - behind;
+        let mask = mask_before(masks, number, code[number]);
+        if number < masks.len() && masks[number] != mask {
+            masks[number] = mask;
+            changed = true;
+        }
+    }
+    changed
+}
+
+/// The analysis: the dead temporaries before each instruction. No contract depends on it.
+fn found(alloc: Global, code: &[Instruction]) -> Result<Vec<u8>, AllocError> {
+    let mut masks = Vec::new(alloc);
+    masks.resize(code.len(), 255)?;
+    for _ in 0..ROUNDS {
+        if !go_back(&mut masks, code) {
+            return Ok(masks);
+        }
+    }
+    Ok(masks)
+}
+
+/// The dead temporaries before each instruction; where the analysis came to no end, none.
+pub fn masks_of(alloc: Global, code: &[Instruction]) -> Result<Vec<u8>, AllocError>
+    ensures { IfOk result (λ masks. liveness.are_right masks.items zero code.now ≡ true) }
+{
+    let masks = found(alloc, code)?;
+    if are_right(&masks, code) {
+        Ok(masks)
+    } else {
+        Ok(Vec::new(alloc))
+    }
+}
