@@ -114,7 +114,7 @@ module _ (p : typed.Program) (f : flat.Program) (input : List ℕ) (made : IsFla
           returns = λ h.
               let one = better.returns (same.1 h) in
               let two = c.2.3.returns one.0 in
-              (two.0, λ j w ew. one.1 j (flat_run.word w) (two.1 j w ew));
+              (two.0, λ w ew. one.1 (flat_run.word w) (two.1 w ew));
         };
       })
 

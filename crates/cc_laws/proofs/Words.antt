@@ -26,7 +26,7 @@ use Rattle.lower_correct.proofs.History.{calls_pass_words, returns_pass_words}
 use Rattle.frames_code.specs.declared.code.Instruction.TheVariants as instruction
 use Rattle.frames_code.specs.Costs.{next_of}
 use Rattle.frames_code.specs.Run as flat
-use Rattle.frames.specs.Flattened.{before, behind, IsAtCall, HasItsWords}
+use Rattle.frames.specs.Flattened.{before, behind, IsAtCall, HasItsWords, HasItsResult}
 use Rattle.frames_correct.proofs.Runs.{run_both}
 use Rattle.select_correct.specs.Convention.{passed, AtEntry, AtReturn, KeepsConvention, IsInCallee, ComesToCall}
 use Rattle.cc_backend.specs.Runs.{IsInput}
@@ -202,7 +202,7 @@ module _ (stack : ℕ) (p : Program) (file frames : List ℕ) (made : IsFileOf s
     pub returned : IsReturned g.type.result result
     pub given : (x : ℕ) → result ≡ Some x → s.temporaries 0 ≡ Some (flat.word x)
 
-  left_with : (g : Function) (s : flat.State) (i : ℕ) (t : tac.State) (n : ℕ) (h : List Entry) → before q input i ≡ tac.running t → flat.active s ≡ tac.open_calls t → HasItsWords s t
+  left_with : (g : Function) (s : flat.State) (i : ℕ) (t : tac.State) (n : ℕ) (h : List Entry) → before q input i ≡ tac.running t → flat.active s ≡ tac.open_calls t → HasItsResult s t
       → HasComeTo p input n h → LeavesWord g t h → ReturnsWith g s
   left_with g s i t n h at same its done w = record {
     ticks = n;
@@ -211,10 +211,10 @@ module _ (stack : ℕ) (p : Program) (file frames : List ℕ) (made : IsFileOf s
     ends = subst (HasComeTo p input n) w.1 done;
     calls_are = sym (calls_of p q lowered input bytes defined i t at) ∙ sym same;
     returned = w.2;
-    given = λ x ex. its 0 x (w.3 x ex);
+    given = λ x ex. its x (w.3 x ex);
   }
 
-  return_goes : (g : Function) (s : flat.State) (i : ℕ) (t : tac.State) → before q input i ≡ tac.running t → flat.active s ≡ tac.open_calls t → HasItsWords s t
+  return_goes : (g : Function) (s : flat.State) (i : ℕ) (t : tac.State) → before q input i ≡ tac.running t → flat.active s ≡ tac.open_calls t → HasItsResult s t
       → (r : tac.Progress) → HasDone p q lowered input bytes defined r → ReturnsWord g t r → ReturnsWith g s
   return_goes g s i t at same its (tac.running u) done w = left_with g s i t done.0 u.history at same its done.1 w
   return_goes g s i t at same its (tac.ended status left history) done w = left_with g s i t done.0 history at same its done.1 w

@@ -34,10 +34,14 @@ CostsNoMore q f input n m =
 abbrev pub HasItsWords : flat_run.State → tac_run.State → Type 0
 HasItsWords s t = (k w : ℕ) → t.temporaries k ≡ Some (tac_run.word w) → s.temporaries k ≡ Some (flat_run.word w)
 
--- where flat code is about to call a function or to return, three-address code is too, with the same words in its temporaries
+-- the result
+abbrev pub HasItsResult : flat_run.State → tac_run.State → Type 0
+HasItsResult s t = (w : ℕ) → t.temporaries 0 ≡ Some (tac_run.word w) → s.temporaries 0 ≡ Some (flat_run.word w)
+
+-- where flat code is about to call a function, three-address code is too, with the same words in its temporaries; and to return, with the same result
 pub record IsAtCall (q : tac.Program) (f : flat.Program) (t : tac_run.State) (s : flat_run.State) : Type 0 where
   pub calls : (g : ℕ) → next_of f s ≡ Some (flat_instruction.Call g) → (tac_run.instruction_at q t ≡ Some (instruction.Call g)) × HasItsWords s t
-  pub returns : next_of f s ≡ Some flat_instruction.Return → (tac_run.instruction_at q t ≡ Some instruction.Return) × HasItsWords s t
+  pub returns : next_of f s ≡ Some flat_instruction.Return → (tac_run.instruction_at q t ≡ Some instruction.Return) × HasItsResult s t
 
 -- at each of m steps the calls, those that are active and one that begins or ends next, are those of the first run at one of its n
 abbrev pub HasItsCalls : tac.Program → flat.Program → List ℕ → (n m : ℕ) → Type 0

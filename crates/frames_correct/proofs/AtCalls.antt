@@ -117,5 +117,5 @@ module _ (q : Program) (f : flat_code.Program) (g : IsMadeOf q f) (t : State) (s
   pub at_call : IsAtCall q f t s
   at_call = record {
     calls = λ n e. (called (instruction_at q t) n (sym next_is ∙ e), words);
-    returns = λ e. (returned (instruction_at q t) (sym next_is ∙ e), words);
+    returns = λ e. (returned (instruction_at q t) (sym next_is ∙ e), words 0);
   }

@@ -390,7 +390,7 @@ module _ (p q : Program) (base : ℕ → ℕ) (pool : ℕ → List ℕ) (fill : 
     at_call : IsAtCall p q s (over d ds s)
     at_call = record {
       calls = λ g e. (call_met g (slice_get (function_at p s.frame.function).code s.frame.at) refl e, λ k v h. h);
-      returns = λ e. (return_met (slice_get (function_at p s.frame.function).code s.frame.at) refl e, λ k v h. h);
+      returns = λ e. (return_met (slice_get (function_at p s.frame.function).code s.frame.at) refl e, λ v h. h);
     }
 
   -- ---- from the beginning

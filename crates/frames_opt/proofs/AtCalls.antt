@@ -120,7 +120,7 @@ module _ (p q : Program) (kn : ℕ → ℕ → List Known) (masks : ℕ → List
   pub at_call : IsAtCall p q s (over u a s)
   at_call = record {
     calls = λ g e. on (slice_get (function_at p k).code i) refl (instruction.Call g) tt e;
-    returns = λ e. on (slice_get (function_at p k).code i) refl instruction.Return tt e;
+    returns = λ e. let r = on (slice_get (function_at p k).code i) refl instruction.Return tt e in (r.0, r.1 0);
   }
 
 same_running : (s t : State) → running s ≡ running t → s ≡ t

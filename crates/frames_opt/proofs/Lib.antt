@@ -9,3 +9,4 @@ pub mod Lists
 pub mod AtCalls
 pub mod Fitting
 pub mod Whole
+pub mod InTurn

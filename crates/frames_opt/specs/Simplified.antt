@@ -24,19 +24,37 @@ IsDefined stuck = ⊥
 abbrev pub HasItsValues : State → State → Type 0
 HasItsValues s t = (k : ℕ) (v : Value) → s.temporaries k ≡ Some v → t.temporaries k ≡ Some v
 
--- where the second is about to call a function or to return, the first is too, with the same in its temporaries
+-- the result
+abbrev pub HasItsResult : State → State → Type 0
+HasItsResult s t = (v : Value) → s.temporaries 0 ≡ Some v → t.temporaries 0 ≡ Some v
+
+-- where the second is about to call a function, the first is too, with the same in its temporaries; and to return, with the same result
 pub record IsAtCall (p q : Program) (s t : State) : Type 0 where
   pub calls : (g : ℕ) → next_of q t ≡ Some (instruction.Call g) → (next_of p s ≡ Some (instruction.Call g)) × HasItsValues s t
-  pub returns : next_of q t ≡ Some instruction.Return → (next_of p s ≡ Some instruction.Return) × HasItsValues s t
+  pub returns : next_of q t ≡ Some instruction.Return → (next_of p s ≡ Some instruction.Return) × HasItsResult s t
+
+abbrev pub RunsAlike : (p q : Program) → Type 0
+RunsAlike p q = (n : ℕ) (input : List ℕ) → DoesTheSame (run p n (start p input)) (run q n (start q input))
+
+abbrev pub CallsAlike : (p q : Program) → Type 0
+CallsAlike p q = (n : ℕ) (input : List ℕ) (s t : State) → run p n (start p input) ≡ running s → run q n (start q input) ≡ running t → IsAtCall p q s t
 
 -- program q is p made simpler: after each number of steps it has done the same, has the same calls active, and has cost no more; its frames have the
 -- same bytes, and the code of each function no more; it calls and returns only where p does
 pub record IsSimplified (p q : Program) : Type 0 where
-  pub runs : (n : ℕ) (input : List ℕ) → DoesTheSame (run p n (start p input)) (run q n (start q input))
-  pub at_calls : (n : ℕ) (input : List ℕ) (s t : State) → run p n (start p input) ≡ running s → run q n (start q input) ≡ running t → IsAtCall p q s t
+  pub runs : RunsAlike p q
+  pub at_calls : CallsAlike p q
   pub costs : (n : ℕ) (input : List ℕ) → IsDefined (run p n (start p input)) → spent q n (start q input) ≤ spent p n (start p input)
   pub frames : map frame_bytes q.functions ≡ map frame_bytes p.functions
   pub bytes : (k : ℕ) (f g : Function) → slice_get p.functions k ≡ Some f → slice_get q.functions k ≡ Some g → sum_by code_bytes g.code ≤ sum_by code_bytes f.code
   pub sound : IsSoundProgram p → IsSoundProgram q
   pub statics : q.statics ≡ p.statics
   pub main : q.main ≡ p.main
+
+-- what does the same as what does the same as a program does the same as the program
+abbrev pub AlikeInTurn : Type 0
+AlikeInTurn = (p q r : Program) → RunsAlike p q → CallsAlike p q → RunsAlike q r → CallsAlike q r → RunsAlike p r × CallsAlike p r
+
+-- and is defined where it is
+abbrev pub DefinedAlike : Type 0
+DefinedAlike = (p q : Program) → RunsAlike p q → (n : ℕ) (input : List ℕ) → IsDefined (run p n (start p input)) → IsDefined (run q n (start q input))

@@ -13,4 +13,4 @@ mod rules;
 
 pub use bytes::size_of;
 pub use functions::{simplify, simplify_function};
-pub use laws::functions_are_simplified;
+pub use laws::{alike_in_turn, defined_alike, functions_are_simplified};

@@ -9,3 +9,4 @@ mod weights;
 
 pub use functions::{renumber, renumber_function, word_numbers};
 pub use laws::{calls_alike, costs_alike, frames_alike, runs_alike, stays_sound};
+pub use weights::word_weights;

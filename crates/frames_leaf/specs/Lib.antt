@@ -1,0 +1,4 @@
+pub mod Allocated
+pub mod layer
+pub use Rattle.frames_code.specs.Sound
+pub use Rattle.frames_code.specs.Costs
