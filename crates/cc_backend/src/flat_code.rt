@@ -11,6 +11,7 @@ ghost use Rattle.cc_backend.specs.inside.FlatFunctions.{IsFlatFunctionOf, AreFla
 use frames::{Starts, data_alone, flatten_function};
 use frames_code::FlatProgram;
 use frames_hoist::hoist_function;
+use frames_leaf::allocate_leaf;
 use frames_opt::simplify_function;
 use frames_regalloc::renumber_function;
 use srcset::Fault;
@@ -43,7 +44,8 @@ fn flat_function(
     drop(code);
     let simple = simplify_function(alloc, long)?;
     let hoisted = hoist_function(alloc, simple)?;
-    renumber_function(alloc, &hoisted)
+    let allocated = allocate_leaf(alloc, hoisted)?;
+    renumber_function(alloc, &allocated)
 }
 
 fn flat_functions(

@@ -6,6 +6,7 @@ ghost use Rattle.cc_backend.specs.Made.{IsReady};
 
 use frames::{Home, Starts, flatten_function, object_homes};
 use frames_hoist::hoist_function;
+use frames_leaf::{allocate_leaf, leaf_words};
 use frames_opt::simplify_function;
 use frames_regalloc::word_numbers;
 use std::alloc::{AllocError, Global};
@@ -15,7 +16,7 @@ use typed_ast::{Function, ObjectType, ParameterType, Program};
 /// Where an object of a call lives while its function runs, or the address that an array parameter refers to.
 #[derive(Clone, Copy, Debug, PartialEq, Eq)]
 pub enum ObjectHome {
-    /// In a register of the machine, by its number: s0 to s11.
+    /// In a register of the machine, by its number: s0 to s11, or in a function that calls nothing also a1 to a7.
     Register(u32),
     /// In the frame, at this offset in bytes above the stack pointer.
     Frame(u32),
@@ -34,6 +35,7 @@ pub struct FunctionHomes {
 #[derive(Drop)]
 struct Words {
     numbers: Vec<usize>,
+    temporaries: Vec<Option<usize>>,
     resident: usize,
     outgoing: usize,
 }
@@ -59,8 +61,11 @@ impl Words {
         low_word(self.outgoing.wrapping_add(1).wrapping_add(number)).wrapping_mul(4)
     }
 
-    /// Where a word lives.
+    /// Where a word lives. Temporaries 0 to 7 are a0 to a7, which are x10 to x17.
     fn home(&self, word: usize) -> ObjectHome {
+        if let Some(Some(temporary)) = self.temporaries.get(word) {
+            return ObjectHome::Register(low_word(*temporary).wrapping_add(10));
+        }
         let number = self.numbers.get(word).copied().unwrap_or(0);
         if number < self.resident {
             ObjectHome::Register(register_of(number))
@@ -131,10 +136,13 @@ fn homes_of(
     drop(code);
     let simple = simplify_function(alloc, long)?;
     let hoisted = hoist_function(alloc, simple)?;
+    let temporaries = leaf_words(alloc, &hoisted)?;
+    let allocated = allocate_leaf(alloc, hoisted)?;
     let words = Words {
-        numbers: word_numbers(alloc, &hoisted)?,
+        numbers: word_numbers(alloc, &allocated)?,
+        temporaries,
         resident: flat.map_or(0, |flat| flat.resident),
-        outgoing: hoisted.outgoing,
+        outgoing: allocated.outgoing,
     };
     lived_in(alloc, function, homes.as_slice(), &words)
 }

@@ -7,6 +7,7 @@ ghost use Rattle.cc_backend.specs.Made.{IsReady};
 use frames::{Starts, data_alone, flatten_function};
 use frames_code::FlatProgram;
 use frames_hoist::hoist_function;
+use frames_leaf::allocate_leaf;
 use frames_opt::simplify_function;
 use frames_regalloc::renumber_function;
 use std::alloc::{AllocError, Global};
@@ -22,6 +23,8 @@ pub enum Pass {
     Simplify,
     /// Constants that loops use are in words of the frame.
     Hoist,
+    /// Words of functions that call nothing are in those of a1 to a7 that are free.
+    AllocateLeaf,
     /// The words that are used most are in s0 to s11.
     Renumber,
 }
@@ -52,7 +55,11 @@ fn function_after(
     if pass == Pass::Hoist {
         return Ok(hoisted);
     }
-    renumber_function(alloc, &hoisted)
+    let allocated = allocate_leaf(alloc, hoisted)?;
+    if pass == Pass::AllocateLeaf {
+        return Ok(allocated);
+    }
+    renumber_function(alloc, &allocated)
 }
 
 fn functions_after(

@@ -8,6 +8,7 @@ use Rattle.frames.specs.Layout.{Starts}
 use Rattle.frames.specs.Translated.{flat_function}
 use Rattle.frames_opt.specs.layer.Functions.{IsSimplerFunction}
 use Rattle.frames_hoist.specs.layer.Functions.{IsHoistedFunction}
+use Rattle.frames_leaf.specs.layer.Functions.{IsLeafAllocated}
 use Rattle.frames_regalloc.specs.Renumbered.{IsRenumberedFunction}
 
 -- h is flat code of f, which is main or is not, where literals and static objects begin at s
@@ -18,7 +19,9 @@ pub record IsFlatFunctionOf (p : typed.Program) (s : Starts) (is_main : Bool) (f
   pub simplified : IsSimplerFunction (flat_function s code) simpler
   pub better : flat.Function
   pub hoisted : IsHoistedFunction simpler better
-  pub renumbered : IsRenumberedFunction better h
+  pub last : flat.Function
+  pub allocated : IsLeafAllocated better last
+  pub renumbered : IsRenumberedFunction last h
 
 -- these are flat code of the first `number` of the functions of a program
 pub record AreFlatFunctionsOf (p : typed.Program) (s : Starts) (number : ℕ) (all : List flat.Function) : Type 0 where
