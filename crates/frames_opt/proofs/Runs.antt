@@ -73,8 +73,8 @@ module _ (p q : Program) (kn : ℕ → ℕ → List Known) (masks : ℕ → List
       alike =
           ⊎_elim
           (λ e.
-              let unread : (j : ℕ) → dead_at (masks k) i j ≡ true → reads j c.half ≡ false = λ j g. ap (reads j) (sym e) ∙ c.unread j g in
-              subst (λ w. Match dead (act p s c.half) (act q t w)) (sym e) (act_alike p q simple.sized dead s u a (masks k) behind c.half agree (record { unread = unread; leads = c.leads })))
+          let unread : (j : ℕ) → dead_at (masks k) i j ≡ true → reads j c.half ≡ false = λ j g. ap (reads j) (sym e) ∙ c.unread j g in
+          subst (λ w. Match dead (act p s c.half) (act q t w)) (sym e) (act_alike p q simple.sized dead s u a (masks k) behind c.half agree (record { unread = unread; leads = c.leads })))
           (λ d. subst (λ w. Match dead (act p s c.half) (act q t w)) (sym d.is) (left_out_alike p q simple.sized dead s u a (masks k) behind c.half c.done d.number d.lost agree (record { unread = c.unread; leads = c.leads }) d.writes))
           c.out
 
