@@ -1,5 +1,5 @@
 -- States of a program and of one in which words of leaf functions live in temporaries.
-use Rattle.std.proofs.Common.{◌≡◌, ◌≤◌, ◌<◌, ◌⊎◌, inl, inr, ⊎_elim, ℕ, zero, suc, ◌+◌, List, [], ◌∷◌, map, Option, Some, None, Bool, true, false, refl, sym, ap, ◌∙◌, subst, arith}
+use Rattle.std.proofs.Common.{◌≡◌, ◌≤◌, ◌<◌, ◌⊎◌, ⊎_elim, ℕ, ◌+◌, List, [], ◌∷◌, map, Option, Some, None, Bool, true, false, refl, sym, ap, ◌∙◌, subst, arith}
 use Rattle.std.specs.Prelude.{◌==◌, if◌then◌else◌, slice_get}
 use Rattle.std.proofs.lemmas.Bool.{eqb-true, eqb-false, ne_eqb}
 use Rattle.frames_code.specs.declared.code.Operand.{Operand}
@@ -10,7 +10,7 @@ use Rattle.frames_code.specs.declared.code.Location.{Location}
 use Rattle.frames_code.specs.declared.code.Location.TheVariants as location
 use Rattle.frames_code.specs.declared.code.Instruction.{Instruction}
 use Rattle.frames_code.specs.declared.code.Instruction.TheVariants as instruction
-use Rattle.frames_code.specs.Code.{Function, Program}
+use Rattle.frames_code.specs.Code.{Program}
 use Rattle.frames_code.specs.Run.{Value, Values, Frame, State, Reference, Progress, running, ended, stuck, value, word_in, reference_in, set, with_at, function_at, ◌>>=◌}
 use Rattle.frames_leaf.specs.layer.Moving.{home_of, operand_in, target_in, moved_operand, moved_target, moved}
 use Rattle.frames_leaf.specs.layer.Functions.{with_code}
@@ -28,16 +28,16 @@ none_home t words c e = ap (λ ws. home_of t ws c) e
 
 least : (t : ℕ) (words : List ℕ) (c u : ℕ) → home_of t words c ≡ Some u → t ≤ u
 least t [] c u e = absurd (no_some u e)
-least t (w ∷ words) c u e = on (w == c) refl
+least t (w ∷ words) c u e = on (least (t + 1) words c u) (w == c) refl
   where
-    on : (b : Bool) → (w == c) ≡ b → t ≤ u
-    on true g = let same : t ≡ u = same_some t u (ap (λ b. if b then Some t else home_of (t + 1) words c) (sym g) ∙ e) in omega (arith, same)
-    on false g = let le = least (t + 1) words c u (ap (λ b. if b then Some t else home_of (t + 1) words c) (sym g) ∙ e) in omega (arith, le)
+    on : (home_of (t + 1) words c ≡ Some u → t + 1 ≤ u) → (b : Bool) → (w == c) ≡ b → t ≤ u
+    on later true g = let same : t ≡ u = same_some t u (ap (λ b. if b then Some t else home_of (t + 1) words c) (sym g) ∙ e) in omega (arith, same)
+    on later false g = let le = later (ap (λ b. if b then Some t else home_of (t + 1) words c) (sym g) ∙ e) in omega (arith, le)
 
 -- no two words live in one temporary
 same_word : (t : ℕ) (words : List ℕ) (c d u : ℕ) → home_of t words c ≡ Some u → home_of t words d ≡ Some u → c ≡ d
 same_word t [] c d u e h = absurd (no_some u e)
-same_word t (w ∷ words) c d u e h = on (w == c) (w == d) refl refl
+same_word t (w ∷ words) c d u e h = on (same_word (t + 1) words c d u) (w == c) (w == d) refl refl
   where
     first : (b : Bool) → (w == c) ≡ b → (if b then Some t else home_of (t + 1) words c) ≡ Some u
     first b g = ap (λ b. if b then Some t else home_of (t + 1) words c) (sym g) ∙ e
@@ -45,11 +45,11 @@ same_word t (w ∷ words) c d u e h = on (w == c) (w == d) refl refl
     second : (b : Bool) → (w == d) ≡ b → (if b then Some t else home_of (t + 1) words d) ≡ Some u
     second b g = ap (λ b. if b then Some t else home_of (t + 1) words d) (sym g) ∙ h
 
-    on : (a b : Bool) → (w == c) ≡ a → (w == d) ≡ b → c ≡ d
-    on true true f g = sym (eqb-true w c f) ∙ eqb-true w d g
-    on true false f g = absurd (let same : t ≡ u = same_some t u (first true f) in let le = least (t + 1) words d u (second false g) in omega (arith, same, le))
-    on false true f g = absurd (let same : t ≡ u = same_some t u (second true g) in let le = least (t + 1) words c u (first false f) in omega (arith, same, le))
-    on false false f g = same_word (t + 1) words c d u (first false f) (second false g)
+    on : (home_of (t + 1) words c ≡ Some u → home_of (t + 1) words d ≡ Some u → c ≡ d) → (a b : Bool) → (w == c) ≡ a → (w == d) ≡ b → c ≡ d
+    on later true true f g = sym (eqb-true w c f) ∙ eqb-true w d g
+    on later true false f g = absurd (let same : t ≡ u = same_some t u (first true f) in let le = least (t + 1) words d u (second false g) in omega (arith, same, le))
+    on later false true f g = absurd (let same : t ≡ u = same_some t u (second true g) in let le = least (t + 1) words c u (first false f) in omega (arith, same, le))
+    on later false false f g = later (first false f) (second false g)
 
 -- ---- what an instruction names
 

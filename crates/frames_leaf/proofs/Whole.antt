@@ -1,11 +1,10 @@
 -- A program of functions with words in temporaries does what the program does, at no more cost, and is as sound.
-use Rattle.std.proofs.Common.{◌≡◌, ◌≤◌, ◌<◌, inl, inr, ℕ, zero, suc, ◌+◌, ◌*◌, ◌^◌, List, [], ◌∷◌, length, map, Option, Some, None, Bool, true, false, refl, sym, ap, ◌∙◌, subst, arith}
+use Rattle.std.proofs.Common.{◌≡◌, ◌≤◌, ◌<◌, inl, inr, ℕ, zero, suc, ◌+◌, List, [], ◌∷◌, length, map, Option, Some, None, Bool, true, false, refl, sym, ap, ◌∙◌, subst, arith}
 use Rattle.std.specs.Prelude.{◌==◌, ◌&&◌, if◌then◌else◌, nat_lt, max, sum_by, slice_get}
 use Rattle.std.specs.List.{list_all}
 use Rattle.std.proofs.lemmas.Bool.{ltb-true}
 use Rattle.std.proofs.lemmas.List.{length-map}
 use Rattle.std.proofs.lemmas.List.Sums.{sum_by-cons}
-use Rattle.std.proofs.lemmas.Option.{slice_get-map}
 use Rattle.frames_code.specs.declared.code.Operand.{Operand}
 use Rattle.frames_code.specs.declared.code.Operand.TheVariants as operand
 use Rattle.frames_code.specs.declared.code.Target.{Target}
@@ -18,11 +17,11 @@ use Rattle.frames_code.specs.Code.{Function, Program, frame_bytes}
 use Rattle.frames_code.specs.Costs.{entry_cost_of}
 use Rattle.frames_code.specs.Run.{function_at}
 use Rattle.frames_code.specs.Sound.{OperandFits, TargetFits, LocationFits, InstructionFits, FunctionFits, IsSoundProgram, places_of}
-use Rattle.frames.specs.Costs.{temporary_bytes, fetch_bytes, keep_bytes, move_bytes, reach_bytes, reference_bytes, scale_bytes, code_bytes, function_bytes_in}
+use Rattle.frames.specs.Costs.{temporary_bytes, fetch_bytes, keep_bytes, move_bytes, reach_bytes, reference_bytes, code_bytes, function_bytes_in}
 use Rattle.frames_leaf.specs.Allocated.{IsAllocated}
 use Rattle.frames_leaf.specs.layer.Moving.{names_below, writes_below, lies_below, is_leaf, home_of, operand_in, target_in, moved_operand, moved_target, moved_location, moved}
-use Rattle.frames_leaf.specs.layer.Functions.{with_code, IsMoved, IsLeafAllocated, stayed, changed, AreLeafAllocated}
-use Rattle.frames_leaf.proofs.Agreeing.{Named, OperandNamed, TargetNamed, LocationNamed, IsNamed, AreAlike}
+use Rattle.frames_leaf.specs.layer.Functions.{with_code, IsLeafAllocated, stayed, changed, AreLeafAllocated}
+use Rattle.frames_leaf.proofs.Agreeing.{OperandNamed, TargetNamed, LocationNamed, IsNamed, AreAlike}
 use Rattle.frames_leaf.proofs.Running.{runs, costs, at_calls}
 
 -- ---- tests
@@ -332,14 +331,14 @@ bytes_in (x ∷ xs) (y ∷ ys) r (suc k) f g e e2 = bytes_in xs ys r.1 k f g e e
 
 within : (t : ℕ) (words : List ℕ) (c u : ℕ) → home_of t words c ≡ Some u → u < t + length words
 within t [] c u e = absurd (let z : ⊥ = cc in z)
-within t (w ∷ words) c u e = on (w == c) refl
+within t (w ∷ words) c u e = on (within (t + 1) words c u) (w == c) refl
   where
     same_some : (a b : ℕ) → Some a ≡ Some b → a ≡ b
     same_some a b h = cc
 
-    on : (b : Bool) → (w == c) ≡ b → u < t + suc (length words)
-    on true g = let same : t ≡ u = same_some t u (ap (λ b. if b then Some t else home_of (t + 1) words c) (sym g) ∙ e) in omega (arith, same)
-    on false g = let lt = within (t + 1) words c u (ap (λ b. if b then Some t else home_of (t + 1) words c) (sym g) ∙ e) in omega (arith, lt)
+    on : (home_of (t + 1) words c ≡ Some u → u < t + 1 + length words) → (b : Bool) → (w == c) ≡ b → u < t + suc (length words)
+    on later true g = let same : t ≡ u = same_some t u (ap (λ b. if b then Some t else home_of (t + 1) words c) (sym g) ∙ e) in omega (arith, same)
+    on later false g = let lt = later (ap (λ b. if b then Some t else home_of (t + 1) words c) (sym g) ∙ e) in omega (arith, lt)
 
 module _ (n : ℕ) (f : Function) (t : ℕ) (words : List ℕ) (few : t + length words ≤ 8) where
   abbrev g : Function

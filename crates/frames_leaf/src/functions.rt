@@ -34,13 +34,13 @@ fn words_of(alloc: Global, function: &Function) -> Result<Option<Words>, AllocEr
     Ok(Some(Words { first, list }))
 }
 
-/// A function, where it calls nothing with the words that are used most in those of the temporaries 1 to 7 that it does not name; as it was, where it calls.
-pub fn allocate_leaf(alloc: Global, function: Function) -> Result<Function, AllocError>
-    ensures { IfOk result (λ g. IsLeafAllocated (function_of function) (function_of g)) }
+/// A leaf function with these words in temporaries.
+fn with_words(alloc: Global, function: Function, words: &Words) -> Result<Function, AllocError>
+    requires some { 0 < words.now.first }
+    requires few { words.now.first + length words.now.list.items ≤ 8 }
+    requires leaf { list_all (is_leaf words.now.first) function.code.items ≡ true }
+    ensures { IfOk result (λ g. IsMoved (function_of function) (function_of g)) }
 {
-    let Some(words) = words_of(alloc, &function)? else {
-        return Ok(function);
-    };
     let code = all_moved(alloc, words.first, &words.list, &function.code)?;
     Ok(Function {
         code,
@@ -51,17 +51,46 @@ pub fn allocate_leaf(alloc: Global, function: Function) -> Result<Function, Allo
     })
 }
 
+/// A function, where it calls nothing with the words that are used most in those of the temporaries 1 to 7 that it does not name; as it was, where it calls.
+pub fn allocate_leaf(alloc: Global, function: Function) -> Result<Function, AllocError>
+    ensures { IfOk result (λ g. IsLeafAllocated (function_of function) (function_of g)) }
+{
+    match words_of(alloc, &function)? {
+        Some(words) => {
+            let made = with_words(alloc, function, &words)?;
+            Ok(made)
+        }
+        None => Ok(function),
+    }
+}
+
+/// For each of so many words the temporary that it lives in, if it does.
+fn homes_in(
+    alloc: Global,
+    first: usize,
+    words: &[usize],
+    count: usize,
+) -> Result<Vec<Option<usize>>, AllocError>
+    requires { first + length words.now ≤ 8 }
+    ensures { IfOk result (λ homes. length homes.items ≡ count) }
+{
+    let mut homes = Vec::with_capacity(alloc, count)?;
+    for word in 0..count {
+        homes.push(home_of(first, words, word))?;
+    }
+    Ok(homes)
+}
+
 /// For each word of a function's frame, by its number, the temporary that `allocate_leaf` puts it into, if it does. It is for debuggers.
 pub fn leaf_words(alloc: Global, function: &Function) -> Result<Vec<Option<usize>>, AllocError>
     ensures { IfOk result (λ homes. length homes.items ≡ function.now.cells) }
 {
-    let words = words_of(alloc, function)?;
-    let mut homes = Vec::with_capacity(alloc, function.cells)?;
-    for word in 0..function.cells {
-        homes.push(match &words {
-            Some(words) => home_of(words.first, &words.list, word),
-            None => None,
-        })?;
+    match words_of(alloc, function)? {
+        Some(words) => homes_in(alloc, words.first, &words.list, function.cells),
+        None => {
+            let mut homes = Vec::new(alloc);
+            homes.resize(function.cells, None)?;
+            Ok(homes)
+        }
     }
-    Ok(homes)
 }
