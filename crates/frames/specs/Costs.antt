@@ -35,20 +35,22 @@ keep_bytes (target.Cell c) = 12
 abbrev pub move_bytes : Target → Operand → ℕ
 move_bytes d x = max 4 (fetch_bytes x + keep_bytes d)
 
+-- to go on by elements of this size: a shift, or a product, but for one byte
+abbrev pub scale_bytes : ℕ → ℕ
+scale_bytes size = if size == 1 then 4 else (if size == 2 then 8 else (if size == 4 then 8 else 16))
+
 -- before an access
 abbrev pub reach_bytes : Location → ℕ
 reach_bytes (location.Statics o) = 8
 reach_bytes (location.Frame o) = 8
 reach_bytes (location.At x) = fetch_bytes x
+reach_bytes (location.Indexed b y size) = fetch_bytes y + scale_bytes size
 
 abbrev pub reference_bytes : Target → Location → ℕ
 reference_bytes d (location.Statics o) = 8 + keep_bytes d
 reference_bytes d (location.Frame o) = 12 + keep_bytes d
 reference_bytes d (location.At x) = move_bytes d x
-
--- to go on by elements of this size: a shift, or a product, but for one byte
-abbrev pub scale_bytes : ℕ → ℕ
-scale_bytes size = if size == 1 then 4 else (if size == 2 then 8 else (if size == 4 then 8 else 16))
+reference_bytes d (location.Indexed b y size) = fetch_bytes y + (scale_bytes size + (4 + keep_bytes d))
 
 abbrev pub code_bytes : Instruction → ℕ
 code_bytes instruction.Nothing = 0

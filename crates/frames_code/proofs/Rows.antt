@@ -8,7 +8,8 @@ use Rattle.csem_events.specs.Events.{Got, GotEnd, Put}
 use Rattle.frames_code.specs.declared.code.Operand.TheVariants.{Temporary as temporary, Cell as cell, Constant as constant, Argument as argument}
 use Rattle.frames_code.specs.declared.code.Target.TheVariants.{Temporary as to_temporary, Cell as to_cell}
 use Rattle.frames_code.specs.declared.code.Width.TheVariants.{Byte as byte, SignedByte as signed_byte, Half as half, SignedHalf as signed_half, Word as word}
-use Rattle.frames_code.specs.declared.code.Location.TheVariants.{Statics as in_statics, Frame as in_frame, At as at}
+use Rattle.frames_code.specs.declared.code.Base.TheVariants.{Statics as from_statics, Frame as from_frame}
+use Rattle.frames_code.specs.declared.code.Location.TheVariants.{Statics as in_statics, Frame as in_frame, At as at, Indexed as indexed}
 use Rattle.frames_code.specs.declared.code.Operation.TheVariants.{Machine as machine, Equal as equal, NotEqual as not_equal}
 use Rattle.frames_code.specs.declared.code.Conversion.TheVariants.{ToSignedByte as to_signed_byte, ToTruth as to_truth}
 use Rattle.frames_code.specs.declared.code.Instruction.TheVariants.{Nothing as nothing, Move as move, Compute as compute, Convert as convert, Load as load, Store as store, Address as address, Element as element, Jump as jump, Branch as branch, Call as call, PutByte as put_byte, GetByte as get_byte, Exit as exit, Return as return}
@@ -177,6 +178,24 @@ statics_begin_with_their_bytes :
     run p 5 (start p []) ≡ ended 7 [] []
 unfolding step
 statics_begin_with_their_bytes = refl
+
+-- static unsigned char s[] = { 9, 1, 2 }; int i = 1; s[i + 1] = 5; return s[i] + s[i + 1];
+indexed_static :
+    let p : Program = record { functions = with_cells 2 (move (to_cell 0) (constant 1) ∷ store byte (constant 5) (indexed (from_statics 1) (cell 0) 1) ∷ load byte (to_cell 1) (indexed (from_statics 0) (cell 0) 1) ∷ load byte t0 (in_statics 2) ∷ add t0 (temporary 0) (cell 1) ∷ return ∷ []) ∷ []; statics = 9 ∷ 1 ∷ 2 ∷ []; main = 0 } in
+    run p 6 (start p []) ≡ ended 6 [] []
+unfolding step
+indexed_static = refl
+
+-- short a[3]; int i = 1; a[i + 1] = 7; return a[2];
+indexed_in_the_frame :
+    run_of (whole (with_area 0 6 (move (to_temporary 1) (constant 1) ∷ store half (constant 7) (indexed (from_frame 2) (temporary 1) 2) ∷ load half t0 (in_frame 4) ∷ return ∷ []) ∷ [])) 4 ≡ ended 7 [] []
+unfolding step
+indexed_in_the_frame = refl
+
+-- an index that was never set
+index_unset : run_of (whole (with_area 1 4 (store byte (constant 1) (indexed (from_frame 0) (cell 0) 1) ∷ return ∷ []) ∷ [])) 2 ≡ stuck
+unfolding step
+index_unset = refl
 
 -- a call of rv_exit ends all calls
 exit_ends_all :

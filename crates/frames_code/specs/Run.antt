@@ -9,6 +9,8 @@ use Rattle.frames_code.specs.declared.code.Target.{Target}
 use Rattle.frames_code.specs.declared.code.Target.TheVariants as target
 use Rattle.frames_code.specs.declared.code.Width.{Width}
 use Rattle.frames_code.specs.declared.code.Width.TheVariants as width
+use Rattle.frames_code.specs.declared.code.Base.{Base}
+use Rattle.frames_code.specs.declared.code.Base.TheVariants as base
 use Rattle.frames_code.specs.declared.code.Location.{Location}
 use Rattle.frames_code.specs.declared.code.Location.TheVariants as location
 use Rattle.frames_code.specs.declared.code.Operation.{Operation}
@@ -222,11 +224,21 @@ with_memory p s (suc l) b = with_frames s (changed_among p (s.frame ∷ s.waitin
 abbrev pub fits : Width → ℕ → Memory → Bool
 fits w o m = (o % size_of w == 0) && (nat_le m.first o && nat_le (o + size_of w) m.past)
 
+abbrev pub base_of : Program → State → Base → Reference
+base_of p s (base.Statics o) = record { list = 0; offset = o }
+base_of p s (base.Frame o) = record { list = name_of p s.frame s.waiting; offset = area_home (function_at p s.frame.function) + o }
+
+-- a number of elements further on
+abbrev pub indexed : Reference → ℕ → Option ℕ → Option Reference
+indexed r size None = None
+indexed r size (Some n) = Some (record { list = r.list; offset = r.offset + n * size })
+
 abbrev pub place : Program → State → Location → Option Reference
 place p s (location.Statics o) = Some (record { list = 0; offset = o })
 place p s (location.Frame o) =
     Some (record { list = name_of p s.frame s.waiting; offset = area_home (function_at p s.frame.function) + o })
 place p s (location.At x) = reference_in (value s x)
+place p s (location.Indexed b y size) = indexed (base_of p s b) size (word_at s y)
 
 abbrev pub loaded : Program → State → Width → Target → Reference → Progress
 loaded p s w d r =

@@ -1,14 +1,17 @@
 -- Which flat programs are sound: each instruction names only parts that its function has. The precondition of `select`.
-use Rattle.std.specs.Prelude.{◌≡◌, ◌≤◌, ◌<◌, ℕ, ◌+◌, ◌*◌, ◌-◌, ◌^◌, List, length, slice_get, sum_by, Some}
+use Rattle.std.specs.Prelude.{◌≡◌, ◌≤◌, ◌<◌, ◌&&◌, ◌==◌, nat_lt, Bool, true, ℕ, ◌+◌, ◌*◌, ◌-◌, ◌^◌, List, length, slice_get, sum_by, Some}
+use Rattle.std.specs.Int.{w32, trailing_zeros}
 use Rattle.frames_code.specs.declared.code.Operand.{Operand}
 use Rattle.frames_code.specs.declared.code.Operand.TheVariants as operand
 use Rattle.frames_code.specs.declared.code.Target.{Target}
 use Rattle.frames_code.specs.declared.code.Target.TheVariants as target
+use Rattle.frames_code.specs.declared.code.Base.{Base}
+use Rattle.frames_code.specs.declared.code.Base.TheVariants as base
 use Rattle.frames_code.specs.declared.code.Location.{Location}
 use Rattle.frames_code.specs.declared.code.Location.TheVariants as location
 use Rattle.frames_code.specs.declared.code.Instruction.{Instruction}
 use Rattle.frames_code.specs.declared.code.Instruction.TheVariants as instruction
-use Rattle.frames_code.specs.Code.{Function, Program, frame_bytes}
+use Rattle.frames_code.specs.Code.{Function, Program, area_home, frame_bytes}
 
 -- the most bytes of a frame, and of arguments from the ninth on: the size of the greatest stack
 abbrev pub most_bytes : ℕ
@@ -24,11 +27,28 @@ abbrev pub TargetFits : Function → Target → Type 0
 TargetFits f (target.Temporary k) = k < 8 + f.outgoing
 TargetFits f (target.Cell c) = c < f.cells
 
--- an offset in the statics is one that an item may name
+-- a power of two is that of the number of zeros that its digits end with
+abbrev pub is_power_of_two : ℕ → Bool
+is_power_of_two size = nat_lt (trailing_zeros w32 size) 32 && (2 ^ trailing_zeros w32 size == size)
+
+-- within the reach of 12 bits, from gp and from sp
+abbrev pub BaseFits : Function → Base → Type 0
+BaseFits f (base.Statics o) = o < 0x1000
+BaseFits f (base.Frame o) = (o < f.area) × (area_home f + o < 0x800)
+
+abbrev pub IndexFits : Function → Operand → Type 0
+IndexFits f (operand.Temporary k) = k < 8 + f.outgoing
+IndexFits f (operand.Cell c) = c < f.cells
+IndexFits f (operand.Constant v) = ⊥
+IndexFits f (operand.Argument k) = ⊥
+
+-- An offset in the statics is one that an item may name. For an access to be as cheap as one by a reference, an index is multiplied by a shift, and all words of the
+-- frame are within the reach of 12 bits.
 abbrev pub LocationFits : Function → Location → Type 0
 LocationFits f (location.Statics o) = o < 0x10000000
 LocationFits f (location.Frame o) = o < f.area
 LocationFits f (location.At x) = OperandFits f x
+LocationFits f (location.Indexed b y size) = BaseFits f b × IndexFits f y × (is_power_of_two size ≡ true) × (area_home f ≤ 0x800)
 
 -- in function f of a program of n functions
 abbrev pub InstructionFits : ℕ → Function → Instruction → Type 0

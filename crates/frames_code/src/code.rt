@@ -37,6 +37,15 @@ pub enum Width {
     Word,
 }
 
+/// Where an array begins, in bytes.
+#[derive(Clone, Copy, Debug, PartialEq, Eq)]
+pub enum Base {
+    /// From the start of the statics.
+    Statics(usize),
+    /// From the start of the arrays of the frame.
+    Frame(usize),
+}
+
 /// Where an element lies.
 #[derive(Clone, Copy, Debug, PartialEq, Eq)]
 pub enum Location {
@@ -46,6 +55,12 @@ pub enum Location {
     Frame(usize),
     /// The target of a reference.
     At(Operand),
+    /// A number of elements of `size` bytes from a base on.
+    Indexed {
+        base: Base,
+        index: Operand,
+        size: usize,
+    },
 }
 
 /// An operation on two words.

@@ -4,5 +4,6 @@
 mod code;
 
 pub use code::{
-    Conversion, FlatProgram, Function, Instruction, Location, Operand, Operation, Target, Width,
+    Base, Conversion, FlatProgram, Function, Instruction, Location, Operand, Operation, Target,
+    Width,
 };

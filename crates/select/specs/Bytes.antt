@@ -35,19 +35,21 @@ abbrev pub move_bytes : Home → Source → ℕ
 move_bytes (home.Register r) x = into_bytes x
 move_bytes (home.Frame o) x = fetch_bytes x + word_bytes o
 
+-- to advance by elements of this size: a sum, after a shift or a product with a constant, except for one byte
+abbrev pub scale_bytes : ℕ → ℕ
+scale_bytes size = if size == 1 then 4 else (if size == 2 then 8 else (if size == 4 then 8 else 16))
+
 abbrev pub reach_bytes : Function → Location → ℕ
 reach_bytes f (location.Statics o) = 8
 reach_bytes f (location.Frame o) = 8
 reach_bytes f (location.At x) = fetch_bytes (source_of f x)
+reach_bytes f (location.Indexed b y size) = fetch_bytes (source_of f y) + scale_bytes size
 
 abbrev pub reference_bytes : Function → Home → Location → ℕ
 reference_bytes f d (location.Statics o) = 8 + keep_bytes d
 reference_bytes f d (location.Frame o) = 12 + keep_bytes d
 reference_bytes f d (location.At x) = move_bytes d (source_of f x)
-
--- to advance by elements of this size: a sum, after a shift or a product with a constant, except for one byte
-abbrev pub scale_bytes : ℕ → ℕ
-scale_bytes size = if size == 1 then 4 else (if size == 2 then 8 else (if size == 4 then 8 else 16))
+reference_bytes f d (location.Indexed b y size) = fetch_bytes (source_of f y) + (scale_bytes size + (4 + keep_bytes d))
 
 -- the homes of the first n resident words
 abbrev pub saved_bytes : Function → ℕ → ℕ

@@ -24,6 +24,8 @@ use Rattle.frames_code.specs.declared.code.Target.{Target}
 use Rattle.frames_code.specs.declared.code.Target.TheVariants as target
 use Rattle.frames_code.specs.declared.code.Width.{Width}
 use Rattle.frames_code.specs.declared.code.Width.TheVariants as width
+use Rattle.frames_code.specs.declared.code.Base.{Base}
+use Rattle.frames_code.specs.declared.code.Base.TheVariants as base
 use Rattle.frames_code.specs.declared.code.Location.{Location}
 use Rattle.frames_code.specs.declared.code.Location.TheVariants as location
 use Rattle.frames_code.specs.declared.code.Operation.{Operation}
@@ -221,21 +223,57 @@ narrow conversion.ToTruth rd a = operate_on register_op.LessUnsigned rd 0 a ∷ 
 abbrev pub convert : Conversion → Home → Source → List Item
 convert c d x = fetch 5 x ++ (narrow c (made_in d) (register_of 5 x) ++ keep d)
 
--- the items before an access to an element, its base register, and its offset in bytes; x6 is free
+-- k, where it is below 32 and the size is 2 to the power of it
+abbrev pub power_or_none : ℕ → ℕ → Option ℕ
+power_or_none k size = if nat_lt k 32 && (2 ^ k == size) then Some k else None
+
+-- the power that a size is of two, where it is one: as many as the zeros that its digits end with
+abbrev pub log2_of : ℕ → Option ℕ
+log2_of size = power_or_none (trailing_zeros w32 size) size
+
+-- register a times a size, in x6: by a shift where the size is a power of two, else by a product; x7 is free
+abbrev pub shift_or_multiply : Option ℕ → ℕ → ℕ → List Item
+shift_or_multiply (Some k) a size = shifted shift_op.Left 6 a k ∷ []
+shift_or_multiply None a size = set_to 7 size ∷ operate_on register_op.Mul 6 a 7 ∷ []
+
+-- register a times a size, in x6 or in a itself; x6 and x7 are free, but that a may be x6
+abbrev pub scale : ℕ → ℕ → List Item
+scale a size = if size == 1 then [] else shift_or_multiply (log2_of size) a size
+
+abbrev pub scaled_in : ℕ → ℕ → ℕ
+scaled_in a size = if size == 1 then a else 6
+
+-- the register that a base counts from, and the bytes from there
+abbrev pub base_register : Base → ℕ
+base_register (base.Statics o) = 3
+base_register (base.Frame o) = 2
+
+abbrev pub base_offset : Function → Base → ℕ
+base_offset f (base.Statics o) = from_gp o
+base_offset f (base.Frame o) = lower_of (area_home f + o)
+
+-- an index in bytes further than that register, in x6
+abbrev pub indexed : Base → Source → ℕ → List Item
+indexed b y size = fetch 6 y ++ (scale (register_of 6 y) size ++ (operate_on register_op.Add 6 (base_register b) (scaled_in (register_of 6 y) size) ∷ []))
+
+-- the items before an access to an element, its base register, and its offset in bytes; x6 is free, and x7 where an index is multiplied
 abbrev pub reach : Function → Location → List Item
 reach f (location.Statics o) = if is_near_gp o then [] else item.DataAddress 6 o ∷ []
 reach f (location.Frame o) = far 6 (area_home f + o)
 reach f (location.At x) = fetch 6 (source_of f x)
+reach f (location.Indexed b y size) = indexed b (source_of f y) size
 
 abbrev pub reach_base : Function → Location → ℕ
 reach_base f (location.Statics o) = if is_near_gp o then 3 else 6
 reach_base f (location.Frame o) = base_of 6 (area_home f + o)
 reach_base f (location.At x) = register_of 6 (source_of f x)
+reach_base f (location.Indexed b y size) = 6
 
 abbrev pub reach_offset : Function → Location → ℕ
 reach_offset f (location.Statics o) = if is_near_gp o then from_gp o else 0
 reach_offset f (location.Frame o) = lower_of (area_home f + o)
 reach_offset f (location.At x) = 0
+reach_offset f (location.Indexed b y size) = base_offset f b
 
 abbrev pub load_of : Width → LoadKind
 load_of width.Byte = load_kind.ByteUnsigned
@@ -261,26 +299,7 @@ abbrev pub reference : Function → Home → Location → List Item
 reference f d (location.Statics o) = static_address (made_in d) o ∷ keep d
 reference f d (location.Frame o) = address_of (made_in d) (area_home f + o) ++ keep d
 reference f d (location.At x) = move d (source_of f x)
-
--- k, where it is below 32 and the size is 2 to the power of it
-abbrev pub power_or_none : ℕ → ℕ → Option ℕ
-power_or_none k size = if nat_lt k 32 && (2 ^ k == size) then Some k else None
-
--- the power that a size is of two, where it is one: as many as the zeros that its digits end with
-abbrev pub log2_of : ℕ → Option ℕ
-log2_of size = power_or_none (trailing_zeros w32 size) size
-
--- register a times a size, in x6: by a shift where the size is a power of two, else by a product; x7 is free
-abbrev pub shift_or_multiply : Option ℕ → ℕ → ℕ → List Item
-shift_or_multiply (Some k) a size = shifted shift_op.Left 6 a k ∷ []
-shift_or_multiply None a size = set_to 7 size ∷ operate_on register_op.Mul 6 a 7 ∷ []
-
--- register a times a size, in x6 or in a itself; x6 and x7 are free, but that a may be x6
-abbrev pub scale : ℕ → ℕ → List Item
-scale a size = if size == 1 then [] else shift_or_multiply (log2_of size) a size
-
-abbrev pub scaled_in : ℕ → ℕ → ℕ
-scaled_in a size = if size == 1 then a else 6
+reference f d (location.Indexed b y size) = indexed b (source_of f y) size ++ (add_to (made_in d) 6 (base_offset f b) ∷ keep d)
 
 -- by a number of elements that is in a register or in the frame
 abbrev pub counted : Home → Source → Source → ℕ → List Item

@@ -124,17 +124,6 @@ narrow_cost conversion.ToTruth = 1
 abbrev pub static_cost : ℕ → ℕ
 static_cost o = if is_near_gp o then 1 else 2
 
--- an access to a static counts from gp, or from its address
-abbrev pub reach_cost : Function → Location → ℕ
-reach_cost f (location.Statics o) = if is_near_gp o then 0 else 2
-reach_cost f (location.Frame o) = far_cost (area_home f + o)
-reach_cost f (location.At x) = fetch_cost (source_of f x)
-
-abbrev pub reference_cost : Function → Home → Location → ℕ
-reference_cost f d (location.Statics o) = static_cost o + keep_cost d
-reference_cost f d (location.Frame o) = address_cost (area_home f + o) + keep_cost d
-reference_cost f d (location.At x) = move_cost d (source_of f x)
-
 -- a shift, or a product with a constant
 abbrev pub product_cost : Option ℕ → ℕ → ℕ
 product_cost (Some k) size = 1
@@ -143,6 +132,19 @@ product_cost None size = set_cost size + 1
 -- nothing for a size of 1
 abbrev pub scale_cost : ℕ → ℕ
 scale_cost size = if size == 1 then 0 else product_cost (log2_of size) size
+
+-- an access to a static counts from gp, or from its address; by an index, from the sum of a base and the index in bytes
+abbrev pub reach_cost : Function → Location → ℕ
+reach_cost f (location.Statics o) = if is_near_gp o then 0 else 2
+reach_cost f (location.Frame o) = far_cost (area_home f + o)
+reach_cost f (location.At x) = fetch_cost (source_of f x)
+reach_cost f (location.Indexed b y size) = fetch_cost (source_of f y) + (scale_cost size + 1)
+
+abbrev pub reference_cost : Function → Home → Location → ℕ
+reference_cost f d (location.Statics o) = static_cost o + keep_cost d
+reference_cost f d (location.Frame o) = address_cost (area_home f + o) + keep_cost d
+reference_cost f d (location.At x) = move_cost d (source_of f x)
+reference_cost f d (location.Indexed b y size) = reach_cost f (location.Indexed b y size) + (1 + keep_cost d)
 
 -- a reference advanced by a number of elements: a number that is a constant takes a sum with its bytes, and none a move
 abbrev pub counted_cost : Home → Source → Source → ℕ → ℕ
@@ -252,6 +254,7 @@ abbrev pub far_location : Function → Location → ℕ
 far_location f (location.Statics o) = 0
 far_location f (location.Frame o) = far_cost (area_home f + o)
 far_location f (location.At x) = far_source (source_of f x)
+far_location f (location.Indexed b y size) = far_source (source_of f y)
 
 abbrev pub far_saved : Function → ℕ → ℕ
 far_saved f zero = 0
