@@ -246,6 +246,7 @@ module _ (p : Program) (s : State) where
     place_same (location.Statics o) = refl
     place_same (location.Frame o) = refl
     place_same (location.At x) = reference_same x (known_of facts x) (known_holds x)
+    place_same (location.Indexed b y size) = refl
 
     pub act_same : (area : ℕ) (x : Instruction) → does (simpler area facts x) ≡ does x
     act_same area instruction.Nothing = refl

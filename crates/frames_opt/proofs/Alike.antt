@@ -7,11 +7,13 @@ use Rattle.frames_code.specs.declared.code.Operand.TheVariants as operand
 use Rattle.frames_code.specs.declared.code.Target.{Target}
 use Rattle.frames_code.specs.declared.code.Target.TheVariants as target
 use Rattle.frames_code.specs.declared.code.Width.{Width}
+use Rattle.frames_code.specs.declared.code.Base.{Base}
+use Rattle.frames_code.specs.declared.code.Base.TheVariants as base
 use Rattle.frames_code.specs.declared.code.Location.{Location}
 use Rattle.frames_code.specs.declared.code.Location.TheVariants as location
 use Rattle.frames_code.specs.declared.code.Instruction.{Instruction}
 use Rattle.frames_code.specs.Code.{Function, Program, area_home, frame_bytes}
-use Rattle.frames_code.specs.Run.{Value, Values, Bytes, Frame, State, Reference, Memory, Progress, running, ended, stuck, word, value, word_at, word_in, reference_in, set, with_at, unset, next, past, place, arrays, memory, memory_among, changed_among, with_frames, with_memory, with_element, element_in, fits, gives, gives_word, loaded, stored, function_at, bytes_of, name_of, ◌>>=◌}
+use Rattle.frames_code.specs.Run.{Value, Values, Bytes, Frame, State, Reference, Memory, Progress, running, ended, stuck, word, value, word_at, word_in, reference_in, set, with_at, unset, next, past, place, base_of, indexed, arrays, memory, memory_among, changed_among, with_frames, with_memory, with_element, element_in, fits, gives, gives_word, loaded, stored, function_at, bytes_of, name_of, ◌>>=◌}
 use Rattle.frames_opt.specs.inside.Liveness.{names, is_through, reads, temporary_of, written, is_number, is_written}
 
 -- ---- the same functions but for their code
@@ -151,6 +153,10 @@ reference_below : (o o2 : Option Value) → ((v : Value) → o ≡ Some v → o2
 reference_below None o2 below w e = absurd (let x : ⊥ = cc in x)
 reference_below (Some v) o2 below w e = ap reference_in (below v refl) ∙ e
 
+indexed_below : (r : Reference) (size : ℕ) (o o2 : Option ℕ) → ((n : ℕ) → o ≡ Some n → o2 ≡ Some n) → (w : Reference) → indexed r size o ≡ Some w → indexed r size o2 ≡ Some w
+indexed_below r size None o2 below w e = absurd (let x : ⊥ = cc in x)
+indexed_below r size (Some n) o2 below w e = ap (indexed r size) (below n refl) ∙ e
+
 module _ (p q : Program) (r : Sized p q) (dead : State → ℕ → Bool) (s : State) where
   module _ (u a : Values) (args : (k : ℕ) (v : Value) → s.arguments k ≡ Some v → a k ≡ Some v) where
     abbrev t : State
@@ -172,12 +178,20 @@ module _ (p q : Program) (r : Sized p q) (dead : State → ℕ → Bool) (s : St
     pub reference_at_below : (x : Operand) → Reads (λ k. names k x) → (w : Reference) → reference_in (value s x) ≡ Some w → reference_in (value t x) ≡ Some w
     reference_at_below x same = reference_below (value s x) (value t x) (value_below x same)
 
+    base_same : (b : Base) → base_of q t b ≡ base_of p s b
+    base_same (base.Statics o) = refl
+    base_same (base.Frame o) =
+        ap (λ n. reference_to n (area_home (function_at q s.frame.function) + o)) (name_same p q r s.frame s.waiting)
+        ∙ ap (λ n. reference_to (name_of p s.frame s.waiting) (n + o)) (home_at p q r s.frame.function)
+
     pub place_below : (l : Location) → Reads (λ k. is_through k l) → (w : Reference) → place p s l ≡ Some w → place q t l ≡ Some w
     place_below (location.Statics o) same w e = e
     place_below (location.Frame o) same w e =
         ap (λ n. Some (reference_to n (area_home (function_at q s.frame.function) + o))) (name_same p q r s.frame s.waiting)
         ∙ (ap (λ n. Some (reference_to (name_of p s.frame s.waiting) (n + o))) (home_at p q r s.frame.function) ∙ e)
     place_below (location.At x) same w e = reference_at_below x same w e
+    place_below (location.Indexed b y size) same w e =
+        ap (λ r. indexed r size (word_at t y)) (base_same b) ∙ indexed_below (base_of p s b) size (word_at s y) (word_at t y) (word_at_below y same) w e
 
   -- ---- an instruction that goes on to the next
 

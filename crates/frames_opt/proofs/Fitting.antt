@@ -71,6 +71,7 @@ module _ (n : ℕ) (f : Function) where
   reference_fits (location.Statics o) e = e
   reference_fits (location.Frame o) e = e
   reference_fits (location.At x) e = tt
+  reference_fits (location.Indexed b y size) e = tt
 
   result_fits : (o : Operation) (a b : ℕ) → KnownFits (result_on o a b)
   result_fits (operation.Machine register_op.Add) a b = omega arith
@@ -211,6 +212,7 @@ module _ (n : ℕ) (f : Function) where
     location_fits (location.Statics o) e = e
     location_fits (location.Frame o) e = e
     location_fits (location.At x) e = place_fits x (known_of facts x) (known_fits facts x h e) e
+    location_fits (location.Indexed b y size) e = e
 
     simpler_fits : (x : Instruction) → Fits x → Fits (simpler f.area facts x)
     simpler_fits instruction.Nothing e = tt

@@ -204,6 +204,7 @@ module _ (p : Program) (kn : ℕ → ℕ → List Known) where
     address_knows (location.Statics o) r e = let same : spot 0 o ≡ r = same_some (spot 0 o) r e in ap (λ (z : Reference). Some (reference z.list z.offset)) (sym same)
     address_knows (location.Frame o) r e = let same : spot name (home + o) ≡ r = same_some (spot name (home + o)) r e in ap (λ (z : Reference). Some (reference z.list z.offset)) (sym same)
     address_knows (location.At x) r e = tt
+    address_knows (location.Indexed b y size) r e = tt
 
     returned_stands : (ws : List Frame) → Waits kn ws → Sat (Stands p kn) (returned s ws)
     returned_stands [] w = sat_bind (Stands p kn) (word_at s (operand.Temporary 0)) (λ v. ended (v % 2 ^ 8) s.input s.trace) (λ v e. tt)

@@ -43,27 +43,6 @@ fn move_bytes(target: Target, source: Operand) -> u64
     4_u64.max(fetch_bytes(source) + keep_bytes(target))
 }
 
-fn reach_bytes(location: Location) -> u64
-    ensures value { result ≡ bytes.reach_bytes location }
-    ensures few { result ≤ 12 }
-{
-    match location {
-        Location::Statics(_) => 8,
-        Location::Frame(_) => 8,
-        Location::At(operand) => fetch_bytes(operand),
-    }
-}
-
-fn reference_bytes(target: Target, location: Location) -> u64
-    ensures { result ≡ bytes.reference_bytes target location }
-{
-    match location {
-        Location::Statics(_) => 8 + keep_bytes(target),
-        Location::Frame(_) => 12 + keep_bytes(target),
-        Location::At(operand) => move_bytes(target, operand),
-    }
-}
-
 fn scale_bytes(size: usize) -> u64
     ensures value { result ≡ bytes.scale_bytes size }
     ensures few { result ≤ 16 }
@@ -76,6 +55,31 @@ fn scale_bytes(size: usize) -> u64
         8
     } else {
         16
+    }
+}
+
+fn reach_bytes(location: Location) -> u64
+    ensures value { result ≡ bytes.reach_bytes location }
+    ensures few { result ≤ 28 }
+{
+    match location {
+        Location::Statics(_) => 8,
+        Location::Frame(_) => 8,
+        Location::At(operand) => fetch_bytes(operand),
+        Location::Indexed { index, size, .. } => fetch_bytes(index) + scale_bytes(size),
+    }
+}
+
+fn reference_bytes(target: Target, location: Location) -> u64
+    ensures { result ≡ bytes.reference_bytes target location }
+{
+    match location {
+        Location::Statics(_) => 8 + keep_bytes(target),
+        Location::Frame(_) => 12 + keep_bytes(target),
+        Location::At(operand) => move_bytes(target, operand),
+        Location::Indexed { index, size, .. } => {
+            fetch_bytes(index) + (scale_bytes(size) + (4 + keep_bytes(target)))
+        }
     }
 }
 

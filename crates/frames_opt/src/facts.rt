@@ -57,6 +57,7 @@ fn reference_to(location: Location) -> Known
         Location::Statics(offset) => Known::Statics(offset),
         Location::Frame(offset) => Known::Frame(offset),
         Location::At(_) => Known::Unknown,
+        Location::Indexed { .. } => Known::Unknown,
     }
 }
 

@@ -27,6 +27,7 @@ fn is_through(number: usize, location: Location) -> bool
         Location::Statics(_) => false,
         Location::Frame(_) => false,
         Location::At(operand) => names(number, operand),
+        Location::Indexed { index, .. } => names(number, index),
     }
 }
 

@@ -45,6 +45,7 @@ fn simpler_location(facts: &Facts, location: Location) -> Location
         Location::Statics(offset) => Location::Statics(offset),
         Location::Frame(offset) => Location::Frame(offset),
         Location::At(operand) => location_or(operand, known_of(facts, operand)),
+        Location::Indexed { base, index, size } => Location::Indexed { base, index, size },
     }
 }
 

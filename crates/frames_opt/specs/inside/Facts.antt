@@ -32,6 +32,7 @@ abbrev pub reference_to : Location → Known
 reference_to (location.Statics o) = known.Statics o
 reference_to (location.Frame o) = known.Frame o
 reference_to (location.At x) = known.Unknown
+reference_to (location.Indexed b y size) = known.Unknown
 
 abbrev pub learned : List Known → Target → Known → List Known
 learned facts (target.Temporary k) x = set facts k x

@@ -19,6 +19,7 @@ abbrev pub is_through : ℕ → Location → Bool
 is_through k (location.Statics o) = false
 is_through k (location.Frame o) = false
 is_through k (location.At x) = names k x
+is_through k (location.Indexed b y size) = names k y
 
 -- it reads temporary k; a call, a byte put or got, and an end count as reading all
 abbrev pub reads : ℕ → Instruction → Bool

@@ -37,6 +37,7 @@ abbrev pub simpler_location : List Known → Location → Location
 simpler_location facts (location.Statics o) = location.Statics o
 simpler_location facts (location.Frame o) = location.Frame o
 simpler_location facts (location.At x) = location_or x (known_of facts x)
+simpler_location facts (location.Indexed b y size) = location.Indexed b y size
 
 -- ---- operations
 
