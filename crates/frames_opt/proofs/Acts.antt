@@ -11,6 +11,8 @@ use Rattle.rv32.specs.Arithmetic.{compare_of, operate_of}
 use Rattle.frames_code.specs.declared.code.Operand.{Operand}
 use Rattle.frames_code.specs.declared.code.Operand.TheVariants as operand
 use Rattle.frames_code.specs.declared.code.Target.{Target}
+use Rattle.frames_code.specs.declared.code.Base.{Base}
+use Rattle.frames_code.specs.declared.code.Base.TheVariants as base
 use Rattle.frames_code.specs.declared.code.Location.{Location}
 use Rattle.frames_code.specs.declared.code.Location.TheVariants as location
 use Rattle.frames_code.specs.declared.code.Operation.{Operation}
@@ -18,22 +20,38 @@ use Rattle.frames_code.specs.declared.code.Operation.TheVariants as operation
 use Rattle.frames_code.specs.declared.code.Instruction.{Instruction}
 use Rattle.frames_code.specs.declared.code.Instruction.TheVariants as instruction
 use Rattle.frames_code.specs.Code.{Program, area_home}
-use Rattle.frames_code.specs.Run.{Value, Values, State, Progress, running, word, reference, value, word_at, word_in, reference_in, set, next, past, goes_to, place, gives, gives_word, operate, loaded, stored, act, function_at, name_of, ◌>>=◌}
+use Rattle.frames_code.specs.Run.{Value, Values, State, Progress, running, word, reference, value, word_at, word_in, reference_in, set, next, past, goes_to, Reference, place, base_of, indexed, gives, gives_word, operate, loaded, stored, act, function_at, name_of, ◌>>=◌}
 use Rattle.frames_opt.specs.declared.facts.Known.{Known}
 use Rattle.frames_opt.specs.declared.facts.Known.TheVariants as known
-use Rattle.frames_opt.specs.inside.Facts.{held, known_of}
+use Rattle.frames_opt.specs.inside.Facts.{held, known_of, is_index}
 use Rattle.frames_opt.specs.inside.Rules.{constant_or, simpler_operand, location_or, simpler_location, commutes, with_constant, with_power, is_power, with_word, arranged, compute, statics_or, frame_or, numbered, simpler_element, simpler}
 
--- ---- known facts hold of a value, where the frame has a name and its arrays begin `home` bytes above its start
+-- ---- known facts hold of a value, where the frame has a name, its arrays begin `home` bytes above its start, and its words and temporaries are c and t
 
-abbrev pub Knows : (name home : ℕ) → Known → Option Value → Type 0
-Knows name home known.Unknown v = Unit {0}
-Knows name home (known.Word w) v = v ≡ Some (word w)
-Knows name home (known.Statics o) v = v ≡ Some (reference 0 o)
-Knows name home (known.Frame o) v = v ≡ Some (reference name (home + o))
+abbrev pub base_at : (name home : ℕ) → Base → Reference
+base_at name home (base.Statics o) = record { list = 0; offset = o }
+base_at name home (base.Frame o) = record { list = name; offset = home + o }
 
-abbrev pub Holds : (name home : ℕ) → List Known → Values → Type 0
-Holds name home facts temporaries = (k : ℕ) → Knows name home (held facts k) (temporaries k)
+-- the word that an index has
+abbrev pub index_in : (c t : Values) → Operand → Option ℕ
+index_in c t (operand.Temporary k) = word_in (t k)
+index_in c t (operand.Cell e) = word_in (c e)
+index_in c t (operand.Constant v) = None
+index_in c t (operand.Argument k) = None
+
+pub record Leads (name home : ℕ) (c t : Values) (b : Base) (y : Operand) (size : ℕ) (v : Option Value) : Type 0 where
+  pub index : is_index y ≡ true
+  pub is : reference_in v ≡ indexed (base_at name home b) size (index_in c t y)
+
+abbrev pub Knows : (name home : ℕ) → (c t : Values) → Known → Option Value → Type 0
+Knows name home c t known.Unknown v = Unit {0}
+Knows name home c t (known.Word w) v = v ≡ Some (word w)
+Knows name home c t (known.Statics o) v = v ≡ Some (reference 0 o)
+Knows name home c t (known.Frame o) v = v ≡ Some (reference name (home + o))
+Knows name home c t (known.Indexed b y size) v = Leads name home c t b y size v
+
+abbrev pub Holds : (name home : ℕ) → List Known → (c t : Values) → Type 0
+Holds name home facts c t = (k : ℕ) → Knows name home c t (held facts k) (t k)
 
 abbrev pub name_in : Program → State → ℕ
 name_in p s = name_of p s.frame s.waiting
@@ -58,6 +76,12 @@ IsNo false = Unit {0}
 
 pub not_true : false ≡ true → ⊥
 not_true e = subst IsNo e tt
+
+pub word_is : (s : State) (y : Operand) → is_index y ≡ true → word_at s y ≡ index_in s.frame.cells s.temporaries y
+word_is s (operand.Temporary k) e = refl
+word_is s (operand.Cell c) e = refl
+word_is s (operand.Constant v) e = absurd (not_true e)
+word_is s (operand.Argument k) e = absurd (not_true e)
 
 commuted : (o : Operation) (a b : ℕ) → commutes o ≡ true → operate o a b ≡ operate o b a
 commuted (operation.Machine register_op.Add) a b e = let sum : a + b ≡ b + a = omega arith in ap (λ n. n % 2 ^ 32) sum
@@ -190,17 +214,29 @@ module _ (p : Program) (s : State) where
   abbrev home : ℕ
   home = home_in p s
 
-  constant_same : (x : Operand) (k : Known) → Knows name home k (value s x) → value s (constant_or x k) ≡ value s x
+  abbrev Here : Known → Option Value → Type 0
+  Here k v = Knows name home s.frame.cells s.temporaries k v
+
+  constant_same : (x : Operand) (k : Known) → Here k (value s x) → value s (constant_or x k) ≡ value s x
   constant_same x known.Unknown e = refl
   constant_same x (known.Word w) e = sym e
   constant_same x (known.Statics o) e = refl
   constant_same x (known.Frame o) e = refl
+  constant_same x (known.Indexed b y size) e = refl
 
-  reference_same : (x : Operand) (k : Known) → Knows name home k (value s x) → place p s (location_or x k) ≡ reference_in (value s x)
+  base_same : (b : Base) → base_of p s b ≡ base_at name home b
+  base_same (base.Statics o) = refl
+  base_same (base.Frame o) = refl
+
+  indexed_same : (b : Base) (y : Operand) (size : ℕ) (v : Option Value) → Leads name home s.frame.cells s.temporaries b y size v → place p s (location.Indexed b y size) ≡ reference_in v
+  indexed_same b y size v e = ap (λ r. indexed r size (word_at s y)) (base_same b) ∙ (ap (indexed (base_at name home b) size) (word_is s y e.index) ∙ sym e.is)
+
+  reference_same : (x : Operand) (k : Known) → Here k (value s x) → place p s (location_or x k) ≡ reference_in (value s x)
   reference_same x known.Unknown e = refl
   reference_same x (known.Word w) e = refl
   reference_same x (known.Statics o) e = ap reference_in (sym e)
   reference_same x (known.Frame o) e = ap reference_in (sym e)
+  reference_same x (known.Indexed b y size) e = indexed_same b y size (value s x) e
 
   abbrev addressed : Target → (list offset : ℕ) → Progress
   addressed d list offset = gives d s (reference list offset)
@@ -217,20 +253,21 @@ module _ (p : Program) (s : State) where
       let sum : home + (o + n * size) ≡ home + o + n * size = omega arith in
       ap (addressed d name) sum ∙ ap (λ v. reference_in v >>= λ r. addressed d r.list (r.offset + n * size)) (sym e)
 
-  numbered_same : (area : ℕ) (k : Known) (d : Target) (x : Operand) (n size : ℕ) → Knows name home k (value s x) → does (numbered area k d x n size) ≡ does (instruction.Element d x (operand.Constant n) size)
+  numbered_same : (area : ℕ) (k : Known) (d : Target) (x : Operand) (n size : ℕ) → Here k (value s x) → does (numbered area k d x n size) ≡ does (instruction.Element d x (operand.Constant n) size)
   numbered_same area known.Unknown d x n size e = refl
   numbered_same area (known.Word w) d x n size e = refl
   numbered_same area (known.Statics o) d x n size e = statics_same d x n size o (nat_lt (o + n * size) 0x10000000) e
   numbered_same area (known.Frame o) d x n size e = frame_same d x n size o (nat_lt (o + n * size) area) e
+  numbered_same area (known.Indexed b y width) d x n size e = refl
 
-  element_same : (area : ℕ) (k : Known) (d : Target) (x y : Operand) (size : ℕ) → Knows name home k (value s x) → does (simpler_element area k d x y size) ≡ does (instruction.Element d x y size)
+  element_same : (area : ℕ) (k : Known) (d : Target) (x y : Operand) (size : ℕ) → Here k (value s x) → does (simpler_element area k d x y size) ≡ does (instruction.Element d x y size)
   element_same area k d x (operand.Temporary j) size e = refl
   element_same area k d x (operand.Cell c) size e = refl
   element_same area k d x (operand.Constant n) size e = numbered_same area k d x n size e
   element_same area k d x (operand.Argument j) size e = refl
 
-  module _ (facts : List Known) (holds : Holds name home facts s.temporaries) where
-    pub known_holds : (x : Operand) → Knows name home (known_of facts x) (value s x)
+  module _ (facts : List Known) (holds : Holds name home facts s.frame.cells s.temporaries) where
+    pub known_holds : (x : Operand) → Here (known_of facts x) (value s x)
     known_holds (operand.Temporary k) = holds k
     known_holds (operand.Cell c) = tt
     known_holds (operand.Constant v) = refl

@@ -8,7 +8,7 @@ use Rattle.frames_code.specs.Costs.{next_of}
 use Rattle.frames_code.specs.Run.{Values, State, running, run, start, function_at}
 use Rattle.frames_opt.specs.declared.facts.Known.{Known}
 use Rattle.frames_opt.specs.Simplified.{HasItsValues, IsAtCall}
-use Rattle.frames_opt.specs.inside.Facts.{known_of}
+use Rattle.frames_opt.specs.inside.Facts.{known_of, room_of}
 use Rattle.frames_opt.specs.inside.Rules.{simpler_operand, simpler}
 use Rattle.frames_opt.specs.inside.Liveness.{reads, dead_at}
 use Rattle.frames_opt.proofs.Alike.{same_some, over, Agree, same_where_read}
@@ -85,7 +85,7 @@ module _ (p q : Program) (kn : ℕ → ℕ → List Known) (masks : ℕ → List
   i = s.frame.at
 
   module _ (x : Instruction) (is : slice_get (function_at p k).code i ≡ Some x) where
-    abbrev c : Position (function_at p k).area (kn k) (masks k) (function_at q k).code i x
+    abbrev c : Position (room_of (function_at p k)) (kn k) (masks k) (function_at q k).code i x
     c = simple.each k i x is
 
     half_is : Leaves c.done → c.done ≡ c.half

@@ -1,8 +1,9 @@
 -- Simpler code is as sound.
-use Rattle.std.proofs.Common.{◌≡◌, ◌<◌, ⊎_elim, ℕ, zero, suc, ◌+◌, ◌-◌, ◌*◌, ◌^◌, ◌%◌, List, [], ◌∷◌, length, Option, Some, None, Bool, true, false, refl, sym, ap, ◌∙◌, subst, arith}
-use Rattle.std.specs.Prelude.{◌==◌, slice_get, set, get_or, nat_lt, if◌then◌else◌}
+use Rattle.std.proofs.Common.{◌≡◌, ◌<◌, ◌≤◌, ⊎_elim, ℕ, zero, suc, ◌+◌, ◌-◌, ◌*◌, ◌^◌, ◌%◌, List, [], ◌∷◌, length, Option, Some, None, Bool, true, false, refl, sym, ap, ◌∙◌, subst, arith}
+use Rattle.std.specs.Prelude.{◌==◌, slice_get, set, get_or, nat_lt, nat_le, ◌&&◌, if◌then◌else◌}
 use Rattle.std.specs.Int.{w32, trailing_zeros}
 use Rattle.std.proofs.lemmas.Bool.{eqb-true, eqb-false, ltb-true}
+use Rattle.std.proofs.lemmas.Bool.Decides.{nat_tests}
 use Rattle.std.proofs.lemmas.List.{get_or-set_other}
 use Rattle.rv32.specs.declared.instr.RegisterOp.{RegisterOp}
 use Rattle.rv32.specs.declared.instr.RegisterOp.TheVariants as register_op
@@ -10,23 +11,27 @@ use Rattle.frames_code.specs.declared.code.Operand.{Operand}
 use Rattle.frames_code.specs.declared.code.Operand.TheVariants as operand
 use Rattle.frames_code.specs.declared.code.Target.{Target}
 use Rattle.frames_code.specs.declared.code.Target.TheVariants as target
+use Rattle.frames_code.specs.declared.code.Base.{Base}
+use Rattle.frames_code.specs.declared.code.Base.TheVariants as base
 use Rattle.frames_code.specs.declared.code.Location.{Location}
 use Rattle.frames_code.specs.declared.code.Location.TheVariants as location
 use Rattle.frames_code.specs.declared.code.Operation.{Operation}
 use Rattle.frames_code.specs.declared.code.Operation.TheVariants as operation
 use Rattle.frames_code.specs.declared.code.Instruction.{Instruction}
 use Rattle.frames_code.specs.declared.code.Instruction.TheVariants as instruction
-use Rattle.frames_code.specs.Code.{Function}
-use Rattle.frames_code.specs.Sound.{OperandFits, TargetFits, LocationFits, InstructionFits, FunctionFits}
+use Rattle.frames_code.specs.Code.{Function, area_home}
+use Rattle.frames_code.specs.Sound.{OperandFits, TargetFits, BaseFits, IndexFits, is_power_of_two, LocationFits, InstructionFits, FunctionFits}
+use Rattle.frames_opt.specs.declared.room.Room.{Room}
 use Rattle.frames_opt.specs.declared.facts.Known.{Known}
 use Rattle.frames_opt.specs.declared.facts.Known.TheVariants as known
-use Rattle.frames_opt.specs.inside.Facts.{nothing, held, known_of, reference_to, learned, result_on, computed, behind}
+use Rattle.frames_opt.specs.inside.Facts.{nothing, held, known_of, reference_to, is_target, killed, all_killed, learned, room_of, is_index, is_cheap, is_near, indexed_if, from_base, moved, further, indexed_from, result_on, computed, behind}
 use Rattle.frames_opt.specs.inside.Rules.{constant_or, simpler_operand, location_or, simpler_location, with_constant, with_power, is_power, with_word, arranged, compute, within, statics_or, frame_or, numbered, simpler_element, simpler}
 use Rattle.frames_opt.specs.inside.Liveness.{written, is_dead, kept, kept_by, swept}
 use Rattle.frames_opt.specs.inside.Passes.{is_marked, fresh, forward}
 use Rattle.frames_opt.specs.layer.Functions.{IsSimplerCode, stayed, improved, with_code, IsSimplerFunction}
-use Rattle.frames_opt.proofs.Acts.{power_is}
-use Rattle.frames_opt.proofs.Stands.{held_in, set_same}
+use Rattle.frames_opt.proofs.Acts.{power_is, not_true}
+use Rattle.frames_opt.proofs.Alike.{left_true, right_true}
+use Rattle.frames_opt.proofs.Stands.{held_in, held_map, set_same}
 
 module _ (n : ℕ) (f : Function) where
   abbrev KnownFits : Known → Type 0
@@ -34,6 +39,7 @@ module _ (n : ℕ) (f : Function) where
   KnownFits (known.Word w) = w < 2 ^ 32
   KnownFits (known.Statics o) = o < 0x10000000
   KnownFits (known.Frame o) = o < f.area
+  KnownFits (known.Indexed b y size) = LocationFits f (location.Indexed b y size)
 
   abbrev FactsFit : List Known → Type 0
   FactsFit facts = (k : ℕ) → KnownFits (held facts k)
@@ -57,9 +63,100 @@ module _ (n : ℕ) (f : Function) where
           (⊎_elim (λ a. subst KnownFits (sym a) e) (λ a. subst KnownFits (sym a) tt) (set_same facts j x))
       on false u = subst KnownFits (sym (get_or-set_other facts j k x known.Unknown (eqb-false k j u))) (h k)
 
+  if_fits : (u : Bool) (b : Base) (y : Operand) (size : ℕ) → LocationFits f (location.Indexed b y size) → KnownFits (if u then known.Unknown else known.Indexed b y size)
+  if_fits true b y size e = tt
+  if_fits false b y size e = e
+
+  killed_fits : (d : Target) (x : Known) → KnownFits x → KnownFits (killed d x)
+  killed_fits d known.Unknown e = tt
+  killed_fits d (known.Word w) e = e
+  killed_fits d (known.Statics o) e = e
+  killed_fits d (known.Frame o) e = e
+  killed_fits d (known.Indexed b y size) e = if_fits (is_target d y) b y size e
+
+  all_fit : (d : Target) (facts : List Known) → FactsFit facts → FactsFit (all_killed d facts)
+  all_fit d facts h k = subst KnownFits (sym (held_map (killed d) refl facts k)) (killed_fits d (held facts k) (h k))
+
   learned_fits : (facts : List Known) (d : Target) (x : Known) → FactsFit facts → KnownFits x → FactsFit (learned facts d x)
-  learned_fits facts (target.Temporary j) x h e = put_fits facts j x h e
-  learned_fits facts (target.Cell c) x h e = h
+  learned_fits facts (target.Temporary j) x h e =
+      put_fits (all_killed (target.Temporary j) facts) j (killed (target.Temporary j) x) (all_fit (target.Temporary j) facts h) (killed_fits (target.Temporary j) x e)
+  learned_fits facts (target.Cell c) x h e = all_fit (target.Cell c) facts h
+
+  -- ---- elements by an index
+
+  abbrev room : Room
+  room = room_of f
+
+  indexed_if_fits : (u : Bool) (b : Base) (y : Operand) (size : ℕ) → (u ≡ true → LocationFits f (location.Indexed b y size)) → KnownFits (indexed_if u b y size)
+  indexed_if_fits true b y size h = h refl
+  indexed_if_fits false b y size h = tt
+
+  index_fits : (y : Operand) → is_index y ≡ true → OperandFits f y → IndexFits f y
+  index_fits (operand.Temporary k) e h = h
+  index_fits (operand.Cell c) e h = h
+  index_fits (operand.Constant v) e h = absurd (not_true e)
+  index_fits (operand.Argument k) e h = absurd (not_true e)
+
+  -- a bound that is within 12 bits is where the arrays begin
+  bound_is : nat_le room.home 0x800 ≡ true → area_home f ≡ room.home
+  bound_is e = on (nat_le f.outgoing 0x200 && nat_le f.cells 0x200) refl
+    where
+      on : (t : Bool) → (nat_le f.outgoing 0x200 && nat_le f.cells 0x200) ≡ t → area_home f ≡ room.home
+      on true u = rw u refl
+      on false u =
+          let far : room.home ≡ 0x1000 = rw u refl in
+          let no : nat_le 0x1000 0x800 ≡ true = ap (λ n. nat_le n 0x800) (sym far) ∙ e in
+          absurd (not_true no)
+
+  home_fits : nat_le room.home 0x800 ≡ true → area_home f ≤ 0x800
+  home_fits e =
+      let same = bound_is e in
+      let le : room.home ≤ 0x800 = grind (arith, nat_tests) in
+      omega (arith, same, le)
+
+  base_fits : (b : Base) → is_near room b ≡ true → nat_le room.home 0x800 ≡ true → BaseFits f b
+  base_fits (base.Statics o) e h = ltb-true o 0x1000 e
+  base_fits (base.Frame o) e h =
+      let inside : o < f.area = ltb-true o f.area (left_true (nat_lt o f.area) _ e) in
+      let near : room.home + o < 0x800 = ltb-true (room.home + o) 0x800 (right_true (nat_lt o f.area) _ e) in
+      let same = bound_is h in
+      (inside, omega (arith, near, same))
+
+  from_base_fits : (b : Base) (y : Operand) (size : ℕ) → OperandFits f y → KnownFits (from_base room b y size)
+  from_base_fits b y size hy = indexed_if_fits (is_near room b && is_cheap room y size) b y size (λ e.
+      let near = left_true (is_near room b) _ e in
+      let cheap = right_true (is_near room b) _ e in
+      let index = left_true (is_index y) _ cheap in
+      let rest = right_true (is_index y) _ cheap in
+      let power = left_true (is_power_of_two size) _ rest in
+      let low = right_true (is_power_of_two size) _ rest in
+      (base_fits b near low, index_fits y index hy, power, home_fits low))
+
+  -- the arrays begin within 12 bits, and so does what names them
+  le_test : (a b : ℕ) → a ≤ b → nat_le a b ≡ true
+  le_test a b h = grind (arith, nat_tests)
+
+  moved_fits : (b : Base) (z : Operand) (width k : ℕ) → LocationFits f (location.Indexed b z width) → is_near room (moved b k) ≡ true → LocationFits f (location.Indexed (moved b k) z width)
+  moved_fits (base.Statics o) z width k h e = (ltb-true (o + k) 0x1000 e, h.1, h.2, h.3)
+  moved_fits (base.Frame o) z width k h e =
+      let inside : o + k < f.area = ltb-true (o + k) f.area (left_true (nat_lt (o + k) f.area) _ e) in
+      let near : room.home + (o + k) < 0x800 = ltb-true (room.home + (o + k)) 0x800 (right_true (nat_lt (o + k) f.area) _ e) in
+      let low : nat_le room.home 0x800 ≡ true = le_test room.home 0x800 (omega (arith, near)) in
+      let same = bound_is low in
+      ((inside, omega (arith, near, same)), h.1, h.2, h.3)
+
+  further_fits : (b : Base) (z : Operand) (width : ℕ) (y : Operand) (size : ℕ) → LocationFits f (location.Indexed b z width) → KnownFits (further room b z width y size)
+  further_fits b z width (operand.Temporary k) size h = tt
+  further_fits b z width (operand.Cell c) size h = tt
+  further_fits b z width (operand.Argument k) size h = tt
+  further_fits b z width (operand.Constant n) size h = indexed_if_fits (is_near room (moved b (n * size))) (moved b (n * size)) z width (λ e. moved_fits b z width (n * size) h e)
+
+  indexed_fits : (x : Known) (y : Operand) (size : ℕ) → KnownFits x → OperandFits f y → KnownFits (indexed_from room x y size)
+  indexed_fits known.Unknown y size h hy = tt
+  indexed_fits (known.Word w) y size h hy = tt
+  indexed_fits (known.Statics o) y size h hy = from_base_fits (base.Statics o) y size hy
+  indexed_fits (known.Frame o) y size h hy = from_base_fits (base.Frame o) y size hy
+  indexed_fits (known.Indexed b z width) y size h hy = further_fits b z width y size h
 
   known_fits : (facts : List Known) (x : Operand) → FactsFit facts → OperandFits f x → KnownFits (known_of facts x)
   known_fits facts (operand.Temporary k) h e = h k
@@ -104,7 +201,7 @@ module _ (n : ℕ) (f : Function) where
   computed_fits o (operand.Constant a) (operand.Constant b) = result_fits o a b
   computed_fits o (operand.Constant a) (operand.Argument k) = tt
 
-  behind_fits : (facts : List Known) (y : Instruction) → FactsFit facts → Fits y → FactsFit (behind facts y)
+  behind_fits : (facts : List Known) (y : Instruction) → FactsFit facts → Fits y → FactsFit (behind room facts y)
   behind_fits facts instruction.Nothing h e = h
   behind_fits facts (instruction.Move d x) h e = learned_fits facts d (known_of facts x) h (known_fits facts x h e.1)
   behind_fits facts (instruction.Compute o d x y) h e = learned_fits facts d (computed o x y) h (computed_fits o x y)
@@ -112,7 +209,7 @@ module _ (n : ℕ) (f : Function) where
   behind_fits facts (instruction.Load w d l) h e = learned_fits facts d known.Unknown h tt
   behind_fits facts (instruction.Store w x l) h e = h
   behind_fits facts (instruction.Address d l) h e = learned_fits facts d (reference_to l) h (reference_fits l e.1)
-  behind_fits facts (instruction.Element d x y size) h e = learned_fits facts d known.Unknown h tt
+  behind_fits facts (instruction.Element d x y size) h e = learned_fits facts d (indexed_from room (known_of facts x) y size) h (indexed_fits (known_of facts x) y size (known_fits facts x h e.1) e.2)
   behind_fits facts (instruction.Jump to) h e = nothing_fits
   behind_fits facts (instruction.Branch t x y to) h e = h
   behind_fits facts (instruction.Call g) h e = nothing_fits
@@ -128,12 +225,14 @@ module _ (n : ℕ) (f : Function) where
   constant_fits x (known.Word w) h e = h
   constant_fits x (known.Statics o) h e = e
   constant_fits x (known.Frame o) h e = e
+  constant_fits x (known.Indexed b y size) h e = e
 
   place_fits : (x : Operand) (k : Known) → KnownFits k → OperandFits f x → LocationFits f (location_or x k)
   place_fits x known.Unknown h e = e
   place_fits x (known.Word w) h e = e
   place_fits x (known.Statics o) h e = h
   place_fits x (known.Frame o) h e = h
+  place_fits x (known.Indexed b y size) h e = h
 
   either_fits : (t : Bool) (x y : Instruction) → Fits x → Fits y → Fits (if t then x else y)
   either_fits true x y a b = a
@@ -197,6 +296,7 @@ module _ (n : ℕ) (f : Function) where
   numbered_fits (known.Word w) d x m size hd hx hm hs = (hd, hx, hm, hs)
   numbered_fits (known.Statics o) d x m size hd hx hm hs = statics_fits o m size d x hd hx hm hs
   numbered_fits (known.Frame o) d x m size hd hx hm hs = frame_fits o m size d x hd hx hm hs
+  numbered_fits (known.Indexed b y width) d x m size hd hx hm hs = (hd, hx, hm, hs)
 
   element_fits : (k : Known) (d : Target) (x y : Operand) (size : ℕ) → TargetFits f d → OperandFits f x → OperandFits f y → size < 2 ^ 32 → Fits (simpler_element f.area k d x y size)
   element_fits k d x (operand.Temporary j) size hd hx hy hs = (hd, hx, hy, hs)
@@ -236,7 +336,7 @@ module _ (n : ℕ) (f : Function) where
   abbrev AllFit : List Instruction → Type 0
   AllFit xs = (k : ℕ) (x : Instruction) → slice_get xs k ≡ Some x → Fits x
 
-  forward_fits : (marks : List Bool) (i : ℕ) (facts : List Known) (xs : List Instruction) → FactsFit facts → AllFit xs → AllFit (forward f.area marks i facts xs)
+  forward_fits : (marks : List Bool) (i : ℕ) (facts : List Known) (xs : List Instruction) → FactsFit facts → AllFit xs → AllFit (forward room marks i facts xs)
   forward_fits marks i facts [] h all k y e = absurd (let z : ⊥ = cc in z)
   forward_fits marks i facts (x ∷ xs) h all zero y e =
       let same : simpler f.area (fresh (is_marked marks i) facts) x ≡ y = cc in
@@ -244,7 +344,7 @@ module _ (n : ℕ) (f : Function) where
   forward_fits marks i facts (x ∷ xs) h all (suc k) y e =
       let here = fresh (is_marked marks i) facts in
       let fits = fresh_fits (is_marked marks i) facts h in
-      forward_fits marks (i + 1) (behind here (simpler f.area here x)) xs (behind_fits here (simpler f.area here x) fits (simpler_fits here fits x (all 0 x refl))) (λ j. all (suc j)) k y e
+      forward_fits marks (i + 1) (behind room here (simpler f.area here x)) xs (behind_fits here (simpler f.area here x) fits (simpler_fits here fits x (all 0 x refl))) (λ j. all (suc j)) k y e
 
   kept_fits : (o : Option ℕ) (mask : ℕ) (x : Instruction) → Fits x → Fits (kept_by o mask x)
   kept_fits None mask x e = e
@@ -257,23 +357,23 @@ module _ (n : ℕ) (f : Function) where
       subst Fits same (kept_fits (written x) (get_or masks (i + 1) 0) x (all 0 x refl))
   swept_fits masks i (x ∷ xs) all (suc k) y e = swept_fits masks (i + 1) xs (λ j. all (suc j)) k y e
 
-  simpler_code_fits : (new : List Instruction) → IsSimplerCode f.area f.code new → AllFit f.code → AllFit new
+  simpler_code_fits : (new : List Instruction) → IsSimplerCode room f.code new → AllFit f.code → AllFit new
   simpler_code_fits new (stayed e) all = subst AllFit (sym e) all
-  simpler_code_fits new (improved c) all = subst AllFit (sym c.is) (swept_fits c.masks 0 (forward f.area c.marks 0 nothing f.code) (forward_fits c.marks 0 nothing f.code nothing_fits all))
+  simpler_code_fits new (improved c) all = subst AllFit (sym c.is) (swept_fits c.masks 0 (forward room c.marks 0 nothing f.code) (forward_fits c.marks 0 nothing f.code nothing_fits all))
 
 -- ---- as many instructions
 
-forward_length : (area : ℕ) (marks : List Bool) (i : ℕ) (facts : List Known) (xs : List Instruction) → length (forward area marks i facts xs) ≡ length xs
-forward_length area marks i facts [] = refl
-forward_length area marks i facts (x ∷ xs) = ap suc (forward_length area marks (i + 1) (behind (fresh (is_marked marks i) facts) (simpler area (fresh (is_marked marks i) facts) x)) xs)
+forward_length : (r : Room) (marks : List Bool) (i : ℕ) (facts : List Known) (xs : List Instruction) → length (forward r marks i facts xs) ≡ length xs
+forward_length r marks i facts [] = refl
+forward_length r marks i facts (x ∷ xs) = ap suc (forward_length r marks (i + 1) (behind r (fresh (is_marked marks i) facts) (simpler r.area (fresh (is_marked marks i) facts) x)) xs)
 
 swept_length : (masks : List ℕ) (i : ℕ) (xs : List Instruction) → length (swept masks i xs) ≡ length xs
 swept_length masks i [] = refl
 swept_length masks i (x ∷ xs) = ap suc (swept_length masks (i + 1) xs)
 
-pub code_length : (area : ℕ) (old new : List Instruction) → IsSimplerCode area old new → length new ≡ length old
-code_length area old new (stayed e) = ap length e
-code_length area old new (improved c) = ap length c.is ∙ (swept_length c.masks 0 (forward area c.marks 0 nothing old) ∙ forward_length area c.marks 0 nothing old)
+pub code_length : (r : Room) (old new : List Instruction) → IsSimplerCode r old new → length new ≡ length old
+code_length r old new (stayed e) = ap length e
+code_length r old new (improved c) = ap length c.is ∙ (swept_length c.masks 0 (forward r c.marks 0 nothing old) ∙ forward_length r c.marks 0 nothing old)
 
 -- ---- functions
 
@@ -292,10 +392,21 @@ module _ (n : ℕ) (f : Function) (code : List Instruction) (count : length code
   target_stays (target.Temporary k) e = e
   target_stays (target.Cell c) e = e
 
+  base_stays : (b : Base) → BaseFits f b → BaseFits g b
+  base_stays (base.Statics o) e = e
+  base_stays (base.Frame o) e = e
+
+  index_stays : (y : Operand) → IndexFits f y → IndexFits g y
+  index_stays (operand.Temporary k) e = e
+  index_stays (operand.Cell c) e = e
+  index_stays (operand.Constant v) e = e
+  index_stays (operand.Argument k) e = e
+
   location_stays : (l : Location) → LocationFits f l → LocationFits g l
   location_stays (location.Statics o) e = e
   location_stays (location.Frame o) e = e
   location_stays (location.At x) e = operand_stays x e
+  location_stays (location.Indexed b y size) e = (base_stays b e.0, index_stays y e.1, e.2, e.3)
 
   jump_stays : (to : ℕ) → to < length f.code → to < length code
   jump_stays to e = subst (λ m. to < m) (sym count) e
@@ -319,7 +430,7 @@ module _ (n : ℕ) (f : Function) (code : List Instruction) (count : length code
 
 pub function_fits : (n : ℕ) (f g : Function) → IsSimplerFunction f g → FunctionFits n f → FunctionFits n g
 function_fits n f g r fits =
-    let count = code_length f.area f.code g.code r.code in
+    let count = code_length (room_of f) f.code g.code r.code in
     let every = simpler_code_fits n f g.code r.code fits.each in
     let whole : FunctionFits n (with_code f g.code) = record {
       small = fits.small;

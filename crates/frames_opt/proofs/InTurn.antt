@@ -1,5 +1,5 @@
 -- What does the same as what does the same as a program does the same as the program.
-use Rattle.std.proofs.Common.{◌≡◌, ℕ, List, refl, sym, ◌∙◌, subst}
+use Rattle.std.proofs.Common.{◌≡◌, refl, sym, ◌∙◌, subst}
 use Rattle.frames_code.specs.Code.{Program}
 use Rattle.frames_code.specs.Run.{State, Progress, running, ended, stuck, run, start}
 use Rattle.frames_opt.specs.Simplified.{DoesTheSame, IsDefined, IsAtCall, RunsAlike, CallsAlike, AlikeInTurn, DefinedAlike}

@@ -14,6 +14,7 @@ use Rattle.frames_code.specs.declared.code.Operation.TheVariants as operation
 use Rattle.frames_code.specs.declared.code.Instruction.{Instruction}
 use Rattle.frames_code.specs.declared.code.Instruction.TheVariants as instruction
 use Rattle.frames_code.specs.Costs.{cost}
+use Rattle.frames_opt.specs.declared.room.Room.{Room}
 use Rattle.frames_opt.specs.declared.facts.Known.{Known}
 use Rattle.frames_opt.specs.declared.facts.Known.TheVariants as known
 use Rattle.frames_opt.specs.inside.Facts.{nothing, known_of, behind}
@@ -79,6 +80,7 @@ module _ (P : Instruction → Type 0) where
     numbered_form area (known.Word w) n = any (operand.Constant n)
     numbered_form area (known.Statics o) n = statics_form (within o n size 0x10000000) n
     numbered_form area (known.Frame o) n = frame_form (within o n size area) n
+    numbered_form area (known.Indexed b y width) n = any (operand.Constant n)
 
     pub element_form : (area : ℕ) (k : Known) (y : Operand) → P (simpler_element area k d x y size)
     element_form area k (operand.Temporary j) = any (operand.Temporary j)
@@ -153,9 +155,9 @@ all_are_marked marks (y ∷ ys) (suc k) to x e j = all_are_marked (marked marks 
 
 -- ---- forward
 
-module _ (area : ℕ) (marks : List Bool) where
+module _ (room : Room) (marks : List Bool) where
   abbrev further : List Known → ℕ → Instruction → List Known
-  further facts i x = behind (fresh (is_marked marks i) facts) (simpler area (fresh (is_marked marks i) facts) x)
+  further facts i x = behind room (fresh (is_marked marks i) facts) (simpler room.area (fresh (is_marked marks i) facts) x)
 
   -- the facts known before instruction k of these, the first of which has the number i
   abbrev pub known_from : ℕ → List Known → List Instruction → ℕ → List Known
@@ -163,9 +165,9 @@ module _ (area : ℕ) (marks : List Bool) where
   known_from i facts (x ∷ xs) zero = fresh (is_marked marks i) facts
   known_from i facts (x ∷ xs) (suc k) = known_from (i + 1) (further facts i x) xs k
 
-  forward_at : (i : ℕ) (facts : List Known) (xs : List Instruction) (k : ℕ) (x : Instruction) → slice_get xs k ≡ Some x → slice_get (forward area marks i facts xs) k ≡ Some (simpler area (known_from i facts xs k) x)
+  forward_at : (i : ℕ) (facts : List Known) (xs : List Instruction) (k : ℕ) (x : Instruction) → slice_get xs k ≡ Some x → slice_get (forward room marks i facts xs) k ≡ Some (simpler room.area (known_from i facts xs k) x)
   forward_at i facts [] k x e = absurd (let z : ⊥ = cc in z)
-  forward_at i facts (y ∷ ys) zero x e = let same : y ≡ x = cc in ap (λ z. Some (simpler area (fresh (is_marked marks i) facts) z)) same
+  forward_at i facts (y ∷ ys) zero x e = let same : y ≡ x = cc in ap (λ z. Some (simpler room.area (fresh (is_marked marks i) facts) z)) same
   forward_at i facts (y ∷ ys) (suc k) x e = forward_at (i + 1) (further facts i y) ys k x e
 
   fresh_is : (m : Bool) (facts : List Known) → (fresh m facts ≡ nothing) ⊎ (fresh m facts ≡ facts)
@@ -177,7 +179,7 @@ module _ (area : ℕ) (marks : List Bool) where
   first_known i facts (x ∷ xs) = fresh_is (is_marked marks i) facts
 
   next_known : (i : ℕ) (facts : List Known) (xs : List Instruction) (k : ℕ) (x : Instruction) → slice_get xs k ≡ Some x
-      → (known_from i facts xs (suc k) ≡ nothing) ⊎ (known_from i facts xs (suc k) ≡ behind (known_from i facts xs k) (simpler area (known_from i facts xs k) x))
+      → (known_from i facts xs (suc k) ≡ nothing) ⊎ (known_from i facts xs (suc k) ≡ behind room (known_from i facts xs k) (simpler room.area (known_from i facts xs k) x))
   next_known i facts [] k x e = inl refl
   next_known i facts (y ∷ ys) zero x e =
       let same : y ≡ x = cc in
@@ -276,24 +278,24 @@ kept_cost : (y z : Instruction) (dead : ℕ → Bool) → (z ≡ y) ⊎ Dropped 
 kept_cost y z dead (inl e) = let same : cost z ≡ cost y = ap cost e in omega (arith, same)
 kept_cost y z dead (inr d) = let none : cost z ≡ 0 = ap cost d.is in omega (arith, none)
 
-module _ (area : ℕ) (marks : List Bool) (code : List Instruction) (are : AreMarked marks code) (masks : List ℕ) (right : are_right masks 0 (forward area marks 0 nothing code) ≡ true) where
+module _ (room : Room) (marks : List Bool) (code : List Instruction) (are : AreMarked marks code) (masks : List ℕ) (right : are_right masks 0 (forward room marks 0 nothing code) ≡ true) where
   abbrev middle_of : List Instruction
-  middle_of = forward area marks 0 nothing code
+  middle_of = forward room marks 0 nothing code
 
   abbrev pub known_at : ℕ → List Known
-  known_at k = known_from area marks 0 nothing code k
+  known_at k = known_from room marks 0 nothing code k
 
-  pub position : (i : ℕ) (x : Instruction) → slice_get code i ≡ Some x → Position area known_at masks (swept masks 0 middle_of) i x
+  pub position : (i : ℕ) (x : Instruction) → slice_get code i ≡ Some x → Position room known_at masks (swept masks 0 middle_of) i x
   position i x e =
-      let y = simpler area (known_at i) x in
-      let held : slice_get middle_of i ≡ Some y = forward_at area marks 0 nothing code i x e in
+      let y = simpler room.area (known_at i) x in
+      let held : slice_get middle_of i ≡ Some y = forward_at room marks 0 nothing code i x e in
       let one : suc i ≡ i + 1 = omega arith in
       let z = kept (get_or masks (i + 1) 0) y in
       let second : slice_get (swept masks 0 middle_of) i ≡ Some z = swept_at masks 0 middle_of i i y held (omega arith) in
       let all : all_right masks i y ≡ true = all_right_at masks 0 middle_of i i y right held (omega arith) in
       let out : (z ≡ y) ⊎ Dropped y z (λ k. dead_at masks (i + 1) k) = kept_out y (get_or masks (i + 1) 0) (written y) refl in
-      let next : (known_at (i + 1) ≡ nothing) ⊎ (known_at (i + 1) ≡ behind (known_at i) y) =
-      subst (λ j. (known_at j ≡ nothing) ⊎ (known_at j ≡ behind (known_at i) y)) one (next_known area marks 0 nothing code i x e) in
+      let next : (known_at (i + 1) ≡ nothing) ⊎ (known_at (i + 1) ≡ behind room (known_at i) y) =
+      subst (λ j. (known_at j ≡ nothing) ⊎ (known_at j ≡ behind room (known_at i) y)) one (next_known room marks 0 nothing code i x e) in
       record {
         half = y;
         done = z;
@@ -301,18 +303,18 @@ module _ (area : ℕ) (marks : List Bool) (code : List Instruction) (are : AreMa
         by = inr refl;
         flow = record {
           next = next;
-          jumps = λ to j. marked_known area marks 0 nothing code to to (omega arith) (are i to x e (sym (jump_same area (known_at i) x) ∙ j));
+          jumps = λ to j. marked_known room marks 0 nothing code to to (omega arith) (are i to x e (sym (jump_same room.area (known_at i) x) ∙ j));
         };
         unread = unread masks i y all;
         leads = leads masks i y all;
         out = out;
-        cheap = (let a = kept_cost y z (λ k. dead_at masks (i + 1) k) out in let b = cost_less area (known_at i) x in omega (arith, a, b));
+        cheap = (let a = kept_cost y z (λ k. dead_at masks (i + 1) k) out in let b = cost_less room.area (known_at i) x in omega (arith, a, b));
       }
 
 -- ---- code that stays as it is
 
-nothing_flows : (y : Instruction) (i : ℕ) → Flow (λ k. nothing) i y
-nothing_flows y i = record { next = inl refl; jumps = λ to e. refl }
+nothing_flows : (room : Room) (y : Instruction) (i : ℕ) → Flow room (λ k. nothing) i y
+nothing_flows room y i = record { next = inl refl; jumps = λ to e. refl }
 
 none_dead : (k : ℕ) → is_dead 0 k ≡ false
 none_dead zero = refl
@@ -330,13 +332,13 @@ pub none_right : (i : ℕ) (xs : List Instruction) → are_right [] i xs ≡ tru
 none_right i [] = refl
 none_right i (x ∷ xs) = none_right (i + 1) xs
 
-pub same_position : (area : ℕ) (code : List Instruction) (i : ℕ) (x : Instruction) → slice_get code i ≡ Some x → Position area (λ k. nothing) [] code i x
-same_position area code i x e = record {
+pub same_position : (room : Room) (code : List Instruction) (i : ℕ) (x : Instruction) → slice_get code i ≡ Some x → Position room (λ k. nothing) [] code i x
+same_position room code i x e = record {
   half = x;
   done = x;
   done_is = e;
   by = inl refl;
-  flow = nothing_flows x i;
+  flow = nothing_flows room x i;
   unread = λ k g. absurd (not_true (sym (none_dead k) ∙ g));
   leads = λ k g w. absurd (not_true (sym (none_dead k) ∙ g));
   out = inl refl;

@@ -8,7 +8,8 @@ use Rattle.frames_code.specs.Costs.{cost, cost_if, cost_on, next_of, spent}
 use Rattle.frames_code.specs.Run.{Values, State, Progress, running, ended, stuck, unset, act, step, run, start, goes_on, function_at, ◌>>=◌}
 use Rattle.frames_opt.specs.declared.facts.Known.{Known}
 use Rattle.frames_opt.specs.Simplified.{DoesTheSame, IsDefined}
-use Rattle.frames_opt.specs.inside.Facts.{nothing}
+use Rattle.frames_opt.specs.declared.room.Room.{Room}
+use Rattle.frames_opt.specs.inside.Facts.{nothing, room_of}
 use Rattle.frames_opt.specs.inside.Rules.{simpler}
 use Rattle.frames_opt.specs.inside.Liveness.{written, is_written, reads, dead_at, dead_behind}
 use Rattle.frames_opt.proofs.Acts.{Holds, name_in, home_in, act_same}
@@ -23,12 +24,12 @@ pub record Dropped (y z : Instruction) (dead : ℕ → Bool) : Type 0 where
   pub lost : dead number ≡ true
 
 -- instruction i, which is x in the program: simplified by the known facts, and in the end
-pub record Position (area : ℕ) (kn : ℕ → List Known) (masks : List ℕ) (new : List Instruction) (i : ℕ) (x : Instruction) : Type 0 where
+pub record Position (room : Room) (kn : ℕ → List Known) (masks : List ℕ) (new : List Instruction) (i : ℕ) (x : Instruction) : Type 0 where
   pub half : Instruction
   pub done : Instruction
   pub done_is : slice_get new i ≡ Some done
-  pub by : (half ≡ x) ⊎ (half ≡ simpler area (kn i) x)
-  pub flow : Flow kn i half
+  pub by : (half ≡ x) ⊎ (half ≡ simpler room.area (kn i) x)
+  pub flow : Flow room kn i half
   pub unread : (k : ℕ) → dead_at masks i k ≡ true → reads k done ≡ false
   pub leads : (k : ℕ) → dead_at masks i k ≡ true → is_written k half ≡ false → dead_behind masks i half k ≡ true
   pub out : (done ≡ half) ⊎ Dropped half done (λ k. dead_at masks (i + 1) k)
@@ -39,7 +40,7 @@ pub record IsSimpler (p q : Program) (kn : ℕ → ℕ → List Known) (masks : 
   pub main : q.main ≡ p.main
   pub starts : (k : ℕ) → kn k 0 ≡ nothing
   pub count : (k : ℕ) → length (function_at q k).code ≡ length (function_at p k).code
-  pub each : (k i : ℕ) (x : Instruction) → slice_get (function_at p k).code i ≡ Some x → Position (function_at p k).area (kn k) (masks k) (function_at q k).code i x
+  pub each : (k i : ℕ) (x : Instruction) → slice_get (function_at p k).code i ≡ Some x → Position (room_of (function_at p k)) (kn k) (masks k) (function_at q k).code i x
 
 module _ (p q : Program) (kn : ℕ → ℕ → List Known) (masks : ℕ → List ℕ) (simple : IsSimpler p q kn masks) where
   -- the temporaries that are dead before the next instruction
@@ -60,7 +61,7 @@ module _ (p q : Program) (kn : ℕ → ℕ → List Known) (masks : ℕ → List
     behind s2 f = ap (λ (n : ℕ). λ (j : ℕ). dead_at (masks n) s2.frame.at j) f
 
     module _ (x : Instruction) (is : slice_get (function_at p k).code i ≡ Some x) where
-      abbrev c : Position (function_at p k).area (kn k) (masks k) (function_at q k).code i x
+      abbrev c : Position (room_of (function_at p k)) (kn k) (masks k) (function_at q k).code i x
       c = simple.each k i x is
 
       same : act p s c.half ≡ act p s x
@@ -192,7 +193,7 @@ module _ (p q : Program) (kn : ℕ → ℕ → List Known) (masks : ℕ → List
   start_same input = ap (λ m. started m q.statics input) simple.main ∙ ap (λ (xs : List ℕ). started p.main xs input) simple.sized.statics
 
   start_stands : (input : List ℕ) → Stands p kn (start p input)
-  start_stands input = (subst (λ f. Holds (name_in p (start p input)) (home_in p (start p input)) f unset) (sym (simple.starts p.main)) (nothing_holds (name_in p (start p input)) (home_in p (start p input)) unset), tt)
+  start_stands input = (subst (λ f. Holds (name_in p (start p input)) (home_in p (start p input)) f unset unset) (sym (simple.starts p.main)) (nothing_holds (name_in p (start p input)) (home_in p (start p input)) unset unset), tt)
 
   start_agrees : (input : List ℕ) → Agree (dead (start p input)) (start p input) unset unset
   start_agrees input = record { temporaries = λ j. inl refl; arguments = λ j v e. e }

@@ -9,7 +9,8 @@ use Rattle.frames_code.specs.Sound.{FunctionFits, IsSoundProgram, places_of}
 use Rattle.frames_opt.specs.declared.facts.Known.{Known}
 use Rattle.frames.specs.Costs.{code_bytes}
 use Rattle.frames_opt.specs.Simplified.{IsSimplified}
-use Rattle.frames_opt.specs.inside.Facts.{nothing}
+use Rattle.frames_opt.specs.declared.room.Room.{Room}
+use Rattle.frames_opt.specs.inside.Facts.{nothing, room_of}
 use Rattle.frames_opt.specs.layer.Functions.{IsSimplerCode, stayed, improved, AreSimpler}
 use Rattle.frames_opt.proofs.Alike.{with_code}
 use Rattle.frames_opt.proofs.Runs.{Position, IsSimpler, runs, costs}
@@ -19,22 +20,22 @@ use Rattle.frames_opt.proofs.Fitting.{code_length, function_fits}
 
 -- ---- functions
 
-abbrev known_in : (area : ℕ) (old new : List Instruction) → IsSimplerCode area old new → ℕ → List Known
-known_in area old new (stayed e) = λ k. nothing
-known_in area old new (improved c) = known_at area c.marks old c.are c.masks c.right
+abbrev known_in : (room : Room) (old new : List Instruction) → IsSimplerCode room old new → ℕ → List Known
+known_in room old new (stayed e) = λ k. nothing
+known_in room old new (improved c) = known_at room c.marks old c.are c.masks c.right
 
-abbrev masks_in : (area : ℕ) (old new : List Instruction) → IsSimplerCode area old new → List ℕ
-masks_in area old new (stayed e) = []
-masks_in area old new (improved c) = c.masks
+abbrev masks_in : (room : Room) (old new : List Instruction) → IsSimplerCode room old new → List ℕ
+masks_in room old new (stayed e) = []
+masks_in room old new (improved c) = c.masks
 
-position_in : (area : ℕ) (old new : List Instruction) (c : IsSimplerCode area old new) (i : ℕ) (x : Instruction) → slice_get old i ≡ Some x → Position area (known_in area old new c) (masks_in area old new c) new i x
-position_in area old new (stayed e) i x h = subst (λ m. Position area (λ k. nothing) [] m i x) (sym e) (same_position area old i x h)
-position_in area old new (improved c) i x h =
-    subst (λ m. Position area (known_at area c.marks old c.are c.masks c.right) c.masks m i x) (sym c.is) (position area c.marks old c.are c.masks c.right i x h)
+position_in : (room : Room) (old new : List Instruction) (c : IsSimplerCode room old new) (i : ℕ) (x : Instruction) → slice_get old i ≡ Some x → Position room (known_in room old new c) (masks_in room old new c) new i x
+position_in room old new (stayed e) i x h = subst (λ m. Position room (λ k. nothing) [] m i x) (sym e) (same_position room old i x h)
+position_in room old new (improved c) i x h =
+    subst (λ m. Position room (known_at room c.marks old c.are c.masks c.right) c.masks m i x) (sym c.is) (position room c.marks old c.are c.masks c.right i x h)
 
-start_in : (area : ℕ) (old new : List Instruction) (c : IsSimplerCode area old new) → known_in area old new c 0 ≡ nothing
-start_in area old new (stayed e) = refl
-start_in area old new (improved c) = start_known area c.marks old
+start_in : (room : Room) (old new : List Instruction) (c : IsSimplerCode room old new) → known_in room old new c 0 ≡ nothing
+start_in room old new (stayed e) = refl
+start_in room old new (improved c) = start_known room c.marks old
 
 -- ---- functions by their numbers
 
@@ -42,21 +43,21 @@ abbrev known_of : (fs gs : List Function) → AreSimpler fs gs → ℕ → ℕ �
 known_of [] [] each k = λ i. nothing
 known_of [] (g ∷ gs) each k = λ i. nothing
 known_of (f ∷ fs) [] each k = λ i. nothing
-known_of (f ∷ fs) (g ∷ gs) each zero = known_in f.area f.code g.code each.0.code
+known_of (f ∷ fs) (g ∷ gs) each zero = known_in (room_of f) f.code g.code each.0.code
 known_of (f ∷ fs) (g ∷ gs) each (suc k) = known_of fs gs each.1 k
 
 abbrev masks_of : (fs gs : List Function) → AreSimpler fs gs → ℕ → List ℕ
 masks_of [] [] each k = []
 masks_of [] (g ∷ gs) each k = []
 masks_of (f ∷ fs) [] each k = []
-masks_of (f ∷ fs) (g ∷ gs) each zero = masks_in f.area f.code g.code each.0.code
+masks_of (f ∷ fs) (g ∷ gs) each zero = masks_in (room_of f) f.code g.code each.0.code
 masks_of (f ∷ fs) (g ∷ gs) each (suc k) = masks_of fs gs each.1 k
 
 start_of : (fs gs : List Function) (each : AreSimpler fs gs) (k : ℕ) → known_of fs gs each k 0 ≡ nothing
 start_of [] [] each k = refl
 start_of [] (g ∷ gs) each k = absurd each
 start_of (f ∷ fs) [] each k = absurd each
-start_of (f ∷ fs) (g ∷ gs) each zero = start_in f.area f.code g.code each.0.code
+start_of (f ∷ fs) (g ∷ gs) each zero = start_in (room_of f) f.code g.code each.0.code
 start_of (f ∷ fs) (g ∷ gs) each (suc k) = start_of fs gs each.1 k
 
 -- both have a function of this number, or neither has
@@ -64,13 +65,13 @@ abbrev IsPair : (ℕ → List Known) → List ℕ → Option Function → Option
 IsPair kn masks None None = Unit {0}
 IsPair kn masks None (Some g) = ⊥
 IsPair kn masks (Some f) None = ⊥
-IsPair kn masks (Some f) (Some g) = (g ≡ with_code f g.code) × (length g.code ≡ length f.code) × ((i : ℕ) (x : Instruction) → slice_get f.code i ≡ Some x → Position f.area kn masks g.code i x)
+IsPair kn masks (Some f) (Some g) = (g ≡ with_code f g.code) × (length g.code ≡ length f.code) × ((i : ℕ) (x : Instruction) → slice_get f.code i ≡ Some x → Position (room_of f) kn masks g.code i x)
 
 pair_at : (fs gs : List Function) (each : AreSimpler fs gs) (k : ℕ) → IsPair (known_of fs gs each k) (masks_of fs gs each k) (slice_get fs k) (slice_get gs k)
 pair_at [] [] each k = tt
 pair_at [] (g ∷ gs) each k = absurd each
 pair_at (f ∷ fs) [] each k = absurd each
-pair_at (f ∷ fs) (g ∷ gs) each zero = (each.0.is, code_length f.area f.code g.code each.0.code, position_in f.area f.code g.code each.0.code)
+pair_at (f ∷ fs) (g ∷ gs) each zero = (each.0.is, code_length (room_of f) f.code g.code each.0.code, position_in (room_of f) f.code g.code each.0.code)
 pair_at (f ∷ fs) (g ∷ gs) each (suc k) = pair_at fs gs each.1 k
 
 module _ (p q : Program) (each : AreSimpler p.functions q.functions) (same_statics : q.statics ≡ p.statics) (same_main : q.main ≡ p.main) where
@@ -87,7 +88,7 @@ module _ (p q : Program) (each : AreSimpler p.functions q.functions) (same_stati
   sized_at k (Some f) (Some g) e e2 is = rw (e, e2) is.0
 
   position_at : (k : ℕ) (o o2 : Option Function) → slice_get p.functions k ≡ o → slice_get q.functions k ≡ o2 → IsPair (kn k) (masks k) o o2
-      → (i : ℕ) (x : Instruction) → slice_get (function_at p k).code i ≡ Some x → Position (function_at p k).area (kn k) (masks k) (function_at q k).code i x
+      → (i : ℕ) (x : Instruction) → slice_get (function_at p k).code i ≡ Some x → Position (room_of (function_at p k)) (kn k) (masks k) (function_at q k).code i x
   position_at k None None e e2 is i x h = let none : (function_at p k).code ≡ [] = rw e refl in let no : None ≡ Some x = ap (λ xs. slice_get xs i) (sym none) ∙ h in absurd (let z : ⊥ = cc in z)
   position_at k None (Some g) e e2 is i x h = absurd is
   position_at k (Some f) None e e2 is i x h = absurd is
@@ -95,8 +96,8 @@ module _ (p q : Program) (each : AreSimpler p.functions q.functions) (same_stati
       let first : function_at p k ≡ f = rw e refl in
       let second : function_at q k ≡ g = rw e2 refl in
       let held : slice_get f.code i ≡ Some x = ap (λ (d : Function). slice_get d.code i) (sym first) ∙ h in
-      let one : Position f.area (kn k) (masks k) (function_at q k).code i x = subst (λ (d : Function). Position f.area (kn k) (masks k) d.code i x) (sym second) (is.2 i x held) in
-      subst (λ (d : Function). Position d.area (kn k) (masks k) (function_at q k).code i x) (sym first) one
+      let one : Position (room_of f) (kn k) (masks k) (function_at q k).code i x = subst (λ (d : Function). Position (room_of f) (kn k) (masks k) d.code i x) (sym second) (is.2 i x held) in
+      subst (λ (d : Function). Position (room_of d) (kn k) (masks k) (function_at q k).code i x) (sym first) one
 
   count_at : (k : ℕ) (o o2 : Option Function) → slice_get p.functions k ≡ o → slice_get q.functions k ≡ o2 → IsPair (kn k) (masks k) o o2 → length (function_at q k).code ≡ length (function_at p k).code
   count_at k None None e e2 is = rw (e, e2) refl
@@ -142,7 +143,7 @@ same_places [] [] r = refl
 same_places [] (g ∷ gs) r = absurd r
 same_places (f ∷ fs) [] r = absurd r
 same_places (f ∷ fs) (g ∷ gs) r =
-    let one : length g.code ≡ length f.code = code_length f.area f.code g.code r.0.code in
+    let one : length g.code ≡ length f.code = code_length (room_of f) f.code g.code r.0.code in
     omega (arith, one, same_places fs gs r.1, sum_by-cons (λ (h : Function). length h.code + 1) f fs, sum_by-cons (λ (h : Function). length h.code + 1) g gs)
 
 stays_sound : (p q : Program) → AreSimpler p.functions q.functions → q.statics ≡ p.statics → q.main ≡ p.main → IsSoundProgram p → IsSoundProgram q

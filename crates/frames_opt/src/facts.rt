@@ -3,8 +3,10 @@
 ghost use Rattle.std.specs.Prelude.{◌≡◌, replicate};
 ghost use Rattle.frames_opt.specs.inside.Facts as facts_in;
 
+use crate::indices::indexed_from;
 use crate::operations::computed;
-use frames_code::{Instruction, Location, Operand, Target};
+use crate::room::Room;
+use frames_code::{Base, Instruction, Location, Operand, Target};
 
 /// The abstract value of a temporary.
 #[derive(Clone, Copy, Debug)]
@@ -16,6 +18,12 @@ pub enum Known {
     Statics(usize),
     /// A reference at this offset in bytes from the start of the arrays of the frame.
     Frame(usize),
+    /// A reference to the element with this number of an array of elements of `size` bytes, which an access may name.
+    Indexed {
+        base: Base,
+        index: Operand,
+        size: usize,
+    },
 }
 
 /// The facts known of the first eight temporaries, which live in registers.
@@ -61,13 +69,68 @@ fn reference_to(location: Location) -> Known
     }
 }
 
+/// Whether the word that is written is the operand.
+fn is_target(target: Target, operand: Operand) -> bool
+    ensures { result ≡ facts_in.is_target target operand }
+{
+    match target {
+        Target::Temporary(written) => match operand {
+            Operand::Temporary(number) => written == number,
+            Operand::Cell(_) => false,
+            Operand::Constant(_) => false,
+            Operand::Argument(_) => false,
+        },
+        Target::Cell(written) => match operand {
+            Operand::Temporary(_) => false,
+            Operand::Cell(number) => written == number,
+            Operand::Constant(_) => false,
+            Operand::Argument(_) => false,
+        },
+    }
+}
+
+/// What stays known as a word is written.
+fn killed(target: Target, known: Known) -> Known
+    ensures { result ≡ facts_in.killed target known }
+{
+    match known {
+        Known::Unknown => Known::Unknown,
+        Known::Word(word) => Known::Word(word),
+        Known::Statics(offset) => Known::Statics(offset),
+        Known::Frame(offset) => Known::Frame(offset),
+        Known::Indexed { base, index, size } => {
+            if is_target(target, index) {
+                Known::Unknown
+            } else {
+                Known::Indexed { base, index, size }
+            }
+        }
+    }
+}
+
+fn kill(facts: &mut Facts, target: Target)
+    ensures { facts.new ≡ facts_in.all_killed target facts.old }
+{
+    *facts = [
+        killed(target, facts[0]),
+        killed(target, facts[1]),
+        killed(target, facts[2]),
+        killed(target, facts[3]),
+        killed(target, facts[4]),
+        killed(target, facts[5]),
+        killed(target, facts[6]),
+        killed(target, facts[7]),
+    ];
+}
+
 fn learn(facts: &mut Facts, target: Target, known: Known)
     ensures { facts.new ≡ facts_in.learned facts.old target known }
 {
+    kill(facts, target);
     match target {
         Target::Temporary(number) => {
             if number < 8 {
-                facts[number] = known;
+                facts[number] = killed(target, known);
             }
         }
         Target::Cell(_) => {}
@@ -81,8 +144,8 @@ fn forget(facts: &mut Facts)
 }
 
 /// The facts known after an instruction.
-pub fn pass(facts: &mut Facts, instruction: Instruction)
-    ensures { facts.new ≡ facts_in.behind facts.old instruction }
+pub fn pass(room: Room, facts: &mut Facts, instruction: Instruction)
+    ensures { facts.new ≡ facts_in.behind room facts.old instruction }
 {
     match instruction {
         Instruction::Nothing => {}
@@ -100,7 +163,15 @@ pub fn pass(facts: &mut Facts, instruction: Instruction)
         Instruction::Load { target, .. } => learn(facts, target, Known::Unknown),
         Instruction::Store { .. } => {}
         Instruction::Address { target, of } => learn(facts, target, reference_to(of)),
-        Instruction::Element { target, .. } => learn(facts, target, Known::Unknown),
+        Instruction::Element {
+            target,
+            array,
+            index,
+            size,
+        } => {
+            let known = indexed_from(room, known_of(facts, array), index, size);
+            learn(facts, target, known);
+        }
         Instruction::Jump(_) => forget(facts),
         Instruction::Branch { .. } => {}
         Instruction::Call(_) => forget(facts),

@@ -11,33 +11,26 @@ use crate::bytes::is_no_longer;
 use crate::liveness::{masks_of, swept};
 use crate::marks::marks_of;
 use crate::passes::forward;
+use crate::room::{Room, room_of};
 use frames_code::{FlatProgram, Function, Instruction};
 use std::alloc::{AllocError, Global};
 
-/// The code of a function whose arrays have `area` bytes, by both passes.
-fn improved(
-    alloc: Global,
-    area: usize,
-    code: &[Instruction],
-) -> Result<Vec<Instruction>, AllocError>
-    ensures { IfOk result (λ made. IsImproved area code.now made.items) }
+/// The code of a function with this room, by both passes.
+fn improved(alloc: Global, room: Room, code: &[Instruction]) -> Result<Vec<Instruction>, AllocError>
+    ensures { IfOk result (λ made. IsImproved room code.now made.items) }
 {
     let marks = marks_of(alloc, code)?;
-    let known = forward(alloc, area, &marks, code)?;
+    let known = forward(alloc, room, &marks, code)?;
     let masks = masks_of(alloc, &known)?;
     swept(alloc, &masks, &known)
 }
 
 /// The code by both passes, or as it was where it would have more bytes.
-fn chosen(
-    alloc: Global,
-    area: usize,
-    code: Vec<Instruction>,
-) -> Result<Vec<Instruction>, AllocError>
-    ensures code { IfOk result (λ made. IsSimplerCode area code.items made.items) }
+fn chosen(alloc: Global, room: Room, code: Vec<Instruction>) -> Result<Vec<Instruction>, AllocError>
+    ensures code { IfOk result (λ made. IsSimplerCode room code.items made.items) }
     ensures bytes { IfOk result (λ made. sum_by code_bytes made.items ≤ sum_by code_bytes code.items) }
 {
-    let better = improved(alloc, area, &code)?;
+    let better = improved(alloc, room, &code)?;
     if is_no_longer(&better, &code) {
         Ok(better)
     } else {
@@ -49,7 +42,8 @@ fn chosen(
 pub fn simplify_function(alloc: Global, function: Function) -> Result<Function, AllocError>
     ensures { IfOk result (λ g. IsSimplerFunction (function_of function) (function_of g)) }
 {
-    let code = chosen(alloc, function.area, function.code)?;
+    let room = room_of(&function);
+    let code = chosen(alloc, room, function.code)?;
     Ok(Function {
         code,
         cells: function.cells,

@@ -4,11 +4,13 @@
 mod bytes;
 mod facts;
 mod functions;
+mod indices;
 mod laws;
 mod liveness;
 mod marks;
 mod operations;
 mod passes;
+mod room;
 mod rules;
 
 pub use bytes::size_of;

@@ -32,7 +32,7 @@ fn is_through(number: usize, location: Location) -> bool
 }
 
 /// Whether an instruction reads a temporary; a call, a byte put or got, and an end count as reading all.
-fn reads(number: usize, instruction: Instruction) -> bool
+pub fn reads(number: usize, instruction: Instruction) -> bool
     ensures { result ≡ liveness.reads number instruction }
 {
     match instruction {
@@ -86,7 +86,7 @@ fn written(instruction: Instruction) -> Option<usize>
     }
 }
 
-fn is_written(number: usize, instruction: Instruction) -> bool
+pub fn is_written(number: usize, instruction: Instruction) -> bool
     ensures { result ≡ liveness.is_written number instruction }
 {
     match written(instruction) {
@@ -233,6 +233,7 @@ fn bits_through(location: Location) -> u8 {
         Location::Statics(_) => 0,
         Location::Frame(_) => 0,
         Location::At(operand) => bits_named(operand),
+        Location::Indexed { index, .. } => bits_named(index),
     }
 }
 

@@ -1,10 +1,11 @@
 //! Where jumps lead.
 
-ghost use Rattle.std.specs.Prelude.{◌≡◌, true, set, IfOk};
+ghost use Rattle.std.specs.Prelude.{◌≡◌, ℕ, true, length, set, IfOk};
 ghost use Rattle.frames_opt.specs.inside.Passes as passes;
 ghost use Rattle.frames_opt.specs.inside.Passes.{AreMarked};
 
-use frames_code::Instruction;
+use crate::liveness::{is_written, reads};
+use frames_code::{Instruction, Operand, Target};
 use std::alloc::{AllocError, Global};
 
 /// Whether a jump may lead to the instruction with this number.
@@ -56,12 +57,101 @@ fn mark_all(marks: &mut [bool], code: &[Instruction])
     }
 }
 
-/// Marks for the instructions that jumps lead to.
+/// How far the uses of a reference are looked for.
+const WINDOW: usize = 64;
+
+fn is_temporary(operand: Operand, number: usize) -> bool {
+    match operand {
+        Operand::Temporary(other) => other == number,
+        Operand::Cell(_) => false,
+        Operand::Constant(_) => false,
+        Operand::Argument(_) => false,
+    }
+}
+
+/// Whether an instruction only leads a reference on by a constant number of elements.
+fn leads_on(instruction: Instruction, number: usize) -> bool {
+    match instruction {
+        Instruction::Element {
+            target: Target::Temporary(target),
+            array,
+            index: Operand::Constant(_),
+            ..
+        } => target == number && is_temporary(array, number),
+        _ => false,
+    }
+}
+
+/// Whether a temporary has another value behind an instruction, or the code goes on elsewhere.
+fn ends_use(instruction: Instruction, number: usize) -> bool {
+    match instruction {
+        Instruction::Jump(_) => true,
+        Instruction::Call(_) => true,
+        Instruction::PutByte => true,
+        Instruction::GetByte => true,
+        Instruction::Exit => true,
+        Instruction::Return => true,
+        _ => is_written(number, instruction),
+    }
+}
+
+/// Whether the code after instruction `at` reads the reference that it makes more than once.
+fn is_shared(code: &[Instruction], at: usize) -> bool {
+    let Some(
+        Instruction::Element {
+            target: Target::Temporary(number),
+            ..
+        },
+    ) = code.get(at)
+    else {
+        return false;
+    };
+    let mut is_read = false;
+    for behind in 0..WINDOW {
+        let Some(instruction) = code.get(at.saturating_add(1).saturating_add(behind)) else {
+            return false;
+        };
+        if !leads_on(*instruction, *number) {
+            if reads(*number, *instruction) {
+                if is_read {
+                    return true;
+                }
+                is_read = true;
+            }
+            if ends_use(*instruction, *number) {
+                return false;
+            }
+        }
+    }
+    false
+}
+
+/// Marks the instruction after each that makes a reference for more than one access: to name the element in each would take its sum again.
+fn mark_shared(marks: &mut [bool], code: &[Instruction])
+    ensures more { (k : ℕ) → passes.is_marked marks.old k ≡ true → passes.is_marked marks.new k ≡ true }
+    ensures len { length marks.new ≡ length marks.old }
+{
+    for number in 0..code.len() {
+        if is_shared(code, number) {
+            put_mark(marks, number + 1);
+        }
+    }
+}
+
+fn mark_each(marks: &mut [bool], code: &[Instruction])
+    ensures marked { AreMarked marks.new code.now }
+    ensures len { length marks.new ≡ length marks.old }
+{
+    mark_all(marks, code);
+    mark_shared(marks, code);
+}
+
+/// Marks for the instructions that jumps lead to, and for some others.
 pub fn marks_of(alloc: Global, code: &[Instruction]) -> Result<Vec<bool>, AllocError>
     ensures { IfOk result (λ marks. AreMarked marks.items code.now) }
 {
     let mut marks = Vec::new(alloc);
     marks.resize(code.len(), false)?;
-    mark_all(&mut marks, code);
+    mark_each(&mut marks, code);
     Ok(marks)
 }

@@ -6,6 +6,7 @@ ghost use Rattle.frames_opt.specs.inside.Passes as passes;
 
 use crate::facts::{nothing, pass};
 use crate::marks::is_marked;
+use crate::room::Room;
 use crate::rules::simpler;
 use frames_code::Instruction;
 use std::alloc::{AllocError, Global};
@@ -13,11 +14,11 @@ use std::alloc::{AllocError, Global};
 /// The code by the facts known before each instruction; jumps lead to marked ones alone.
 pub fn forward(
     alloc: Global,
-    area: usize,
+    room: Room,
     marks: &[bool],
     code: &[Instruction],
 ) -> Result<Vec<Instruction>, AllocError>
-    ensures { IfOk result (λ made. made.items ≡ passes.forward area marks.now 0 nothing_known code.now) }
+    ensures { IfOk result (λ made. made.items ≡ passes.forward room marks.now 0 nothing_known code.now) }
 {
     let mut facts = nothing();
     let mut made = Vec::with_capacity(alloc, code.len())?;
@@ -25,8 +26,8 @@ pub fn forward(
         if is_marked(marks, number) {
             facts = nothing();
         }
-        let simple = simpler(area, &facts, code[number]);
-        pass(&mut facts, simple);
+        let simple = simpler(room.area, &facts, code[number]);
+        pass(room, &mut facts, simple);
         made.push(simple)?;
     }
     Ok(made)

@@ -18,6 +18,7 @@ fn constant_or(operand: Operand, known: Known) -> Operand
         Known::Word(word) => Operand::Constant(word),
         Known::Statics(_) => operand,
         Known::Frame(_) => operand,
+        Known::Indexed { .. } => operand,
     }
 }
 
@@ -35,6 +36,7 @@ fn location_or(operand: Operand, known: Known) -> Location
         Known::Word(_) => Location::At(operand),
         Known::Statics(offset) => Location::Statics(offset),
         Known::Frame(offset) => Location::Frame(offset),
+        Known::Indexed { base, index, size } => Location::Indexed { base, index, size },
     }
 }
 
@@ -122,6 +124,7 @@ fn numbered(
     match known {
         Known::Unknown => frame_or(None, target, array, index, size),
         Known::Word(_) => frame_or(None, target, array, index, size),
+        Known::Indexed { .. } => frame_or(None, target, array, index, size),
         Known::Statics(offset) => {
             statics_or(
                 within(offset, index, size, MOST_STATICS),

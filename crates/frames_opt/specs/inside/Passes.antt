@@ -2,6 +2,7 @@
 use Rattle.std.specs.Prelude.{◌≡◌, ℕ, ◌+◌, Bool, true, if◌then◌else◌, List, [], ◌∷◌, set, get_or, slice_get, Option, Some, None}
 use Rattle.frames_code.specs.declared.code.Instruction.{Instruction}
 use Rattle.frames_code.specs.declared.code.Instruction.TheVariants as instruction
+use Rattle.frames_opt.specs.declared.room.Room.{Room}
 use Rattle.frames_opt.specs.declared.facts.Known.{Known}
 use Rattle.frames_opt.specs.inside.Facts.{nothing, behind}
 use Rattle.frames_opt.specs.inside.Rules.{simpler}
@@ -48,8 +49,8 @@ abbrev pub fresh : Bool → List Known → List Known
 fresh m facts = if m then nothing else facts
 
 -- from instruction i on
-abbrev pub forward : ℕ → List Bool → ℕ → List Known → List Instruction → List Instruction
-forward area marks i facts [] = []
-forward area marks i facts (x ∷ xs) =
-    simpler area (fresh (is_marked marks i) facts) x
-    ∷ forward area marks (i + 1) (behind (fresh (is_marked marks i) facts) (simpler area (fresh (is_marked marks i) facts) x)) xs
+abbrev pub forward : Room → List Bool → ℕ → List Known → List Instruction → List Instruction
+forward room marks i facts [] = []
+forward room marks i facts (x ∷ xs) =
+    simpler room.area (fresh (is_marked marks i) facts) x
+    ∷ forward room marks (i + 1) (behind room (fresh (is_marked marks i) facts) (simpler room.area (fresh (is_marked marks i) facts) x)) xs

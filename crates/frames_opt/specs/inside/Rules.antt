@@ -23,6 +23,7 @@ constant_or x known.Unknown = x
 constant_or x (known.Word w) = operand.Constant w
 constant_or x (known.Statics o) = x
 constant_or x (known.Frame o) = x
+constant_or x (known.Indexed b y size) = x
 
 abbrev pub simpler_operand : List Known → Operand → Operand
 simpler_operand facts x = constant_or x (known_of facts x)
@@ -32,6 +33,7 @@ location_or x known.Unknown = location.At x
 location_or x (known.Word w) = location.At x
 location_or x (known.Statics o) = location.Statics o
 location_or x (known.Frame o) = location.Frame o
+location_or x (known.Indexed b y size) = location.Indexed b y size
 
 abbrev pub simpler_location : List Known → Location → Location
 simpler_location facts (location.Statics o) = location.Statics o
@@ -142,6 +144,7 @@ numbered area known.Unknown d x n size = frame_or None d x n size
 numbered area (known.Word w) d x n size = frame_or None d x n size
 numbered area (known.Statics o) d x n size = statics_or (within o n size 0x10000000) d x n size
 numbered area (known.Frame o) d x n size = frame_or (within o n size area) d x n size
+numbered area (known.Indexed b y width) d x n size = frame_or None d x n size
 
 abbrev pub simpler_element : ℕ → Known → Target → Operand → Operand → ℕ → Instruction
 simpler_element area k d x (operand.Temporary j) size = element d x (operand.Temporary j) size

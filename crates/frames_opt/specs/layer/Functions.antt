@@ -4,27 +4,28 @@ use Rattle.frames_code.specs.declared.code.Instruction.{Instruction}
 use Rattle.frames_code.specs.Code.{Function, Program}
 use Rattle.frames.specs.Costs.{code_bytes}
 use Rattle.frames_opt.specs.Simplified.{IsSimplified}
-use Rattle.frames_opt.specs.inside.Facts.{nothing}
+use Rattle.frames_opt.specs.declared.room.Room.{Room}
+use Rattle.frames_opt.specs.inside.Facts.{nothing, room_of}
 use Rattle.frames_opt.specs.inside.Liveness.{swept, are_right}
 use Rattle.frames_opt.specs.inside.Passes.{AreMarked, forward}
 
--- code that went through both passes, in a function whose arrays have `area` bytes
-pub record IsImproved (area : ℕ) (old new : List Instruction) : Type 0 where
+-- code that went through both passes, in a function with this room
+pub record IsImproved (room : Room) (old new : List Instruction) : Type 0 where
   pub marks : List Bool
   pub are : AreMarked marks old
   pub masks : List ℕ
-  pub right : are_right masks 0 (forward area marks 0 nothing old) ≡ true
-  pub is : new ≡ swept masks 0 (forward area marks 0 nothing old)
+  pub right : are_right masks 0 (forward room marks 0 nothing old) ≡ true
+  pub is : new ≡ swept masks 0 (forward room marks 0 nothing old)
 
-pub data IsSimplerCode (area : ℕ) (old new : List Instruction) : Type 0 where
-  stayed : (is : new ≡ old) → IsSimplerCode area old new
-  improved : (is : IsImproved area old new) → IsSimplerCode area old new
+pub data IsSimplerCode (room : Room) (old new : List Instruction) : Type 0 where
+  stayed : (is : new ≡ old) → IsSimplerCode room old new
+  improved : (is : IsImproved room old new) → IsSimplerCode room old new
 
 abbrev pub with_code : Function → List Instruction → Function
 with_code f code = record { code = code; cells = f.cells; resident = f.resident; area = f.area; outgoing = f.outgoing }
 
 pub record IsSimplerFunction (f g : Function) : Type 0 where
-  pub code : IsSimplerCode f.area f.code g.code
+  pub code : IsSimplerCode (room_of f) f.code g.code
   pub is : g ≡ with_code f g.code
   pub bytes : sum_by code_bytes g.code ≤ sum_by code_bytes f.code
 
