@@ -83,11 +83,13 @@ reach_fits : (f : Function) (l : Location) → reach_bytes f l ≤ flat.reach_by
 reach_fits f (location.Statics o) = omega arith
 reach_fits f (location.Frame o) = omega arith
 reach_fits f (location.At x) = fetch_fits f x
+reach_fits f (location.Indexed b y size) = let a = fetch_fits f y in omega (arith, a)
 
 reference_fits : (f : Function) (d : Target) (l : Location) → reference_bytes f (home_of f d) l ≤ flat.reference_bytes d l
 reference_fits f d (location.Statics o) = let a = keep_fits f d in omega (arith, a)
 reference_fits f d (location.Frame o) = let a = keep_fits f d in omega (arith, a)
 reference_fits f d (location.At x) = move_fits f d x
+reference_fits f d (location.Indexed b y size) = omega (arith, fetch_fits f y, keep_fits f d)
 
 saved_fits : (f : Function) (n : ℕ) → saved_bytes f n ≤ 12 * n
 saved_fits f zero = omega arith

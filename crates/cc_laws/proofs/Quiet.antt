@@ -13,6 +13,7 @@ use Rattle.asm.specs.declared.item.Item.TheVariants as item
 use Rattle.asm.specs.Layout.{size, longest}
 use Rattle.asm.specs.Placed.{Loads}
 use Rattle.select_exec.specs.Standing.{Stands}
+use Rattle.frames_code.specs.declared.code.Base.{Base}
 use Rattle.frames_code.specs.declared.code.Location.{Location}
 use Rattle.frames_code.specs.declared.code.Location.TheVariants as location
 use Rattle.frames_code.specs.declared.code.Operation.{Operation}
@@ -303,22 +304,27 @@ narrow_quiet conversion.ToHalf rd x f = (f, (f, tt))
 narrow_quiet conversion.ToSignedHalf rd x f = (f, (f, tt))
 narrow_quiet conversion.ToTruth rd x f = (f, tt)
 
-pub reach_quiet : (f : Function) (l : Location) → AreQuiet (reach f l)
-reach_quiet f (location.Statics o) = quiet_either (is_near_gp o) [] _ tt ((λ h. six, λ l. six), tt)
-reach_quiet f (location.Frame o) = far_quiet 6 (area_home f + o) six
-reach_quiet f (location.At x) = fetch_quiet 6 (source_of f x) six
-
-pub reference_quiet : (f : Function) (d : Home) (l : Location) → IsOff (made_in d) → AreQuiet (reference f d l)
-reference_quiet f d (location.Statics o) g = (quiet_one (is_near_gp o) _ _ g (λ h. g, λ l. g), keep_quiet d)
-reference_quiet f d (location.Frame o) g = quiet_both (address_of (made_in d) (area_home f + o)) _ (address_quiet (made_in d) (area_home f + o) g) (keep_quiet d)
-reference_quiet f d (location.At x) g = move_quiet d (source_of f x) g
-
 product_quiet : (o : Option ℕ) (x n : ℕ) → AreQuiet (shift_or_multiply o x n)
 product_quiet (Some k) x n = (six, tt)
 product_quiet None x n = (set_quiet 7 n seven, (six, tt))
 
 scale_quiet : (x n : ℕ) → AreQuiet (scale x n)
 scale_quiet x n = quiet_either (n == 1) [] _ tt (product_quiet (log2_of n) x n)
+
+indexed_quiet : (b : Base) (y : Source) (n : ℕ) → AreQuiet (selected.indexed b y n)
+indexed_quiet b y n = quiet_both (fetch 6 y) _ (fetch_quiet 6 y six) (quiet_both (scale (register_of 6 y) n) _ (scale_quiet (register_of 6 y) n) (six, tt))
+
+pub reach_quiet : (f : Function) (l : Location) → AreQuiet (reach f l)
+reach_quiet f (location.Statics o) = quiet_either (is_near_gp o) [] _ tt ((λ h. six, λ l. six), tt)
+reach_quiet f (location.Frame o) = far_quiet 6 (area_home f + o) six
+reach_quiet f (location.At x) = fetch_quiet 6 (source_of f x) six
+reach_quiet f (location.Indexed b y n) = indexed_quiet b (source_of f y) n
+
+pub reference_quiet : (f : Function) (d : Home) (l : Location) → IsOff (made_in d) → AreQuiet (reference f d l)
+reference_quiet f d (location.Statics o) g = (quiet_one (is_near_gp o) _ _ g (λ h. g, λ l. g), keep_quiet d)
+reference_quiet f d (location.Frame o) g = quiet_both (address_of (made_in d) (area_home f + o)) _ (address_quiet (made_in d) (area_home f + o) g) (keep_quiet d)
+reference_quiet f d (location.At x) g = move_quiet d (source_of f x) g
+reference_quiet f d (location.Indexed b y n) g = quiet_both (selected.indexed b (source_of f y) n) _ (indexed_quiet b (source_of f y) n) (g, keep_quiet d)
 
 counted_quiet : (d : Home) (x y : Source) (n : ℕ) → IsOff (made_in d) → AreQuiet (counted d x y n)
 counted_quiet d x y n g =

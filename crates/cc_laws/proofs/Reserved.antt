@@ -30,6 +30,7 @@ use Rattle.loader.specs.File.{file_image}
 use Rattle.elf_out.specs.Layout.{Parts}
 use Rattle.elf_out.specs.Program.{program_space, program_image}
 use Rattle.elf_out.proofs.Memory.{written_image}
+use Rattle.frames_code.specs.declared.code.Base.{Base}
 use Rattle.frames_code.specs.declared.code.Location.{Location}
 use Rattle.frames_code.specs.declared.code.Location.TheVariants as location
 use Rattle.frames_code.specs.declared.code.Operation.{Operation}
@@ -242,22 +243,27 @@ module _ (g : ℕ) (above : 2 < g) (below : g < 5) where
   narrow_free conversion.ToSignedHalf rd x f = (f, (f, tt))
   narrow_free conversion.ToTruth rd x f = (f, tt)
 
-  reach_free : (f : Function) (l : Location) → FreesAll (reach f l)
-  reach_free f (location.Statics o) = either (is_near_gp o) [] _ tt (six, tt)
-  reach_free f (location.Frame o) = far_free 6 (area_home f + o) six
-  reach_free f (location.At x) = fetch_free 6 (source_of f x) six
-
-  reference_free : (f : Function) (d : Home) (l : Location) → IsFree (made_in d) → FreesAll (reference f d l)
-  reference_free f d (location.Statics o) p = (one_of (is_near_gp o) _ _ p p, keep_free d)
-  reference_free f d (location.Frame o) p = both (address_of (made_in d) (area_home f + o)) _ (address_free (made_in d) (area_home f + o) p) (keep_free d)
-  reference_free f d (location.At x) p = move_free d (source_of f x) p
-
   product_free : (o : Option ℕ) (x size : ℕ) → FreesAll (shift_or_multiply o x size)
   product_free (Some k) x size = (six, tt)
   product_free None x size = (set_free 7 size seven, (six, tt))
 
   scale_free : (x size : ℕ) → FreesAll (scale x size)
   scale_free x size = either (size == 1) [] _ tt (product_free (log2_of size) x size)
+
+  indexed_free : (b : Base) (y : Source) (size : ℕ) → FreesAll (selected.indexed b y size)
+  indexed_free b y size = both (fetch 6 y) _ (fetch_free 6 y six) (both (scale (register_of 6 y) size) _ (scale_free (register_of 6 y) size) (six, tt))
+
+  reach_free : (f : Function) (l : Location) → FreesAll (reach f l)
+  reach_free f (location.Statics o) = either (is_near_gp o) [] _ tt (six, tt)
+  reach_free f (location.Frame o) = far_free 6 (area_home f + o) six
+  reach_free f (location.At x) = fetch_free 6 (source_of f x) six
+  reach_free f (location.Indexed b y size) = indexed_free b (source_of f y) size
+
+  reference_free : (f : Function) (d : Home) (l : Location) → IsFree (made_in d) → FreesAll (reference f d l)
+  reference_free f d (location.Statics o) p = (one_of (is_near_gp o) _ _ p p, keep_free d)
+  reference_free f d (location.Frame o) p = both (address_of (made_in d) (area_home f + o)) _ (address_free (made_in d) (area_home f + o) p) (keep_free d)
+  reference_free f d (location.At x) p = move_free d (source_of f x) p
+  reference_free f d (location.Indexed b y size) p = both (selected.indexed b (source_of f y) size) _ (indexed_free b (source_of f y) size) (p, keep_free d)
 
   counted_free : (d : Home) (x y : Source) (size : ℕ) → IsFree (made_in d) → FreesAll (counted d x y size)
   counted_free d x y size p =

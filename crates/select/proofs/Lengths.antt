@@ -6,10 +6,12 @@ use Rattle.std.proofs.lemmas.Bool.{eqb-true}
 use Rattle.std.proofs.lemmas.List.Sums.{sum_by-append, sum_by-cons}
 use Rattle.rv32.specs.declared.instr.Instr.{Instr}
 use Rattle.rv32.specs.declared.instr.Instr.TheVariants as instr
+use Rattle.rv32.specs.declared.instr.ImmediateOp.TheVariants as immediate_op
 use Rattle.rv32.specs.declared.instr.RegisterOp.TheVariants as register_op
 use Rattle.asm.specs.declared.item.Item.{Item}
 use Rattle.asm.specs.declared.item.Item.TheVariants as item
 use Rattle.asm.specs.Layout.{size, longest}
+use Rattle.frames_code.specs.declared.code.Base.{Base}
 use Rattle.frames_code.specs.declared.code.Location.{Location}
 use Rattle.frames_code.specs.declared.code.Location.TheVariants as location
 use Rattle.frames_code.specs.declared.code.Operation.{Operation}
@@ -112,16 +114,6 @@ narrow_short conversion.ToHalf rd a = omega arith
 narrow_short conversion.ToSignedHalf rd a = omega arith
 narrow_short conversion.ToTruth rd a = omega arith
 
-reach_short : (f : Function) (l : Location) → longest (reach f l) ≤ reach_bytes f l
-reach_short f (location.Statics o) = either (is_near_gp o) [] _ 8 (omega arith) (omega arith)
-reach_short f (location.Frame o) = far_short 6 (area_home f + o)
-reach_short f (location.At x) = fetch_short 6 (source_of f x)
-
-reference_short : (f : Function) (d : Home) (l : Location) → longest (reference f d l) ≤ reference_bytes f d l
-reference_short f d (location.Statics o) = both (static_address (made_in d) o ∷ []) (keep d) 8 _ (one_of (is_near_gp o) _ _ 8 (omega arith) (omega arith)) (keep_short d)
-reference_short f d (location.Frame o) = both (address_of (made_in d) (area_home f + o)) (keep d) 12 _ (address_short (made_in d) (area_home f + o)) (keep_short d)
-reference_short f d (location.At x) = move_short d (source_of f x)
-
 product_short : (o : Option ℕ) (a n : ℕ) → longest (shift_or_multiply o a n) ≤ 12
 product_short (Some k) a n = omega arith
 product_short None a n = both (set_to 7 n ∷ []) (operate_on register_op.Mul 6 a 7 ∷ []) 8 4 (set_short 7 n) (omega arith)
@@ -186,6 +178,30 @@ element_short d x (source.Constant v) n =
     let sum = combine (operation.Machine register_op.Add) (made_in d) (register_of 5 x) (source.Constant (v * n % 2 ^ 32)) in
     let last : longest (sum ++ keep d) ≤ 12 + keep_bytes d = both sum (keep d) 12 _ (sum_short (made_in d) (register_of 5 x) (v * n % 2 ^ 32)) (keep_short d) in
     both (fetch 5 x) (sum ++ keep d) _ _ (fetch_short 5 x) (more (sum ++ keep d) (12 + keep_bytes d) (8 + (scale_bytes n + keep_bytes d)) (omega (arith, scale_short 6 n)) last)
+
+-- ---- an element by an index, and all locations
+
+indexed_short : (b : Base) (y : Source) (n : ℕ) → longest (selected.indexed b y n) ≤ fetch_bytes y + scale_bytes n
+indexed_short b y n =
+    let bytes = scale (register_of 6 y) n in
+    let sum = instr.Op register_op.Add 6 (selected.base_register b) (selected.scaled_in (register_of 6 y) n) in
+    let last : longest (bytes ++ (item.Plain sum ∷ [])) ≤ scale_bytes n + 0 = with_sum bytes (item.Plain sum ∷ []) (scale_bytes n) 0 (scale_short (register_of 6 y) n) (omega arith) in
+    both (fetch 6 y) (bytes ++ (item.Plain sum ∷ [])) _ _ (fetch_short 6 y) (more (bytes ++ (item.Plain sum ∷ [])) (scale_bytes n + 0) (scale_bytes n) (omega arith) last)
+
+reach_short : (f : Function) (l : Location) → longest (reach f l) ≤ reach_bytes f l
+reach_short f (location.Statics o) = either (is_near_gp o) [] _ 8 (omega arith) (omega arith)
+reach_short f (location.Frame o) = far_short 6 (area_home f + o)
+reach_short f (location.At x) = fetch_short 6 (source_of f x)
+reach_short f (location.Indexed b y size) = indexed_short b (source_of f y) size
+
+reference_short : (f : Function) (d : Home) (l : Location) → longest (reference f d l) ≤ reference_bytes f d l
+reference_short f d (location.Statics o) = both (static_address (made_in d) o ∷ []) (keep d) 8 _ (one_of (is_near_gp o) _ _ 8 (omega arith) (omega arith)) (keep_short d)
+reference_short f d (location.Frame o) = both (address_of (made_in d) (area_home f + o)) (keep d) 12 _ (address_short (made_in d) (area_home f + o)) (keep_short d)
+reference_short f d (location.At x) = move_short d (source_of f x)
+reference_short f d (location.Indexed b y size) =
+    let all = selected.indexed b (source_of f y) size ++ (selected.add_to (made_in d) 6 (selected.base_offset f b) ∷ keep d) in
+    let sum = both (selected.indexed b (source_of f y) size) _ _ _ (indexed_short b (source_of f y) size) (with_one (instr.Immediate immediate_op.Add (made_in d) 6 (selected.base_offset f b)) (keep d) _ (keep_short d)) in
+    more all (fetch_bytes (source_of f y) + scale_bytes size + (4 + keep_bytes d)) _ (omega arith) sum
 
 change_short : (by : ℕ) → longest (change_sp by) ≤ 12
 change_short by =

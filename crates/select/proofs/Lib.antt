@@ -1,5 +1,6 @@
 pub mod Lists
 pub mod Shortened
+pub mod Powers
 pub mod Sound
 pub mod Nearer
 pub mod Programs

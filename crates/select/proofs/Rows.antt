@@ -8,6 +8,7 @@ use Rattle.rv32.specs.declared.instr.Instr.TheVariants as instr
 use Rattle.rv32.specs.declared.instr.ImmediateOp.TheVariants as immediate_op
 use Rattle.rv32.specs.declared.instr.RegisterOp.TheVariants as op
 use Rattle.rv32.specs.declared.instr.ShiftOp.TheVariants as shift_op
+use Rattle.rv32.specs.declared.instr.LoadKind.TheVariants as load_kind
 use Rattle.rv32.specs.declared.instr.StoreKind.TheVariants as store_kind
 use Rattle.rv32.specs.declared.instr.Test.TheVariants as test
 use Rattle.csem_events.specs.Events.{Got, GotEnd, Put}
@@ -16,7 +17,8 @@ use Rattle.asm.specs.declared.item.Item.TheVariants as item
 use Rattle.frames_code.specs.declared.code.Operand.TheVariants.{Temporary as temporary, Cell as cell, Constant as constant, Argument as argument}
 use Rattle.frames_code.specs.declared.code.Target.TheVariants.{Temporary as to_temporary, Cell as to_cell}
 use Rattle.frames_code.specs.declared.code.Width.TheVariants.{Byte as byte, SignedByte as signed_byte, Half as half, SignedHalf as signed_half, Word as word}
-use Rattle.frames_code.specs.declared.code.Location.TheVariants.{Statics as in_statics, Frame as in_frame, At as at}
+use Rattle.frames_code.specs.declared.code.Base.TheVariants.{Statics as from_statics, Frame as from_frame}
+use Rattle.frames_code.specs.declared.code.Location.TheVariants.{Statics as in_statics, Frame as in_frame, At as at, Indexed as indexed}
 use Rattle.frames_code.specs.declared.code.Operation.TheVariants.{Machine as machine, Equal as equal, NotEqual as not_equal}
 use Rattle.frames_code.specs.declared.code.Conversion.TheVariants.{ToByte as to_byte, ToSignedByte as to_signed_byte, ToHalf as to_half, ToSignedHalf as to_signed_half, ToTruth as to_truth}
 use Rattle.frames_code.specs.declared.code.Instruction.TheVariants.{Move as move, Compute as compute, Convert as convert, Load as load, Store as store, Address as address, Element as element, Jump as jump, Branch as branch, Call as call, PutByte as put_byte, GetByte as get_byte, Exit as exit, Return as return}
@@ -214,6 +216,40 @@ statics :
       main = 0;
     }) ≡ Done 7 []
 statics = refl
+
+-- static unsigned char s[] = { 9, 1, 2 }; int i = 1; s[i + 1] = 5; return s[i] + s[i + 1];
+indexed_static :
+    after 60 [] (record {
+      functions = function 2 1 0 0 (move (to_cell 0) (constant 1) ∷ store byte (constant 5) (indexed (from_statics 1) (cell 0) 1) ∷ load byte (to_cell 1) (indexed (from_statics 0) (cell 0) 1) ∷ load byte t0 (in_statics 2) ∷ add t0 (temporary 0) (cell 1) ∷ return ∷ []) ∷ [];
+      statics = 9 ∷ 1 ∷ 2 ∷ [];
+      main = 0;
+    }) ≡ Done 6 []
+indexed_static = refl
+
+-- short a[3]; int i = 1; a[i + 1] = 7; short *p = &a[i + 1]; return *p + a[2];
+indexed_in_the_frame :
+    after 60 [] (whole (function 2 0 6 0 (
+    move (to_cell 0) (constant 1) ∷ store half (constant 7) (indexed (from_frame 2) (cell 0) 2) ∷ address (to_cell 1) (indexed (from_frame 2) (cell 0) 2) ∷
+    load half (to_temporary 1) (at (cell 1)) ∷ load half t0 (in_frame 4) ∷ add t0 (temporary 0) (temporary 1) ∷ return ∷ []) ∷ [])) ≡ Done 14 []
+unfolding count_trailing_zeros
+indexed_in_the_frame = refl
+
+-- s[i] of words, a[i] of bytes, and &a[i + 1]: a shift, a sum with gp or sp, and the rest in the access
+word_by_an_index :
+    items_of (function 0 0 0 0 []) 0 (load word t0 (indexed (from_statics 100) (temporary 1) 4)) ≡
+    item.Plain (instr.Shift shift_op.Left 6 11 2) ∷ item.Plain (instr.Op op.Add 6 3 6) ∷ item.Plain (instr.Load load_kind.Word 10 6 (2 ^ 32 - 1948)) ∷ []
+unfolding count_trailing_zeros
+word_by_an_index = refl
+
+byte_by_an_index :
+    items_of (function 0 0 16 0 []) 0 (store byte (temporary 0) (indexed (from_frame 0) (temporary 1) 1)) ≡ item.Plain (instr.Op op.Add 6 2 11) ∷ item.Plain (instr.Store store_kind.Byte 10 6 4) ∷ []
+byte_by_an_index = refl
+
+address_by_an_index :
+    items_of (function 0 0 16 0 []) 0 (address t0 (indexed (from_frame 4) (temporary 1) 4)) ≡
+    item.Plain (instr.Shift shift_op.Left 6 11 2) ∷ item.Plain (instr.Op op.Add 6 2 6) ∷ item.Plain (instr.Immediate immediate_op.Add 10 6 8) ∷ []
+unfolding count_trailing_zeros
+address_by_an_index = refl
 
 -- rv_exit(300) within a call
 exit_ends_all :

@@ -11,6 +11,7 @@ use Rattle.asm.specs.declared.item.Item.TheVariants.{Mark, Plain, Branch, Jump, 
 use Rattle.asm.specs.Layout.{item_at, Refers, IsSound}
 use Rattle.frames_code.specs.declared.code.Operand.{Operand}
 use Rattle.frames_code.specs.declared.code.Operand.TheVariants as operand
+use Rattle.frames_code.specs.declared.code.Base.{Base}
 use Rattle.frames_code.specs.declared.code.Location.{Location}
 use Rattle.frames_code.specs.declared.code.Location.TheVariants as location
 use Rattle.frames_code.specs.declared.code.Operation.{Operation}
@@ -29,6 +30,7 @@ use Rattle.select.specs.Selected as selected
 use Rattle.select.specs.Selected.{is_near_gp, static_address, source_of, home_of, fetch, into, keep, made_in, register_of, load_constant, far, load_word, store_word, address_of, move, ending, operate, form_or, combine, compute, narrow, convert, reach, load, store, reference, log2_of, shift_or_multiply, scale, element, branch, put_byte, get_byte, exit, change_sp, saves, restores, calls, keep_return, take_return, entry, leave, return_home, byte_home, items_of, set_to, shortened}
 use Rattle.select.specs.Program.{code_items, function_items, functions_items, start_items, far_items, labels_of}
 use Rattle.select.proofs.Shortened.{shortened_fits}
+use Rattle.select.proofs.Powers.{power_small, index_fits}
 
 bool_cases : {A : Type 0} (b : Bool) → (b ≡ true → A) → (b ≡ false → A) → A
 bool_cases true on_true on_false = on_true refl
@@ -149,22 +151,30 @@ module _ (n : ℕ) where
   static_un : (rd o : ℕ) → o < 0x10000000 → Unmarked n (static_address rd o ∷ [])
   static_un rd o fit = one_of (is_near_gp o) _ _ tt (fit, tt)
 
-  reach_un : (f : Function) (l : Location) → LocationFits f l → Unmarked n (reach f l)
-  reach_un f (location.Statics o) fit = either (is_near_gp o) [] _ tt (fit, tt)
-  reach_un f (location.Frame o) fit = far_un 6 (area_home f + o)
-  reach_un f (location.At x) fit = fetch_un 6 (source_of f x) (small_source f x fit)
-
-  reference_un : (f : Function) (d : Home) (l : Location) → frame_bytes f ≤ most_bytes → LocationFits f l → Unmarked n (reference f d l)
-  reference_un f d (location.Statics o) small fit = both (static_address (made_in d) o ∷ []) _ (static_un (made_in d) o fit) (keep_un d)
-  reference_un f d (location.Frame o) small fit = both (address_of (made_in d) (area_home f + o)) _ (address_un (made_in d) (area_home f + o) (omega (arith, small, fit))) (keep_un d)
-  reference_un f d (location.At x) small fit = move_un d (source_of f x) (small_source f x fit)
-
   product_un : (o : Option ℕ) (a size : ℕ) → size < 2 ^ 32 → Unmarked n (shift_or_multiply o a size)
   product_un (Some k) a size lt = tt
   product_un None a size lt = both (set_to 7 size ∷ []) _ (set_un 7 size lt) tt
 
   scale_un : (a size : ℕ) → size < 2 ^ 32 → Unmarked n (scale a size)
   scale_un a size lt = either (size == 1) _ _ tt (product_un (log2_of size) a size lt)
+
+  indexed_un : (b : Base) (y : Source) (size : ℕ) → SmallSource y → size < 2 ^ 32 → Unmarked n (selected.indexed b y size)
+  indexed_un b y size p lt = both (fetch 6 y) _ (fetch_un 6 y p) (both (scale (register_of 6 y) size) _ (scale_un (register_of 6 y) size lt) tt)
+
+  indexed_fits : (f : Function) (b : Base) (x : Operand) (size : ℕ) → LocationFits f (location.Indexed b x size) → Unmarked n (selected.indexed b (source_of f x) size)
+  indexed_fits f b x size fit = indexed_un b (source_of f x) size (small_source f x (index_fits f x fit.1)) (power_small size fit.2)
+
+  reach_un : (f : Function) (l : Location) → LocationFits f l → Unmarked n (reach f l)
+  reach_un f (location.Statics o) fit = either (is_near_gp o) [] _ tt (fit, tt)
+  reach_un f (location.Frame o) fit = far_un 6 (area_home f + o)
+  reach_un f (location.At x) fit = fetch_un 6 (source_of f x) (small_source f x fit)
+  reach_un f (location.Indexed b x size) fit = indexed_fits f b x size fit
+
+  reference_un : (f : Function) (d : Home) (l : Location) → frame_bytes f ≤ most_bytes → LocationFits f l → Unmarked n (reference f d l)
+  reference_un f d (location.Statics o) small fit = both (static_address (made_in d) o ∷ []) _ (static_un (made_in d) o fit) (keep_un d)
+  reference_un f d (location.Frame o) small fit = both (address_of (made_in d) (area_home f + o)) _ (address_un (made_in d) (area_home f + o) (omega (arith, small, fit))) (keep_un d)
+  reference_un f d (location.At x) small fit = move_un d (source_of f x) (small_source f x fit)
+  reference_un f d (location.Indexed b x size) small fit = both (selected.indexed b (source_of f x) size) _ (indexed_fits f b x size fit) (keep_un d)
 
   counted_un : (d : Home) (x y : Source) (size : ℕ) → SmallSource x → SmallSource y → size < 2 ^ 32 → Unmarked n (selected.counted d x y size)
   counted_un d x y size p q lt = both (fetch 5 x) _ (fetch_un 5 x p) (both (fetch 6 y) _ (fetch_un 6 y q) (both (scale (register_of 6 y) size) _ (scale_un (register_of 6 y) size lt) (keep_un d)))

@@ -3,18 +3,18 @@
 ghost use Rattle.std.specs.Prelude.{◌≡◌, ◌≤◌, ◌<◌, ◌^◌, ◌++◌, OnOk};
 ghost use Rattle.frames_code.specs.Code as flat;
 ghost use Rattle.frames_code.specs.Code.{function_of};
-ghost use Rattle.frames_code.specs.Sound.{LocationFits, most_bytes};
+ghost use Rattle.frames_code.specs.Sound.{BaseFits, LocationFits, most_bytes};
 ghost use Rattle.select.specs.Selected as selected;
 ghost use Rattle.select.specs.inside.Ranges.{SourceIsNear, HomeIsNear};
 
 use crate::operations::{put_compute, put_move};
 use crate::places::{Home, Source, source_of};
 use crate::words::{
-    address_of, base_of, fetch, from_gp, global_pointer, is_near_gp, keep, lower_of, made_in,
-    operate_on, put, put_far, put_one, register_of, set_to, static_address,
+    add_to, address_of, base_of, fetch, from_gp, global_pointer, is_near_gp, keep, lower_of,
+    made_in, operate_on, put, put_far, put_one, register_of, set_to, stack_pointer, static_address,
 };
 use asm::Item;
-use frames_code::{Function, Location, Operation, Width};
+use frames_code::{Base, Function, Location, Operation, Width};
 use rv32::{Five, Instr, LoadKind, RegisterOp, ShiftOp, Short, StoreKind};
 use std::alloc::AllocError;
 
@@ -40,6 +40,48 @@ fn store_kind(width: Width) -> StoreKind
         Width::SignedHalf => StoreKind::Half,
         Width::Word => StoreKind::Word,
     }
+}
+
+/// The register that a base counts from.
+fn base_register(base: Base) -> Five
+    ensures { result ≡ selected.base_register base }
+{
+    match base {
+        Base::Statics(_) => global_pointer(),
+        Base::Frame(_) => stack_pointer(),
+    }
+}
+
+/// How far from there it begins.
+fn base_offset(function: &Function, base: Base) -> Short
+    requires small { flat.frame_bytes (function_of function.now) ≤ most_bytes }
+    requires fits { BaseFits (function_of function.now) base }
+    ensures { result ≡ selected.base_offset (function_of function.now) base }
+{
+    match base {
+        Base::Statics(offset) => from_gp(offset),
+        Base::Frame(offset) => lower_of(function.area_home() + offset as u32),
+    }
+}
+
+/// Register 6 becomes the sum of that register and an index in bytes.
+fn put_indexed(
+    items: &mut Vec<Item>,
+    base: Base,
+    index: &Source,
+    size: usize,
+) -> Result<(), AllocError>
+    requires near { SourceIsNear index.now }
+    requires small { size < 2 ^ 32 }
+    ensures { OnOk result (items.new.items ≡ items.old.items ++ selected.indexed base index.now size) }
+{
+    let free = Five::new(6);
+    let counted = register_of(free, index);
+    let bytes = scaled_in(counted, size);
+    let sum = operate_on(RegisterOp::Add, free, base_register(base), bytes);
+    fetch(items, free, index)?;
+    put_scale(items, counted, size)?;
+    put_one(items, sum)
 }
 
 /// The items before an access to an element.
@@ -70,6 +112,9 @@ fn put_reach(
         }
         Location::Frame(offset) => put_far(items, free, function.area_home() + *offset as u32),
         Location::At(operand) => fetch(items, free, &source_of(function, *operand)),
+        Location::Indexed { base, index, size } => {
+            put_indexed(items, *base, &source_of(function, *index), *size)
+        }
     }
 }
 
@@ -91,6 +136,7 @@ fn reach_base(function: &Function, location: &Location) -> Five
         }
         Location::Frame(offset) => base_of(free, function.area_home() + *offset as u32),
         Location::At(operand) => register_of(free, &source_of(function, *operand)),
+        Location::Indexed { .. } => free,
     }
 }
 
@@ -110,6 +156,7 @@ fn reach_offset(function: &Function, location: &Location) -> Short
         }
         Location::Frame(offset) => lower_of(function.area_home() + *offset as u32),
         Location::At(_) => Short::new(0),
+        Location::Indexed { base, .. } => base_offset(function, *base),
     }
 }
 
@@ -190,6 +237,12 @@ pub fn put_reference(
         Location::At(operand) => {
             let source = source_of(function, *operand);
             put_move(items, home, &source)
+        }
+        Location::Indexed { base, index, size } => {
+            let sum = add_to(made_in(home), Five::new(6), base_offset(function, *base));
+            put_indexed(items, *base, &source_of(function, *index), *size)?;
+            put_one(items, sum)?;
+            keep(items, home)
         }
     }
 }

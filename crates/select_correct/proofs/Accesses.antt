@@ -34,7 +34,8 @@ use Rattle.select_correct.proofs.Places.{SourceHolds, source_stays, onward, far_
 use Rattle.select_correct.proofs.Fits.{frame_room}
 use Rattle.select_correct.proofs.Frames.{within, operand_holds}
 use Rattle.select_correct.proofs.Forms.{used, word_some, fn, open_stack, fits, no_more, made_above, finishes}
-use Rattle.select_correct.proofs.References.{from_gp_reaches, reference_some, frame_shown}
+use Rattle.select_correct.proofs.Indexing.{from_gp_reaches, frame_shown, indexes}
+use Rattle.select_correct.proofs.References.{reference_some}
 use Rattle.select_correct.proofs.Bytes.{element_held, element_small, put_held, put_off, put_bytes, put_here, element_here, aligned_for, loads_element, stores_element}
 use Rattle.select_correct.proofs.Areas.{start_of, shown_in, memory_lives, matched_put}
 
@@ -140,6 +141,7 @@ module _ (G : Ground) (s : State) (r b : ℕ → ℕ) (ready : Ready G) (m : Mat
       fetches G.machine G.env G.data_at s.input s.trace Q m.sp (open_stack G s r b ready m) r b m.sp_is n 6 (omega arith) (omega arith) (source_of f x) w here mid r1 off hx.0 st (λ r2 only held.
       let sum : sum32 (reg r2 (register_of 6 (source_of f x))) 0 ≡ w = omega (arith, held, hx.1) in
       next_to r2 only sum)
+  reaches Q n (location.Indexed bs y size) v fit e r1 off here mid st next_to = indexes G s r b ready m Q n bs y size v fit e r1 off here mid st next_to
 
   -- ---- Load
 

@@ -6,6 +6,7 @@ use Rattle.rv32.specs.declared.instr.RegisterOp.TheVariants as register_op
 use Rattle.asm.specs.declared.item.Item.{Item}
 use Rattle.asm.specs.declared.item.Item.TheVariants.{Mark, Plain, Branch, Jump, Call, NearCall, Constant, LabelAddress, DataAddress}
 use Rattle.asm.specs.Layout.{item_at}
+use Rattle.frames_code.specs.declared.code.Base.{Base}
 use Rattle.frames_code.specs.declared.code.Location.{Location}
 use Rattle.frames_code.specs.declared.code.Location.TheVariants as location
 use Rattle.frames_code.specs.declared.code.Operation.{Operation}
@@ -146,22 +147,27 @@ module _ (a b : ℕ) where
   narrow_in conversion.ToSignedHalf rd x = tt
   narrow_in conversion.ToTruth rd x = tt
 
-  reach_in : (f : Function) (l : Location) → Inside a b (reach f l)
-  reach_in f (location.Statics o) = either (is_near_gp o) [] _ tt tt
-  reach_in f (location.Frame o) = far_in 6 (area_home f + o)
-  reach_in f (location.At x) = fetch_in 6 (source_of f x)
-
-  reference_in : (f : Function) (d : Home) (l : Location) → Inside a b (reference f d l)
-  reference_in f d (location.Statics o) = both (static_address (made_in d) o ∷ []) _ (one_of (is_near_gp o) _ _ tt tt) (keep_in d)
-  reference_in f d (location.Frame o) = both (address_of (made_in d) (area_home f + o)) _ (address_in (made_in d) (area_home f + o)) (keep_in d)
-  reference_in f d (location.At x) = move_in d (source_of f x)
-
   product_in : (o : Option ℕ) (x size : ℕ) → Inside a b (shift_or_multiply o x size)
   product_in (Some k) x size = tt
   product_in None x size = both (set_to 7 size ∷ []) _ (set_in 7 size) tt
 
   scale_in : (x size : ℕ) → Inside a b (scale x size)
   scale_in x size = either (size == 1) [] _ tt (product_in (log2_of size) x size)
+
+  indexed_in : (c : Base) (y : Source) (size : ℕ) → Inside a b (selected.indexed c y size)
+  indexed_in c y size = both (fetch 6 y) _ (fetch_in 6 y) (both (scale (register_of 6 y) size) _ (scale_in (register_of 6 y) size) tt)
+
+  reach_in : (f : Function) (l : Location) → Inside a b (reach f l)
+  reach_in f (location.Statics o) = either (is_near_gp o) [] _ tt tt
+  reach_in f (location.Frame o) = far_in 6 (area_home f + o)
+  reach_in f (location.At x) = fetch_in 6 (source_of f x)
+  reach_in f (location.Indexed c y size) = indexed_in c (source_of f y) size
+
+  reference_in : (f : Function) (d : Home) (l : Location) → Inside a b (reference f d l)
+  reference_in f d (location.Statics o) = both (static_address (made_in d) o ∷ []) _ (one_of (is_near_gp o) _ _ tt tt) (keep_in d)
+  reference_in f d (location.Frame o) = both (address_of (made_in d) (area_home f + o)) _ (address_in (made_in d) (area_home f + o)) (keep_in d)
+  reference_in f d (location.At x) = move_in d (source_of f x)
+  reference_in f d (location.Indexed c y size) = both (selected.indexed c (source_of f y) size) _ (indexed_in c (source_of f y) size) (keep_in d)
 
   counted_in : (d : Home) (x y : Source) (size : ℕ) → Inside a b (selected.counted d x y size)
   counted_in d x y size = both (fetch 5 x) _ (fetch_in 5 x) (both (fetch 6 y) _ (fetch_in 6 y) (both (scale (register_of 6 y) size) _ (scale_in (register_of 6 y) size) (keep_in d)))

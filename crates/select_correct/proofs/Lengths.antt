@@ -8,6 +8,7 @@ use Rattle.rv32.specs.declared.instr.RegisterOp.TheVariants as register_op
 use Rattle.asm.specs.declared.item.Item.{Item}
 use Rattle.asm.specs.declared.item.Item.TheVariants as item
 use Rattle.asm.specs.Layout.{size, longest}
+use Rattle.frames_code.specs.declared.code.Base.{Base}
 use Rattle.frames_code.specs.declared.code.Location.{Location}
 use Rattle.frames_code.specs.declared.code.Location.TheVariants as location
 use Rattle.frames_code.specs.declared.code.Operation.{Operation}
@@ -21,7 +22,7 @@ use Rattle.select.specs.declared.places.Source.{Source}
 use Rattle.select.specs.declared.places.Source.TheVariants as source
 use Rattle.select.specs.declared.places.Home.{Home}
 use Rattle.select.specs.declared.places.Home.TheVariants as home
-use Rattle.select.specs.Selected.{is_near_gp, static_address, source_of, home_of, kept, machine_of, constant_form, fetch, into, keep, made_in, register_of, load_constant, far, load_word, store_word, address_of, move, ending, operate, form_or, combine, narrow, operate_on, reach, reach_base, reach_offset, load_of, reference, log2_of, shift_or_multiply, scale, scaled_in, counted, element, put_byte, change_sp, saves, restores, calls, keep_return, take_return, entry, leave, return_home, byte_home, items_of, set_to}
+use Rattle.select.specs.Selected.{is_near_gp, static_address, source_of, home_of, kept, machine_of, constant_form, fetch, into, keep, made_in, register_of, load_constant, far, load_word, store_word, address_of, move, ending, operate, form_or, combine, narrow, operate_on, reach, reach_base, reach_offset, load_of, reference, log2_of, shift_or_multiply, scale, scaled_in, add_to, base_offset, indexed, counted, element, put_byte, change_sp, saves, restores, calls, keep_return, take_return, entry, leave, return_home, byte_home, items_of, set_to}
 use Rattle.select_correct.specs.Costs.{far_cost, word_cost, constant_cost, address_cost, set_cost, fetch_cost, keep_cost, into_cost, move_cost, form_cost, second_cost, ending_cost, compute_cost, narrow_cost, reach_cost, reference_cost, product_cost, scale_cost, counted_cost, element_cost, frame_cost, saved_cost, return_cost, opening_cost, row, RowsAreLengths, item_count}
 
 both : (xs ys : List Item) (a b : ℕ) → longest xs ≡ 4 * a → longest ys ≡ 4 * b → longest (xs ++ ys) ≡ 4 * (a + b)
@@ -110,22 +111,29 @@ narrow_long conversion.ToHalf rd a = refl
 narrow_long conversion.ToSignedHalf rd a = refl
 narrow_long conversion.ToTruth rd a = refl
 
-reach_long : (f : Function) (l : Location) → longest (reach f l) ≡ 4 * reach_cost f l
-reach_long f (location.Statics o) = either (is_near_gp o) [] _ 0 2 refl refl
-reach_long f (location.Frame o) = far_long 6 (area_home f + o)
-reach_long f (location.At x) = fetch_long 6 (source_of f x)
-
-reference_long : (f : Function) (d : Home) (l : Location) → longest (reference f d l) ≡ 4 * reference_cost f d l
-reference_long f d (location.Statics o) = both (static_address (made_in d) o ∷ []) (keep d) _ _ (one_of (is_near_gp o) _ _ 1 2 refl refl) (keep_long d)
-reference_long f d (location.Frame o) = both (address_of (made_in d) (area_home f + o)) (keep d) _ _ (address_long (made_in d) (area_home f + o)) (keep_long d)
-reference_long f d (location.At x) = move_long d (source_of f x)
-
 product_long : (o : Option ℕ) (a n : ℕ) → longest (shift_or_multiply o a n) ≡ 4 * product_cost o n
 product_long (Some k) a n = refl
 product_long None a n = both (set_to 7 n ∷ []) (operate_on register_op.Mul 6 a 7 ∷ []) (set_cost n) 1 (set_long 7 n) refl
 
 scale_long : (a n : ℕ) → longest (scale a n) ≡ 4 * scale_cost n
 scale_long a n = either (n == 1) [] _ 0 _ refl (product_long (log2_of n) a n)
+
+indexed_long : (b : Base) (y : Source) (n : ℕ) → longest (indexed b y n) ≡ 4 * (fetch_cost y + (scale_cost n + 1))
+indexed_long b y n = both (fetch 6 y) _ _ _ (fetch_long 6 y) (both (scale (register_of 6 y) n) _ _ 1 (scale_long (register_of 6 y) n) refl)
+
+reach_long : (f : Function) (l : Location) → longest (reach f l) ≡ 4 * reach_cost f l
+reach_long f (location.Statics o) = either (is_near_gp o) [] _ 0 2 refl refl
+reach_long f (location.Frame o) = far_long 6 (area_home f + o)
+reach_long f (location.At x) = fetch_long 6 (source_of f x)
+reach_long f (location.Indexed b y n) = indexed_long b (source_of f y) n
+
+reference_long : (f : Function) (d : Home) (l : Location) → longest (reference f d l) ≡ 4 * reference_cost f d l
+reference_long f d (location.Statics o) = both (static_address (made_in d) o ∷ []) (keep d) _ _ (one_of (is_near_gp o) _ _ 1 2 refl refl) (keep_long d)
+reference_long f d (location.Frame o) = both (address_of (made_in d) (area_home f + o)) (keep d) _ _ (address_long (made_in d) (area_home f + o)) (keep_long d)
+reference_long f d (location.At x) = move_long d (source_of f x)
+reference_long f d (location.Indexed b y n) =
+    both (indexed b (source_of f y) n) _ _ _ (indexed_long b (source_of f y) n)
+    (both (add_to (made_in d) 6 (base_offset f b) ∷ []) (keep d) 1 _ refl (keep_long d))
 
 counted_long : (d : Home) (x y : Source) (n : ℕ) → longest (counted d x y n) ≡ 4 * counted_cost d x y n
 counted_long d x y n =

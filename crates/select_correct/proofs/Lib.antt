@@ -10,6 +10,8 @@ pub mod Forms
 pub mod Operations
 pub mod Combining
 pub mod Computing
+pub mod Scaling
+pub mod Indexing
 pub mod References
 pub mod Elements
 pub mod Bytes

@@ -42,7 +42,7 @@ pub record Lies (sp o : ℕ) : Type 0 where
 
 -- ---- offsets in two parts
 
-near_sum : (x sp o : ℕ) → x ≡ sp → o < 0x800 → sp + o < 2 ^ 31 → (x + lower_of o) % 2 ^ 32 ≡ sp + o
+pub near_sum : (x sp o : ℕ) → x ≡ sp → o < 0x800 → sp + o < 2 ^ 31 → (x + lower_of o) % 2 ^ 32 ≡ sp + o
 near_sum x sp o e near small =
     let zero : (o + 0x800) / 0x1000 ≡ 0 = omega (arith, near) in
     let low : lower_of o ≡ o = rw zero (omega (arith, near)) in

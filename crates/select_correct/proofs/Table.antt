@@ -1,9 +1,13 @@
 -- The sums of the table of costs: never more than the table of `frames_code`, and few where nothing is far.
-use Rattle.std.proofs.Common.{◌≡◌, ℕ, zero, suc, ◌+◌, ◌*◌, ◌-◌, ◌%◌, ◌^◌, ◌<◌, ◌≤◌, Option, Some, None, Bool, true, false, refl, arith}
-use Rattle.std.specs.Prelude.{if◌then◌else◌, ◌==◌, nat_lt}
+use Rattle.std.proofs.Common.{◌≡◌, ℕ, zero, suc, ◌+◌, ◌*◌, ◌-◌, ◌%◌, ◌^◌, ◌<◌, ◌≤◌, length, Option, Some, None, Bool, true, false, refl, ap, arith}
+use Rattle.std.specs.Prelude.{if◌then◌else◌, ◌==◌, nat_lt, slice_get}
 use Rattle.std.proofs.lemmas.Bool.{lt-ltb, ltb-true}
 use Rattle.rv32.specs.declared.instr.Instr.{Instr}
 use Rattle.rv32.specs.declared.instr.RegisterOp.TheVariants as register_op
+use Rattle.frames_code.specs.declared.code.Operand.{Operand}
+use Rattle.frames_code.specs.declared.code.Operand.TheVariants as operand
+use Rattle.frames_code.specs.declared.code.Target.{Target}
+use Rattle.frames_code.specs.declared.code.Target.TheVariants as target
 use Rattle.frames_code.specs.declared.code.Location.{Location}
 use Rattle.frames_code.specs.declared.code.Location.TheVariants as location
 use Rattle.frames_code.specs.declared.code.Operation.{Operation}
@@ -13,7 +17,7 @@ use Rattle.frames_code.specs.declared.code.Conversion.TheVariants as conversion
 use Rattle.frames_code.specs.declared.code.Instruction.{Instruction}
 use Rattle.frames_code.specs.declared.code.Instruction.TheVariants as instruction
 use Rattle.frames_code.specs.Code.{Function, Program, cell_home, area_home, frame_bytes}
-use Rattle.frames_code.specs.Sound.{IsSoundProgram}
+use Rattle.frames_code.specs.Sound.{TargetFits, IndexFits, LocationFits, InstructionFits, FunctionFits, IsSoundProgram, is_power_of_two}
 use Rattle.frames_code.specs.Run.{State, Progress, running, ended, stuck, function_at, step}
 use Rattle.frames_code.specs.Costs.{entry_cost_of, cost_in, cost_in_if, next_of, cost_on, spent_in}
 use Rattle.select.specs.declared.places.Source.{Source}
@@ -23,6 +27,7 @@ use Rattle.select.specs.declared.places.Home.TheVariants as home
 use Rattle.select.specs.Program.{calls_are_near}
 use Rattle.select.specs.Selected.{is_near_gp, source_of, home_of, register_of, made_in, machine_of, constant_form, log2_of, byte_home, return_home, calls, is_same, skips_nothing}
 use Rattle.select_correct.specs.Costs.{call_cost, far_cost, word_cost, constant_cost, address_cost, set_cost, fetch_cost, keep_cost, into_cost, move_cost, form_cost, second_cost, ending_cost, compute_cost, narrow_cost, reach_cost, reference_cost, product_cost, scale_cost, counted_cost, element_cost, frame_cost, far_frame, saved_cost, opening_cost, step_cost, most_at, most_if, most_next, most_spent, SpentIsMore, far_source, far_home, far_location, far_saved, RowsAreFew}
+use Rattle.select.proofs.Powers.{power_is}
 use Rattle.select_correct.proofs.Fits.{function_fits, frame_room}
 
 choice_most : (t : Bool) (n : ℕ) → (if t then 0 else n) ≤ n
@@ -121,15 +126,17 @@ element_near d x (source.Register q) size =
 element_near d x (source.Frame o) size = counted_near d x (source.Frame o) size
 element_near d x (source.Constant v) size = omega (arith, compute_near (operation.Machine register_op.Add) d x (source.Constant (v * size % 2 ^ 32)))
 
-reach_near : (f : Function) (l : Location) → reach_cost f l ≤ 2 + far_location f l
-reach_near f (location.Statics o) = choice_most (is_near_gp o) 2
+reach_near : (f : Function) (l : Location) → reach_cost f l ≤ 6 + far_location f l
+reach_near f (location.Statics o) = omega (arith, choice_most (is_near_gp o) 2)
 reach_near f (location.Frame o) = omega arith
-reach_near f (location.At x) = fetch_near (source_of f x)
+reach_near f (location.At x) = omega (arith, fetch_near (source_of f x))
+reach_near f (location.Indexed b y size) = omega (arith, fetch_near (source_of f y), scale_most size)
 
-reference_near : (f : Function) (d : Home) (l : Location) → reference_cost f d l ≤ 3 + (far_location f l + far_home d)
+reference_near : (f : Function) (d : Home) (l : Location) → reference_cost f d l ≤ 8 + (far_location f l + far_home d)
 reference_near f d (location.Statics o) = omega (arith, one_or_more (is_near_gp o) 2 (omega arith), keep_near d)
 reference_near f d (location.Frame o) = omega (arith, keep_near d, address_near (area_home f + o))
-reference_near f d (location.At x) = move_near d (source_of f x)
+reference_near f d (location.At x) = omega (arith, move_near d (source_of f x))
+reference_near f d (location.Indexed b y size) = omega (arith, reach_near f (location.Indexed b y size), keep_near d)
 
 saved_near : (f : Function) (n : ℕ) → saved_cost f n ≡ n + far_saved f n
 saved_near f zero = omega arith
@@ -202,16 +209,6 @@ element_most d x (source.Register q) size =
 element_most d x (source.Frame o) size = counted_most d x (source.Frame o) size
 element_most d x (source.Constant v) size = omega (arith, compute_most (operation.Machine register_op.Add) d x (source.Constant (v * size % 2 ^ 32)))
 
-reach_most : (f : Function) (l : Location) → reach_cost f l ≤ 3
-reach_most f (location.Statics o) = omega (arith, choice_most (is_near_gp o) 2)
-reach_most f (location.Frame o) = omega (arith, far_most (area_home f + o))
-reach_most f (location.At x) = fetch_most (source_of f x)
-
-reference_most : (f : Function) (d : Home) (l : Location) → reference_cost f d l ≤ 6
-reference_most f d (location.Statics o) = omega (arith, one_or_more (is_near_gp o) 2 (omega arith), keep_most d)
-reference_most f d (location.Frame o) = omega (arith, keep_most d, address_most (area_home f + o))
-reference_most f d (location.At x) = move_most d (source_of f x)
-
 saved_most : (f : Function) (n : ℕ) → saved_cost f n ≤ 3 * n
 saved_most f zero = omega arith
 saved_most f (suc n) = omega (arith, saved_most f n, far_most (cell_home f n))
@@ -223,6 +220,43 @@ opening_most f few = omega (arith, few, return_near (calls f.code) (return_home 
 
 word_near : (o : ℕ) → o < 0x800 → far_cost o ≡ 0
 word_near o lt = let t : nat_lt o 0x800 ≡ true = lt-ltb o 0x800 lt in rw t refl
+
+-- a temporary or a word of the frame, where all of them are
+one_of_two : (t : Bool) (q o : ℕ) → o < 0x800 → fetch_cost (if t then source.Register q else source.Frame o) ≤ 1
+one_of_two true q o lt = omega arith
+one_of_two false q o lt = omega (arith, word_near o lt)
+
+index_most : (f : Function) (x : Operand) → IndexFits f x → area_home f ≤ 0x800 → fetch_cost (source_of f x) ≤ 1
+index_most f (operand.Temporary k) fit small = one_of_two (nat_lt k 8) _ _ (omega (arith, fit, small))
+index_most f (operand.Cell c) fit small = one_of_two (nat_lt c f.resident) _ _ (omega (arith, fit, small))
+index_most f (operand.Constant v) fit small = absurd fit
+index_most f (operand.Argument k) fit small = absurd fit
+
+kept_near : (t : Bool) (q o : ℕ) → o < 0x800 → keep_cost (if t then home.Register q else home.Frame o) ≤ 1
+kept_near true q o lt = omega arith
+kept_near false q o lt = omega (arith, word_near o lt)
+
+target_most : (f : Function) (d : Target) → TargetFits f d → area_home f ≤ 0x800 → keep_cost (home_of f d) ≤ 1
+target_most f (target.Temporary k) fit small = kept_near (nat_lt k 8) _ _ (omega (arith, fit, small))
+target_most f (target.Cell c) fit small = kept_near (nat_lt c f.resident) _ _ (omega (arith, fit, small))
+
+-- a size that is a power of two takes a shift
+shift_most : (size : ℕ) → is_power_of_two size ≡ true → scale_cost size ≤ 1
+shift_most size e =
+    let one : product_cost (log2_of size) size ≡ 1 = ap (λ o. product_cost o size) (power_is size e) in
+    of_either (size == 1) 0 (product_cost (log2_of size) size) 1 (omega arith) (omega (arith, one))
+
+reach_most : (f : Function) (l : Location) → LocationFits f l → reach_cost f l ≤ 3
+reach_most f (location.Statics o) fit = omega (arith, choice_most (is_near_gp o) 2)
+reach_most f (location.Frame o) fit = omega (arith, far_most (area_home f + o))
+reach_most f (location.At x) fit = fetch_most (source_of f x)
+reach_most f (location.Indexed b y size) fit = omega (arith, index_most f y fit.1 fit.3, shift_most size fit.2)
+
+reference_most : (f : Function) (d : Target) (l : Location) → TargetFits f d → LocationFits f l → reference_cost f (home_of f d) l ≤ 6
+reference_most f d (location.Statics o) fd fit = omega (arith, one_or_more (is_near_gp o) 2 (omega arith), keep_most (home_of f d))
+reference_most f d (location.Frame o) fd fit = omega (arith, keep_most (home_of f d), address_most (area_home f + o))
+reference_most f d (location.At x) fd fit = move_most (home_of f d) (source_of f x)
+reference_most f d (location.Indexed b y size) fd fit = omega (arith, reach_most f (location.Indexed b y size) fit, target_most f d fd fit.3)
 
 sp_near : (n : ℕ) → 0 < n → n < 0x800 → far_frame (2 ^ 32 - n) ≡ 0
 sp_near n some lt =
@@ -250,53 +284,50 @@ opening_within f few all = on (nat_lt (frame_bytes f) 0x800) refl
     on false e = let most : entry_cost_of f ≡ 42 = rw e refl in omega (arith, most, opening_most f few)
 
 module _ (p : Program) (sound : IsSoundProgram p) where
-  few : (k : ℕ) → (function_at p k).resident ≤ 12
-  few k = (function_fits p sound k).few
-
   opening : (k : ℕ) → opening_cost (function_at p k) ≤ entry_cost_of (function_at p k)
   opening k = let fit = function_fits p sound k in opening_within (function_at p k) fit.few fit.all
 
-  step_is_more : (f : Function) → f.resident ≤ 12 → (x : Instruction) → step_cost p f x ≤ cost_in p x
-  step_is_more f le instruction.Nothing = omega arith
-  step_is_more f le (instruction.Move d x) = move_most (home_of f d) (source_of f x)
-  step_is_more f le (instruction.Compute o d x y) = compute_most o (home_of f d) (source_of f x) (source_of f y)
-  step_is_more f le (instruction.Convert c d x) = omega (arith, narrow_most c, fetch_most (source_of f x), keep_most (home_of f d))
-  step_is_more f le (instruction.Load w d l) = omega (arith, reach_most f l, keep_most (home_of f d))
-  step_is_more f le (instruction.Store w x l) = omega (arith, fetch_most (source_of f x), reach_most f l)
-  step_is_more f le (instruction.Address d l) = reference_most f (home_of f d) l
-  step_is_more f le (instruction.Element d x y size) = element_most (home_of f d) (source_of f x) (source_of f y) size
-  step_is_more f le (instruction.Jump to) = omega arith
-  step_is_more f le (instruction.Branch t x y to) = omega (arith, fetch_most (source_of f x), fetch_most (source_of f y))
-  step_is_more f le (instruction.Call g) = omega (arith, few_at_call (calls_are_near p), opening g)
-  step_is_more f le instruction.PutByte = omega (arith, address_most (byte_home f))
-  step_is_more f le instruction.GetByte = omega (arith, address_most (byte_home f))
-  step_is_more f le instruction.Exit = omega arith
-  step_is_more f le instruction.Return = omega (arith, le, return_near (calls f.code) (return_home f), saved_most f f.resident, far_most (return_home f), frame_most (frame_bytes f))
+  step_is_more : (f : Function) → f.resident ≤ 12 → (x : Instruction) → InstructionFits (length p.functions) f x → step_cost p f x ≤ cost_in p x
+  step_is_more f le instruction.Nothing fit = omega arith
+  step_is_more f le (instruction.Move d x) fit = move_most (home_of f d) (source_of f x)
+  step_is_more f le (instruction.Compute o d x y) fit = compute_most o (home_of f d) (source_of f x) (source_of f y)
+  step_is_more f le (instruction.Convert c d x) fit = omega (arith, narrow_most c, fetch_most (source_of f x), keep_most (home_of f d))
+  step_is_more f le (instruction.Load w d l) fit = omega (arith, reach_most f l fit.1, keep_most (home_of f d))
+  step_is_more f le (instruction.Store w x l) fit = omega (arith, fetch_most (source_of f x), reach_most f l fit.1)
+  step_is_more f le (instruction.Address d l) fit = reference_most f d l fit.0 fit.1
+  step_is_more f le (instruction.Element d x y size) fit = element_most (home_of f d) (source_of f x) (source_of f y) size
+  step_is_more f le (instruction.Jump to) fit = omega arith
+  step_is_more f le (instruction.Branch t x y to) fit = omega (arith, fetch_most (source_of f x), fetch_most (source_of f y))
+  step_is_more f le (instruction.Call g) fit = omega (arith, few_at_call (calls_are_near p), opening g)
+  step_is_more f le instruction.PutByte fit = omega (arith, address_most (byte_home f))
+  step_is_more f le instruction.GetByte fit = omega (arith, address_most (byte_home f))
+  step_is_more f le instruction.Exit fit = omega arith
+  step_is_more f le instruction.Return fit = omega (arith, le, return_near (calls f.code) (return_home f), saved_most f f.resident, far_most (return_home f), frame_most (frame_bytes f))
 
-  chosen_is_more : (f : Function) → f.resident ≤ 12 → (x : Instruction) (t : Bool) → step_cost p f (if t then instruction.Nothing else x) ≤ cost_in p x
-  chosen_is_more f le x true = omega arith
-  chosen_is_more f le x false = step_is_more f le x
+  chosen_is_more : (f : Function) → f.resident ≤ 12 → (x : Instruction) → InstructionFits (length p.functions) f x → (t : Bool) → step_cost p f (if t then instruction.Nothing else x) ≤ cost_in p x
+  chosen_is_more f le x fit true = omega arith
+  chosen_is_more f le x fit false = step_is_more f le x fit
 
-  at_is_more : (f : Function) → f.resident ≤ 12 → (k : ℕ) (x : Instruction) → most_at p f k x ≤ cost_in p x
-  at_is_more f le k instruction.Nothing = step_is_more f le instruction.Nothing
-  at_is_more f le k (instruction.Move d x) = chosen_is_more f le (instruction.Move d x) (is_same d x)
-  at_is_more f le k (instruction.Compute o d x y) = step_is_more f le (instruction.Compute o d x y)
-  at_is_more f le k (instruction.Convert c d x) = step_is_more f le (instruction.Convert c d x)
-  at_is_more f le k (instruction.Load w d l) = step_is_more f le (instruction.Load w d l)
-  at_is_more f le k (instruction.Store w x l) = step_is_more f le (instruction.Store w x l)
-  at_is_more f le k (instruction.Address d l) = step_is_more f le (instruction.Address d l)
-  at_is_more f le k (instruction.Element d x y size) = step_is_more f le (instruction.Element d x y size)
-  at_is_more f le k (instruction.Jump to) = chosen_is_more f le (instruction.Jump to) (skips_nothing f.code k to)
-  at_is_more f le k (instruction.Branch t x y to) = step_is_more f le (instruction.Branch t x y to)
-  at_is_more f le k (instruction.Call g) = step_is_more f le (instruction.Call g)
-  at_is_more f le k instruction.PutByte = step_is_more f le instruction.PutByte
-  at_is_more f le k instruction.GetByte = step_is_more f le instruction.GetByte
-  at_is_more f le k instruction.Exit = step_is_more f le instruction.Exit
-  at_is_more f le k instruction.Return = step_is_more f le instruction.Return
+  at_is_more : (f : Function) → f.resident ≤ 12 → (k : ℕ) (x : Instruction) → InstructionFits (length p.functions) f x → most_at p f k x ≤ cost_in p x
+  at_is_more f le k instruction.Nothing fit = step_is_more f le instruction.Nothing fit
+  at_is_more f le k (instruction.Move d x) fit = chosen_is_more f le (instruction.Move d x) fit (is_same d x)
+  at_is_more f le k (instruction.Compute o d x y) fit = step_is_more f le (instruction.Compute o d x y) fit
+  at_is_more f le k (instruction.Convert c d x) fit = step_is_more f le (instruction.Convert c d x) fit
+  at_is_more f le k (instruction.Load w d l) fit = step_is_more f le (instruction.Load w d l) fit
+  at_is_more f le k (instruction.Store w x l) fit = step_is_more f le (instruction.Store w x l) fit
+  at_is_more f le k (instruction.Address d l) fit = step_is_more f le (instruction.Address d l) fit
+  at_is_more f le k (instruction.Element d x y size) fit = step_is_more f le (instruction.Element d x y size) fit
+  at_is_more f le k (instruction.Jump to) fit = chosen_is_more f le (instruction.Jump to) fit (skips_nothing f.code k to)
+  at_is_more f le k (instruction.Branch t x y to) fit = step_is_more f le (instruction.Branch t x y to) fit
+  at_is_more f le k (instruction.Call g) fit = step_is_more f le (instruction.Call g) fit
+  at_is_more f le k instruction.PutByte fit = step_is_more f le instruction.PutByte fit
+  at_is_more f le k instruction.GetByte fit = step_is_more f le instruction.GetByte fit
+  at_is_more f le k instruction.Exit fit = step_is_more f le instruction.Exit fit
+  at_is_more f le k instruction.Return fit = step_is_more f le instruction.Return fit
 
-  if_is_more : (f : Function) → f.resident ≤ 12 → (k : ℕ) (o : Option Instruction) → most_if p f k o ≤ cost_in_if p o
-  if_is_more f le k None = omega arith
-  if_is_more f le k (Some x) = at_is_more f le k x
+  if_is_more : (f : Function) → FunctionFits (length p.functions) f → (k : ℕ) (o : Option Instruction) → slice_get f.code k ≡ o → most_if p f k o ≤ cost_in_if p o
+  if_is_more f fit k None e = omega arith
+  if_is_more f fit k (Some x) e = at_is_more f fit.few k x (fit.each k x e)
 
   rest_is_more : (n : ℕ) → ((s : State) → most_spent p n s ≤ spent_in p n s) → (x : Progress) → cost_on x (most_spent p n) ≤ cost_on x (spent_in p n)
   rest_is_more n more (running s) = more s
@@ -306,7 +337,7 @@ module _ (p : Program) (sound : IsSoundProgram p) where
   all_is_more : (n : ℕ) (s : State) → most_spent p n s ≤ spent_in p n s
   all_is_more zero s = omega arith
   all_is_more (suc n) s =
-      let now : most_next p s ≤ cost_in_if p (next_of p s) = if_is_more (function_at p s.frame.function) (few s.frame.function) s.frame.at (next_of p s) in
+      let now : most_next p s ≤ cost_in_if p (next_of p s) = if_is_more (function_at p s.frame.function) (function_fits p sound s.frame.function) s.frame.at (next_of p s) refl in
       let later : cost_on (step p s) (most_spent p n) ≤ cost_on (step p s) (spent_in p n) = rest_is_more n (all_is_more n) (step p s) in
       omega (arith, now, later)
 

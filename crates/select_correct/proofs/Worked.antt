@@ -6,6 +6,7 @@ use Rattle.rv32.specs.declared.instr.Test.TheVariants as test
 use Rattle.asm.specs.Layout.{longest}
 use Rattle.frames_code.specs.declared.code.Operand.TheVariants as operand
 use Rattle.frames_code.specs.declared.code.Target.TheVariants as target
+use Rattle.frames_code.specs.declared.code.Base.TheVariants as base
 use Rattle.frames_code.specs.declared.code.Location.TheVariants as location
 use Rattle.frames_code.specs.declared.code.Width.TheVariants as width
 use Rattle.frames_code.specs.declared.code.Operation.TheVariants as operation
@@ -117,6 +118,30 @@ address_of_further_statics = refl
 
 store_in_the_frame : row near (instruction.Store width.Byte (operand.Constant 7) (location.Frame 3)) ≡ 2
 store_in_the_frame = refl
+
+-- by an index: a sum and the access, a shift where the size is not 1, and one each for an index and for a target in the frame
+byte_by_an_index : row near (instruction.Store width.Byte (operand.Cell 0) (location.Indexed (base.Statics 4095) (operand.Cell 1) 1)) ≡ 2
+byte_by_an_index = refl
+
+half_by_an_index : row near (instruction.Load width.Half (target.Cell 0) (location.Indexed (base.Frame 4) (operand.Cell 1) 2)) ≡ 3
+unfolding count_trailing_zeros
+half_by_an_index = refl
+
+word_by_an_index_in_the_frame : row near (instruction.Load width.Word (target.Cell 4) (location.Indexed (base.Frame 4) (operand.Cell 3) 4)) ≡ 5
+unfolding count_trailing_zeros
+word_by_an_index_in_the_frame = refl
+
+load_by_an_index_attained : items near (instruction.Load width.Word (target.Cell 4) (location.Indexed (base.Frame 4) (operand.Cell 3) 4)) ≡ 4 * 5
+unfolding count_trailing_zeros
+load_by_an_index_attained = refl
+
+address_by_an_index : row near (instruction.Address (target.Cell 4) (location.Indexed (base.Statics 8) (operand.Cell 3) 4)) ≡ 5
+unfolding count_trailing_zeros
+address_by_an_index = refl
+
+address_by_an_index_attained : items near (instruction.Address (target.Cell 4) (location.Indexed (base.Statics 8) (operand.Cell 3) 4)) ≡ 4 * 5
+unfolding count_trailing_zeros
+address_by_an_index_attained = refl
 
 -- ---- calls: 3 and the residents, and returns: 3 and the residents
 
