@@ -10,6 +10,8 @@ use Rattle.frames_code.specs.declared.code.Operand.{Operand}
 use Rattle.frames_code.specs.declared.code.Operand.TheVariants as operand
 use Rattle.frames_code.specs.declared.code.Target.{Target}
 use Rattle.frames_code.specs.declared.code.Target.TheVariants as target
+use Rattle.frames_code.specs.declared.code.Base.{Base}
+use Rattle.frames_code.specs.declared.code.Base.TheVariants as base
 use Rattle.frames_code.specs.declared.code.Location.{Location}
 use Rattle.frames_code.specs.declared.code.Location.TheVariants as location
 use Rattle.frames_code.specs.declared.code.Operation.{Operation}
@@ -17,7 +19,7 @@ use Rattle.frames_code.specs.declared.code.Operation.TheVariants as operation
 use Rattle.frames_code.specs.declared.code.Instruction.{Instruction}
 use Rattle.frames_code.specs.declared.code.Instruction.TheVariants as instruction
 use Rattle.frames_code.specs.Code.{Function}
-use Rattle.frames_code.specs.Sound.{OperandFits, TargetFits, LocationFits, InstructionFits, FunctionFits}
+use Rattle.frames_code.specs.Sound.{OperandFits, TargetFits, BaseFits, IndexFits, LocationFits, InstructionFits, FunctionFits}
 use Rattle.frames_opt.specs.declared.facts.Known.{Known}
 use Rattle.frames_opt.specs.declared.facts.Known.TheVariants as known
 use Rattle.frames_opt.specs.inside.Facts.{nothing, held, known_of, reference_to, learned, result_on, computed, behind}
@@ -292,10 +294,21 @@ module _ (n : ℕ) (f : Function) (code : List Instruction) (count : length code
   target_stays (target.Temporary k) e = e
   target_stays (target.Cell c) e = e
 
+  base_stays : (b : Base) → BaseFits f b → BaseFits g b
+  base_stays (base.Statics o) e = e
+  base_stays (base.Frame o) e = e
+
+  index_stays : (y : Operand) → IndexFits f y → IndexFits g y
+  index_stays (operand.Temporary k) e = e
+  index_stays (operand.Cell c) e = e
+  index_stays (operand.Constant v) e = absurd e
+  index_stays (operand.Argument k) e = absurd e
+
   location_stays : (l : Location) → LocationFits f l → LocationFits g l
   location_stays (location.Statics o) e = e
   location_stays (location.Frame o) e = e
   location_stays (location.At x) e = operand_stays x e
+  location_stays (location.Indexed b y size) e = (base_stays b e.0, index_stays y e.1, e.2, e.3)
 
   jump_stays : (to : ℕ) → to < length f.code → to < length code
   jump_stays to e = subst (λ m. to < m) (sym count) e

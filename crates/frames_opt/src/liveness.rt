@@ -233,6 +233,7 @@ fn bits_through(location: Location) -> u8 {
         Location::Statics(_) => 0,
         Location::Frame(_) => 0,
         Location::At(operand) => bits_named(operand),
+        Location::Indexed { index, .. } => bits_named(index),
     }
 }
 
