@@ -51,11 +51,13 @@ reach_same : (to : ℕ → ℕ) (l : Location) → reach_bytes (renumbered_locat
 reach_same to (location.Statics o) = refl
 reach_same to (location.Frame o) = refl
 reach_same to (location.At x) = fetch_same to x
+reach_same to (location.Indexed b y size) = ap (λ n. n + scale_bytes size) (fetch_same to y)
 
 reference_same : (to : ℕ → ℕ) (d : Target) (l : Location) → reference_bytes (renumbered_target to d) (renumbered_location to l) ≡ reference_bytes d l
 reference_same to d (location.Statics o) = ap (λ n. 8 + n) (keep_same to d)
 reference_same to d (location.Frame o) = ap (λ n. 12 + n) (keep_same to d)
 reference_same to d (location.At x) = move_same to d x
+reference_same to d (location.Indexed b y size) = two_same (λ n m. n + (scale_bytes size + (4 + m))) _ _ _ _ (fetch_same to y) (keep_same to d)
 
 bytes_same : (to : ℕ → ℕ) (x : Instruction) → code_bytes (renumbered to x) ≡ code_bytes x
 bytes_same to instruction.Nothing = refl

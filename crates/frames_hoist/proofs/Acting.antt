@@ -9,14 +9,16 @@ use Rattle.frames_code.specs.declared.code.Target.{Target}
 use Rattle.frames_code.specs.declared.code.Target.TheVariants as target
 use Rattle.frames_code.specs.declared.code.Width.{Width}
 use Rattle.frames_code.specs.declared.code.Width.TheVariants as width
+use Rattle.frames_code.specs.declared.code.Base.{Base}
+use Rattle.frames_code.specs.declared.code.Base.TheVariants as array_base
 use Rattle.frames_code.specs.declared.code.Location.{Location}
 use Rattle.frames_code.specs.declared.code.Location.TheVariants as location
 use Rattle.frames_code.specs.declared.code.Instruction.{Instruction}
 use Rattle.frames_code.specs.declared.code.Instruction.TheVariants as instruction
 use Rattle.frames_code.specs.Code.{Program, area_home, frame_bytes}
-use Rattle.frames_code.specs.Run.{Value, Values, Bytes, Frame, State, Reference, Memory, Progress, running, ended, stuck, word, reference, value, word_at, reference_in, set, with_at, unset, next, past, goes_to, place, size_of, arrays, memory, memory_among, changed_among, with_frames, with_memory, with_element, element_in, fits, gives, gives_word, operate, converted, loaded, stored, put, got, returned, entered, act, function_at, bytes_of, name_of, ◌>>=◌}
+use Rattle.frames_code.specs.Run.{Value, Values, Bytes, Frame, State, Reference, Memory, Progress, running, ended, stuck, word, reference, value, word_at, reference_in, set, with_at, unset, next, past, goes_to, place, base_of, indexed, size_of, arrays, memory, memory_among, changed_among, with_frames, with_memory, with_element, element_in, fits, gives, gives_word, operate, converted, loaded, stored, put, got, returned, entered, act, function_at, bytes_of, name_of, ◌>>=◌}
 use Rattle.frames_hoist.specs.layer.Hoisting.{is_straight, from_pool, with_pool}
-use Rattle.frames_hoist.proofs.Agreeing.{Outside, CellsAgree, OperandOutside, TargetOutside, LocationOutside, IsOutside, LeadsAlike, AreAlike, first_or, rest_of, under, over, AllAgree, Agree, Match, match_bind, match_if, word_below, reference_below, value_below, plain_below}
+use Rattle.frames_hoist.proofs.Agreeing.{Outside, CellsAgree, OperandOutside, TargetOutside, BaseOutside, LocationOutside, IsOutside, LeadsAlike, AreAlike, first_or, rest_of, under, over, AllAgree, Agree, Match, match_bind, match_if, word_below, reference_below, indexed_below, value_below, plain_below}
 
 -- ---- memory
 
@@ -209,6 +211,12 @@ module _ (p q : Program) (base : ℕ → ℕ) (pool : ℕ → List ℕ) (fill : 
         (λ none. subst (λ b. Matches (if b then running (with_memory p (next s) l (with_element w m.bytes offset n)) else stuck) (o2 >>= λ m. if fits w offset m then running (with_memory q (next t) l (with_element w m.bytes offset n)) else stuck)) (sym (none w offset)) tt)
         h
 
+    base_same : (b : Base) → BaseOutside (function_at p k) (function_at q k) b → base_of q t b ≡ base_of p s b
+    base_same (array_base.Statics o) out = refl
+    base_same (array_base.Frame o) out =
+        ap (λ n. reference_to n (area_home (function_at q k) + o)) (name_under s.frame s.waiting d ds)
+        ∙ ap (λ n. reference_to (name_of p s.frame s.waiting) (n + o)) out
+
     module _ (read : List ℕ) (held : (read ≡ []) ⊎ ((read ≡ pool k) × (fill k i ≡ length (pool k)))) where
       abbrev from : Operand → Operand
       from = from_pool (base k) read
@@ -234,6 +242,8 @@ module _ (p q : Program) (base : ℕ → ℕ) (pool : ℕ → List ℕ) (fill : 
           ap (λ n. Some (reference_to n (area_home (function_at q k) + o))) (name_under s.frame s.waiting d ds)
           ∙ (ap (λ n. Some (reference_to (name_of p s.frame s.waiting) (n + o))) out ∙ e)
       place_below (location.At x) out w e = plain_reference x out w e
+      place_below (location.Indexed b y size) out w e =
+          ap (λ r. indexed r size (word_at t y)) (base_same b out.0) ∙ indexed_below (base_of p s b) size (word_at s y) (word_at t y) (plain_word y out.1) w e
 
       returned_match : (ws : List Frame) (vs : List Values) → AllAgree base pool fill ws vs → Matches (returned s ws) (returned t (under ws vs))
       returned_match [] vs h =

@@ -6,13 +6,15 @@ use Rattle.frames_code.specs.declared.code.Operand.{Operand}
 use Rattle.frames_code.specs.declared.code.Operand.TheVariants as operand
 use Rattle.frames_code.specs.declared.code.Target.{Target}
 use Rattle.frames_code.specs.declared.code.Target.TheVariants as target
+use Rattle.frames_code.specs.declared.code.Base.{Base}
+use Rattle.frames_code.specs.declared.code.Base.TheVariants as array_base
 use Rattle.frames_code.specs.declared.code.Location.{Location}
 use Rattle.frames_code.specs.declared.code.Location.TheVariants as location
 use Rattle.frames_code.specs.declared.code.Instruction.{Instruction}
 use Rattle.frames_code.specs.declared.code.Instruction.TheVariants as instruction
 use Rattle.frames_code.specs.Code.{Function, Program, area_home, frame_bytes}
 use Rattle.frames_code.specs.Costs.{entry_cost, entry_cost_of}
-use Rattle.frames_code.specs.Run.{Value, Values, Frame, State, Reference, Progress, running, ended, stuck, word, value, word_in, reference_in, function_at, ◌>>=◌}
+use Rattle.frames_code.specs.Run.{Value, Values, Frame, State, Reference, Progress, running, ended, stuck, word, value, word_in, reference_in, indexed, function_at, ◌>>=◌}
 use Rattle.frames_hoist.specs.layer.Hoisting.{is_straight, word_for, from_pool, with_pool}
 
 -- ---- the words that hold constants
@@ -38,10 +40,15 @@ TargetOutside base pool (target.Temporary k) = Unit {0}
 TargetOutside base pool (target.Cell c) = Outside base pool c
 
 -- nor does it name the arrays of the frame, unless they begin at the same place
+abbrev pub BaseOutside : (f g : Function) → Base → Type 0
+BaseOutside f g (array_base.Statics o) = Unit {0}
+BaseOutside f g (array_base.Frame o) = area_home g ≡ area_home f
+
 abbrev pub LocationOutside : ℕ → List ℕ → (f g : Function) → Location → Type 0
 LocationOutside base pool f g (location.Statics o) = Unit {0}
 LocationOutside base pool f g (location.Frame o) = area_home g ≡ area_home f
 LocationOutside base pool f g (location.At x) = OperandOutside base pool x
+LocationOutside base pool f g (location.Indexed b y size) = BaseOutside f g b × OperandOutside base pool y
 
 abbrev pub IsOutside : ℕ → List ℕ → (f g : Function) → Instruction → Type 0
 IsOutside base pool f g instruction.Nothing = Unit {0}
@@ -194,6 +201,10 @@ word_below (Some v) o2 below w e = ap word_in (below v refl) ∙ e
 pub reference_below : (o o2 : Option Value) → ((v : Value) → o ≡ Some v → o2 ≡ Some v) → (w : Reference) → reference_in o ≡ Some w → reference_in o2 ≡ Some w
 reference_below None o2 below w e = absurd (let x : ⊥ = cc in x)
 reference_below (Some v) o2 below w e = ap reference_in (below v refl) ∙ e
+
+pub indexed_below : (r : Reference) (size : ℕ) (o o2 : Option ℕ) → ((n : ℕ) → o ≡ Some n → o2 ≡ Some n) → (w : Reference) → indexed r size o ≡ Some w → indexed r size o2 ≡ Some w
+indexed_below r size None o2 below w e = absurd (let x : ⊥ = cc in x)
+indexed_below r size (Some n) o2 below w e = ap (indexed r size) (below n refl) ∙ e
 
 -- what is read: as much as the frame has
 module _ (base : ℕ) (pool read : List ℕ) (n : ℕ) (held : (read ≡ []) ⊎ ((read ≡ pool) × (n ≡ length pool))) (s : State) (d : Values) (ds : List Values) (agree : CellsAgree base pool n s.frame.cells d) where

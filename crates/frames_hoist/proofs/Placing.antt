@@ -8,14 +8,16 @@ use Rattle.frames_code.specs.declared.code.Operand.{Operand}
 use Rattle.frames_code.specs.declared.code.Operand.TheVariants as operand
 use Rattle.frames_code.specs.declared.code.Target.{Target}
 use Rattle.frames_code.specs.declared.code.Target.TheVariants as target
+use Rattle.frames_code.specs.declared.code.Base.{Base}
+use Rattle.frames_code.specs.declared.code.Base.TheVariants as array_base
 use Rattle.frames_code.specs.declared.code.Location.{Location}
 use Rattle.frames_code.specs.declared.code.Location.TheVariants as location
 use Rattle.frames_code.specs.declared.code.Instruction.{Instruction}
 use Rattle.frames_code.specs.declared.code.Instruction.TheVariants as instruction
 use Rattle.frames_code.specs.Code.{Function}
-use Rattle.frames_hoist.specs.layer.Hoisting.{reads_below, writes_below, lies_below, is_fine, is_straight, is_nothing, from_pool, with_pool, put_word, filled, more_filled, hoisted_one, next_filled, hoisted, filled_at, is_straight_at, are_straight}
+use Rattle.frames_hoist.specs.layer.Hoisting.{reads_below, writes_below, is_in_statics, lies_below, is_fine, is_straight, is_nothing, from_pool, with_pool, put_word, filled, more_filled, hoisted_one, next_filled, hoisted, filled_at, is_straight_at, are_straight}
 use Rattle.frames_hoist.specs.layer.Functions.{IsPooled}
-use Rattle.frames_hoist.proofs.Agreeing.{Outside, OperandOutside, TargetOutside, LocationOutside, IsOutside, LeadsAlike, PutsOne, Reads, Position}
+use Rattle.frames_hoist.proofs.Agreeing.{Outside, OperandOutside, TargetOutside, BaseOutside, LocationOutside, IsOutside, LeadsAlike, PutsOne, Reads, Position}
 
 -- ---- tests
 
@@ -151,10 +153,15 @@ module _ (base start : ℕ) (pool : List ℕ) (f g : Function) where
   target_outside (target.Temporary k) e = tt
   target_outside (target.Cell c) e = word_outside c e
 
+  base_outside : (b : Base) → is_in_statics b ≡ true → BaseOutside f g b
+  base_outside (array_base.Statics o) e = tt
+  base_outside (array_base.Frame o) e = absurd (not_true e)
+
   location_outside : (l : Location) → lies_below base l ≡ true → LocationOutside base pool f g l
   location_outside (location.Statics o) e = tt
   location_outside (location.Frame o) e = absurd (not_true e)
   location_outside (location.At x) e = operand_outside x e
+  location_outside (location.Indexed b y size) e = (base_outside b (left_true (is_in_statics b) (reads_below base y) e), operand_outside y (right_true (is_in_statics b) (reads_below base y) e))
 
   pub is_outside : (x : Instruction) → is_fine base start x ≡ true → IsOutside base pool f g x
   is_outside instruction.Nothing e = tt
@@ -378,10 +385,15 @@ module _ (f : Function) where
   target_stays (target.Temporary k) = tt
   target_stays (target.Cell c) = none_outside c
 
+  base_stays : (b : Base) → BaseOutside f f b
+  base_stays (array_base.Statics o) = tt
+  base_stays (array_base.Frame o) = refl
+
   location_stays : (l : Location) → LocationOutside 0 [] f f l
   location_stays (location.Statics o) = tt
   location_stays (location.Frame o) = refl
   location_stays (location.At x) = operand_stays x
+  location_stays (location.Indexed b y size) = (base_stays b, operand_stays y)
 
   outside_stays : (x : Instruction) → IsOutside 0 [] f f x
   outside_stays instruction.Nothing = tt

@@ -8,6 +8,8 @@ use Rattle.frames_code.specs.declared.code.Operand.{Operand}
 use Rattle.frames_code.specs.declared.code.Operand.TheVariants as operand
 use Rattle.frames_code.specs.declared.code.Target.{Target}
 use Rattle.frames_code.specs.declared.code.Target.TheVariants as target
+use Rattle.frames_code.specs.declared.code.Base.{Base}
+use Rattle.frames_code.specs.declared.code.Base.TheVariants as base
 use Rattle.frames_code.specs.declared.code.Location.{Location}
 use Rattle.frames_code.specs.declared.code.Location.TheVariants as location
 use Rattle.frames_code.specs.declared.code.Instruction.{Instruction}
@@ -15,11 +17,11 @@ use Rattle.frames_code.specs.declared.code.Instruction.TheVariants as instructio
 use Rattle.frames_code.specs.Code.{Function, Program, area_home, frame_bytes}
 use Rattle.frames_code.specs.Costs.{entry_cost, entry_cost_of}
 use Rattle.frames_code.specs.Run.{function_at}
-use Rattle.frames_code.specs.Sound.{OperandFits, TargetFits, LocationFits, InstructionFits, FunctionFits, IsSoundProgram, places_of}
+use Rattle.frames_code.specs.Sound.{OperandFits, TargetFits, BaseFits, IndexFits, LocationFits, InstructionFits, FunctionFits, IsSoundProgram, places_of}
 use Rattle.frames.specs.Costs.{function_bytes, function_bytes_in}
 use Rattle.frames_hoist.specs.Optimised.{IsOptimised}
 use Rattle.frames_hoist.specs.layer.Hoisting.{is_nothing, word_for, from_pool, with_pool, put_word, hoisted_one, next_filled, hoisted, filled_at}
-use Rattle.frames_hoist.specs.layer.Functions.{with_words, IsPooled, IsHoistedFunction, stayed, pooled, AreHoisted}
+use Rattle.frames_hoist.specs.layer.Functions.{with_words, HasRoom, IsPooled, IsHoistedFunction, stayed, pooled, AreHoisted}
 use Rattle.frames_hoist.proofs.Agreeing.{Position, AreAlike}
 use Rattle.frames_hoist.proofs.Placing.{no_item, fill, fill_few, count, position, same_position, hoisted_length}
 use Rattle.frames_hoist.proofs.Running.{runs, costs, at_calls}
@@ -194,7 +196,7 @@ bytes_in (x ∷ xs) (y ∷ ys) r (suc k) f g e e2 = bytes_in xs ys r.1 k f g e e
 
 -- ---- soundness
 
-module _ (n : ℕ) (f : Function) (pool : List ℕ) (start : ℕ) (words : (k w : ℕ) → slice_get pool k ≡ Some w → w < 2 ^ 32) where
+module _ (n : ℕ) (f : Function) (pool : List ℕ) (start : ℕ) (words : (k w : ℕ) → slice_get pool k ≡ Some w → w < 2 ^ 32) (room : HasRoom f (length pool)) where
   abbrev g : Function
   g = with_words f pool start
 
@@ -208,10 +210,24 @@ module _ (n : ℕ) (f : Function) (pool : List ℕ) (start : ℕ) (words : (k w 
   target_fits (target.Temporary k) e = e
   target_fits (target.Cell c) e = omega (arith, e)
 
+  words_near : area_home g ≤ 0x800
+  words_near = let same = room.frame in let near = room.near in let bare = room.bare in omega (arith, same, near, bare)
+
+  base_fits : (b : Base) → BaseFits f b → BaseFits g b
+  base_fits (base.Statics o) e = e
+  base_fits (base.Frame o) e = let bare = room.bare in let within = e.0 in absurd (omega (arith, bare, within))
+
+  index_fits : (y : Operand) → IndexFits f y → IndexFits g y
+  index_fits (operand.Temporary k) e = e
+  index_fits (operand.Cell c) e = omega (arith, e)
+  index_fits (operand.Constant v) e = absurd e
+  index_fits (operand.Argument k) e = absurd e
+
   location_fits : (l : Location) → LocationFits f l → LocationFits g l
   location_fits (location.Statics o) e = e
   location_fits (location.Frame o) e = e
   location_fits (location.At x) e = operand_fits x e
+  location_fits (location.Indexed b y size) e = (base_fits b e.0, index_fits y e.1, e.2, words_near)
 
   word_fits : (c : ℕ) (xs : List ℕ) (v : ℕ) → c + length xs ≤ f.cells + length pool → v < 2 ^ 32 → OperandFits g (word_for c xs v)
   word_fits c [] v le e = e
@@ -289,7 +305,7 @@ function_fits n f g (pooled h) fits =
       small = (let a = fits.small in omega (arith, a, same));
       few = h.room.registers;
       all = omega arith;
-      each = all_fit n f h.pool h.start h.words 0 0 f.code fits.each;
+      each = all_fit n f h.pool h.start h.words h.room 0 0 f.code fits.each;
     } in
     subst (FunctionFits n) (sym h.is) whole
 

@@ -4,7 +4,7 @@ ghost use Rattle.std.specs.Prelude.{◌≡◌, zero};
 ghost use Rattle.std.specs.List.{list_all};
 ghost use Rattle.frames_hoist.specs.layer.Hoisting as hoisting;
 
-use frames_code::{Instruction, Location, Operand, Target};
+use frames_code::{Base, Instruction, Location, Operand, Target};
 
 fn reads_below(number: usize, operand: Operand) -> bool
     ensures { result ≡ hoisting.reads_below number operand }
@@ -26,6 +26,15 @@ fn writes_below(number: usize, target: Target) -> bool
     }
 }
 
+fn is_in_statics(base: Base) -> bool
+    ensures { result ≡ hoisting.is_in_statics base }
+{
+    match base {
+        Base::Statics(_) => true,
+        Base::Frame(_) => false,
+    }
+}
+
 fn lies_below(number: usize, location: Location) -> bool
     ensures { result ≡ hoisting.lies_below number location }
 {
@@ -33,6 +42,7 @@ fn lies_below(number: usize, location: Location) -> bool
         Location::Statics(_) => true,
         Location::Frame(_) => false,
         Location::At(operand) => reads_below(number, operand),
+        Location::Indexed { base, index, .. } => is_in_statics(base) && reads_below(number, index),
     }
 }
 

@@ -6,14 +6,16 @@ use Rattle.frames_code.specs.declared.code.Operand.{Operand}
 use Rattle.frames_code.specs.declared.code.Operand.TheVariants as operand
 use Rattle.frames_code.specs.declared.code.Target.{Target}
 use Rattle.frames_code.specs.declared.code.Width.{Width}
+use Rattle.frames_code.specs.declared.code.Base.{Base}
+use Rattle.frames_code.specs.declared.code.Base.TheVariants as base
 use Rattle.frames_code.specs.declared.code.Location.{Location}
 use Rattle.frames_code.specs.declared.code.Location.TheVariants as location
 use Rattle.frames_code.specs.declared.code.Instruction.{Instruction}
 use Rattle.frames_code.specs.declared.code.Instruction.TheVariants as instruction
 use Rattle.frames_code.specs.Code.{Program, area_home, frame_bytes}
-use Rattle.frames_code.specs.Run.{Value, Values, Bytes, Frame, State, Reference, Memory, Progress, running, ended, stuck, word, reference, value, word_at, reference_in, set, unset, next, past, goes_to, place, arrays, memory, memory_among, changed_among, with_frames, with_memory, with_element, element_in, fits, gives, gives_word, operate, converted, loaded, stored, put, got, returned, entered, below_eight, result_alone, act, function_at, bytes_of, name_of, ◌>>=◌}
+use Rattle.frames_code.specs.Run.{Value, Values, Bytes, Frame, State, Reference, Memory, Progress, running, ended, stuck, word, reference, value, word_at, reference_in, set, unset, next, past, goes_to, place, base_of, indexed, arrays, memory, memory_among, changed_among, with_frames, with_memory, with_element, element_in, fits, gives, gives_word, operate, converted, loaded, stored, put, got, returned, entered, below_eight, result_alone, act, function_at, bytes_of, name_of, ◌>>=◌}
 use Rattle.frames_leaf.specs.layer.Moving.{home_of, moved_operand, moved_target, moved_location, moved}
-use Rattle.frames_leaf.proofs.Agreeing.{Named, OperandNamed, TargetNamed, LocationNamed, IsNamed, AreAlike, first_or, rest_of, under, over, held, none_held, AllAgree, Agree, Match, match_bind, match_if, set_match, value_below, word_below, reference_below}
+use Rattle.frames_leaf.proofs.Agreeing.{Named, OperandNamed, TargetNamed, LocationNamed, IsNamed, AreAlike, first_or, rest_of, under, over, held, none_held, AllAgree, Agree, Match, match_bind, match_if, set_match, value_below, word_below, reference_below, indexed_below}
 
 abbrev statics_memory : Bytes → List ℕ → Memory
 statics_memory b xs = record { bytes = b; first = 0; past = length xs }
@@ -132,12 +134,20 @@ module _ (p q : Program) (first : ℕ → ℕ) (words : ℕ → List ℕ) (r : A
     reference_at_below : (x : Operand) → OperandNamed at list x → (w : Reference) → reference_in (value s x) ≡ Some w → reference_in (value t (from x)) ≡ Some w
     reference_at_below x named = reference_below (value s x) (value t (from x)) (below x named)
 
+    base_same : (b : Base) → base_of q t b ≡ base_of p s b
+    base_same (base.Statics o) = refl
+    base_same (base.Frame o) =
+        ap (λ n. reference_to n (area_home (function_at q s.frame.function) + o)) (name_under s.frame s.waiting d ds)
+        ∙ ap (λ n. reference_to (name_of p s.frame s.waiting) (n + o)) (home_at s.frame.function)
+
     place_below : (l : Location) → LocationNamed at list l → (w : Reference) → place p s l ≡ Some w → place q t (moved_location at list l) ≡ Some w
     place_below (location.Statics o) named w e = e
     place_below (location.Frame o) named w e =
         ap (λ n. Some (reference_to n (area_home (function_at q s.frame.function) + o))) (name_under s.frame s.waiting d ds)
         ∙ (ap (λ n. Some (reference_to (name_of p s.frame s.waiting) (n + o))) (home_at s.frame.function) ∙ e)
     place_below (location.At x) named w e = reference_at_below x named w e
+    place_below (location.Indexed b y size) named w e =
+        ap (λ r. indexed r size (word_at t (from y))) (base_same b) ∙ indexed_below (base_of p s b) size (word_at s y) (word_at t (from y)) (word_at_below y named) w e
 
     result_below : Named at list 0 → (w : ℕ) → word_at s (operand.Temporary 0) ≡ Some w → word_at t (operand.Temporary 0) ≡ Some w
     result_below named = word_at_below (operand.Temporary 0) named

@@ -11,7 +11,7 @@ use Rattle.frames_code.specs.declared.code.Location.TheVariants as location
 use Rattle.frames_code.specs.declared.code.Instruction.{Instruction}
 use Rattle.frames_code.specs.declared.code.Instruction.TheVariants as instruction
 use Rattle.frames_code.specs.Code.{Program}
-use Rattle.frames_code.specs.Run.{Value, Values, Frame, State, Reference, Progress, running, ended, stuck, value, word_in, reference_in, set, with_at, function_at, ◌>>=◌}
+use Rattle.frames_code.specs.Run.{Value, Values, Frame, State, Reference, Progress, running, ended, stuck, value, word_in, reference_in, indexed, set, with_at, function_at, ◌>>=◌}
 use Rattle.frames_leaf.specs.layer.Moving.{home_of, operand_in, target_in, moved_operand, moved_target, moved}
 use Rattle.frames_leaf.specs.layer.Functions.{with_code}
 
@@ -78,6 +78,7 @@ abbrev pub LocationNamed : ℕ → List ℕ → Location → Type 0
 LocationNamed t words (location.Statics o) = Unit {0}
 LocationNamed t words (location.Frame o) = Unit {0}
 LocationNamed t words (location.At x) = OperandNamed t words x
+LocationNamed t words (location.Indexed b y size) = OperandNamed t words y
 
 -- where it calls, puts or gets, no word lives in a temporary
 abbrev pub IsNamed : ℕ → List ℕ → Instruction → Type 0
@@ -277,3 +278,7 @@ word_below (Some v) o2 below w e = ap word_in (below v refl) ∙ e
 pub reference_below : (o o2 : Option Value) → ((v : Value) → o ≡ Some v → o2 ≡ Some v) → (w : Reference) → reference_in o ≡ Some w → reference_in o2 ≡ Some w
 reference_below None o2 below w e = absurd (let x : ⊥ = cc in x)
 reference_below (Some v) o2 below w e = ap reference_in (below v refl) ∙ e
+
+pub indexed_below : (r : Reference) (size : ℕ) (o o2 : Option ℕ) → ((n : ℕ) → o ≡ Some n → o2 ≡ Some n) → (w : Reference) → indexed r size o ≡ Some w → indexed r size o2 ≡ Some w
+indexed_below r size None o2 below w e = absurd (let x : ⊥ = cc in x)
+indexed_below r size (Some n) o2 below w e = ap (indexed r size) (below n refl) ∙ e

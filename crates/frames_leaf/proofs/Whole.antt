@@ -9,6 +9,8 @@ use Rattle.frames_code.specs.declared.code.Operand.{Operand}
 use Rattle.frames_code.specs.declared.code.Operand.TheVariants as operand
 use Rattle.frames_code.specs.declared.code.Target.{Target}
 use Rattle.frames_code.specs.declared.code.Target.TheVariants as target
+use Rattle.frames_code.specs.declared.code.Base.{Base}
+use Rattle.frames_code.specs.declared.code.Base.TheVariants as base
 use Rattle.frames_code.specs.declared.code.Location.{Location}
 use Rattle.frames_code.specs.declared.code.Location.TheVariants as location
 use Rattle.frames_code.specs.declared.code.Instruction.{Instruction}
@@ -16,7 +18,7 @@ use Rattle.frames_code.specs.declared.code.Instruction.TheVariants as instructio
 use Rattle.frames_code.specs.Code.{Function, Program, frame_bytes}
 use Rattle.frames_code.specs.Costs.{entry_cost_of}
 use Rattle.frames_code.specs.Run.{function_at}
-use Rattle.frames_code.specs.Sound.{OperandFits, TargetFits, LocationFits, InstructionFits, FunctionFits, IsSoundProgram, places_of}
+use Rattle.frames_code.specs.Sound.{OperandFits, TargetFits, BaseFits, IndexFits, LocationFits, InstructionFits, FunctionFits, IsSoundProgram, places_of}
 use Rattle.frames.specs.Costs.{temporary_bytes, fetch_bytes, keep_bytes, move_bytes, reach_bytes, reference_bytes, code_bytes, function_bytes_in}
 use Rattle.frames_leaf.specs.Allocated.{IsAllocated}
 use Rattle.frames_leaf.specs.layer.Moving.{names_below, writes_below, lies_below, is_leaf, home_of, operand_in, target_in, moved_operand, moved_target, moved_location, moved}
@@ -66,6 +68,7 @@ module _ (t : ℕ) (words : List ℕ) (some : 0 < t) where
   location_named (location.Statics o) e = tt
   location_named (location.Frame o) e = tt
   location_named (location.At x) e = operand_named x e
+  location_named (location.Indexed b y size) e = operand_named y e
 
   leaf_named : (x : Instruction) → is_leaf t x ≡ true → IsNamed t words x
   leaf_named instruction.Nothing e = tt
@@ -104,6 +107,7 @@ location_plain : (l : Location) → LocationNamed 0 [] l
 location_plain (location.Statics o) = tt
 location_plain (location.Frame o) = tt
 location_plain (location.At x) = operand_plain x
+location_plain (location.Indexed b y size) = operand_plain y
 
 plain_named : (x : Instruction) → IsNamed 0 [] x
 plain_named instruction.Nothing = tt
@@ -136,6 +140,7 @@ location_same : (l : Location) → moved_location 0 [] l ≡ l
 location_same (location.Statics o) = refl
 location_same (location.Frame o) = refl
 location_same (location.At x) = ap location.At (operand_same x)
+location_same (location.Indexed b y size) = ap (λ z. location.Indexed b z size) (operand_same y)
 
 plain_same : (x : Instruction) → moved 0 [] x ≡ x
 plain_same instruction.Nothing = refl
@@ -278,11 +283,13 @@ module _ (t : ℕ) (words : List ℕ) where
   reached_less (location.Statics o) = omega arith
   reached_less (location.Frame o) = omega arith
   reached_less (location.At x) = fetched x
+  reached_less (location.Indexed b y size) = let a = fetched y in omega (arith, a)
 
   referred_less : (d : Target) (l : Location) → reference_bytes (moved_target t words d) (moved_location t words l) ≤ reference_bytes d l
   referred_less d (location.Statics o) = let b = kept d in omega (arith, b)
   referred_less d (location.Frame o) = let b = kept d in omega (arith, b)
   referred_less d (location.At x) = moved_less d x
+  referred_less d (location.Indexed b y size) = let a = fetched y in let c = kept d in omega (arith, a, c)
 
   code_less : (x : Instruction) → code_bytes (moved t words x) ≤ code_bytes x
   code_less instruction.Nothing = omega arith
@@ -362,10 +369,25 @@ module _ (n : ℕ) (f : Function) (t : ℕ) (words : List ℕ) (few : t + length
   target_fits (target.Temporary k) e = e
   target_fits (target.Cell c) e = home_fits c (home_of t words c) refl e
 
+  base_fits : (b : Base) → BaseFits f b → BaseFits g b
+  base_fits (base.Statics o) e = e
+  base_fits (base.Frame o) e = e
+
+  index_in : (c : ℕ) (o : Option ℕ) → home_of t words c ≡ o → c < f.cells → IndexFits g (operand_in c o)
+  index_in c None e le = le
+  index_in c (Some u) e le = let lt = within t words c u e in omega (arith, lt, few)
+
+  index_fits : (y : Operand) → IndexFits f y → IndexFits g (moved_operand t words y)
+  index_fits (operand.Temporary k) e = e
+  index_fits (operand.Cell c) e = index_in c (home_of t words c) refl e
+  index_fits (operand.Constant v) e = absurd e
+  index_fits (operand.Argument k) e = absurd e
+
   location_fits : (l : Location) → LocationFits f l → LocationFits g (moved_location t words l)
   location_fits (location.Statics o) e = e
   location_fits (location.Frame o) e = e
   location_fits (location.At x) e = operand_fits x e
+  location_fits (location.Indexed b y size) e = (base_fits b e.0, index_fits y e.1, e.2, e.3)
 
   jump_fits : (to : ℕ) → to < length f.code → to < length g.code
   jump_fits to e = let same = length-map f.code (moved t words) in omega (arith, e, same)

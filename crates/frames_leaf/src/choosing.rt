@@ -33,6 +33,7 @@ fn behind_location(least: usize, location: Location) -> usize {
         Location::Statics(_) => least,
         Location::Frame(_) => least,
         Location::At(operand) => behind_operand(least, operand),
+        Location::Indexed { index, .. } => behind_operand(least, index),
     }
 }
 

@@ -34,6 +34,7 @@ fn lies_below(first: usize, location: Location) -> bool
         Location::Statics(_) => true,
         Location::Frame(_) => true,
         Location::At(operand) => names_below(first, operand),
+        Location::Indexed { index, .. } => names_below(first, index),
     }
 }
 
@@ -147,6 +148,11 @@ fn moved_location(first: usize, words: &[usize], location: Location) -> Location
         Location::Statics(offset) => Location::Statics(offset),
         Location::Frame(offset) => Location::Frame(offset),
         Location::At(operand) => Location::At(moved_operand(first, words, operand)),
+        Location::Indexed { base, index, size } => Location::Indexed {
+            base,
+            index: moved_operand(first, words, index),
+            size,
+        },
     }
 }
 

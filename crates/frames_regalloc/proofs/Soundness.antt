@@ -7,12 +7,14 @@ use Rattle.frames_code.specs.declared.code.Operand.{Operand}
 use Rattle.frames_code.specs.declared.code.Operand.TheVariants as operand
 use Rattle.frames_code.specs.declared.code.Target.{Target}
 use Rattle.frames_code.specs.declared.code.Target.TheVariants as target
+use Rattle.frames_code.specs.declared.code.Base.{Base}
+use Rattle.frames_code.specs.declared.code.Base.TheVariants as base
 use Rattle.frames_code.specs.declared.code.Location.{Location}
 use Rattle.frames_code.specs.declared.code.Location.TheVariants as location
 use Rattle.frames_code.specs.declared.code.Instruction.{Instruction}
 use Rattle.frames_code.specs.declared.code.Instruction.TheVariants as instruction
 use Rattle.frames_code.specs.Code.{Function}
-use Rattle.frames_code.specs.Sound.{OperandFits, TargetFits, LocationFits, InstructionFits, FunctionFits, places_of}
+use Rattle.frames_code.specs.Sound.{OperandFits, TargetFits, BaseFits, IndexFits, LocationFits, InstructionFits, FunctionFits, places_of}
 use Rattle.frames_regalloc.specs.Renumbered.{renumbered, renumbered_operand, renumbered_target, renumbered_location, renumbered_function, IsRenumberedFunction, AreRenumbered}
 use Rattle.frames_regalloc.specs.Laws.{StaysSound}
 
@@ -35,10 +37,21 @@ module _ (n : ℕ) (f : Function) (to : ℕ → ℕ) (resident : ℕ) (inside : 
   target_fits (target.Temporary k) h = h
   target_fits (target.Cell c) h = inside c h
 
+  base_fits : (b : Base) → BaseFits f b → BaseFits g b
+  base_fits (base.Statics o) h = h
+  base_fits (base.Frame o) h = h
+
+  index_fits : (y : Operand) → IndexFits f y → IndexFits g (renumbered_operand to y)
+  index_fits (operand.Temporary k) h = h
+  index_fits (operand.Cell c) h = inside c h
+  index_fits (operand.Constant v) h = absurd h
+  index_fits (operand.Argument k) h = absurd h
+
   location_fits : (l : Location) → LocationFits f l → LocationFits g (renumbered_location to l)
   location_fits (location.Statics o) h = h
   location_fits (location.Frame o) h = h
   location_fits (location.At x) h = operand_fits x h
+  location_fits (location.Indexed b y size) h = (base_fits b h.0, index_fits y h.1, h.2, h.3)
 
   jump_fits : (k : ℕ) → k < length f.code → k < length g.code
   jump_fits k h = subst (λ m. k < m) (sym (length-map f.code (renumbered to))) h

@@ -6,10 +6,12 @@ use Rattle.frames_code.specs.declared.code.Operand.{Operand}
 use Rattle.frames_code.specs.declared.code.Operand.TheVariants as operand
 use Rattle.frames_code.specs.declared.code.Target.{Target}
 use Rattle.frames_code.specs.declared.code.Target.TheVariants as target
+use Rattle.frames_code.specs.declared.code.Base.{Base}
+use Rattle.frames_code.specs.declared.code.Base.TheVariants as base
 use Rattle.frames_code.specs.declared.code.Location.{Location}
 use Rattle.frames_code.specs.declared.code.Location.TheVariants as location
 use Rattle.frames_code.specs.Code.{Program, area_home, frame_bytes}
-use Rattle.frames_code.specs.Run.{Value, Values, Bytes, Frame, State, Reference, Memory, with_at, value, set, place, reference_in, function_at, bytes_of, name_of, arrays, memory_among, memory, changed_among, with_frames, with_memory}
+use Rattle.frames_code.specs.Run.{Value, Values, Bytes, Frame, State, Reference, Memory, with_at, value, word_in, set, place, base_of, indexed, reference_in, function_at, bytes_of, name_of, arrays, memory_among, memory, changed_among, with_frames, with_memory}
 use Rattle.frames_regalloc.specs.Renumbered.{renumbered_operand, renumbered_target, renumbered_location, renumbered_function}
 use Rattle.frames_regalloc.specs.Laws.{moved_frame, moved}
 
@@ -94,12 +96,21 @@ module _ (p q : Program) (to from : ℕ → ℕ → ℕ) (r : Alike p q to from)
   value_same s (operand.Constant v) = refl
   value_same s (operand.Argument k) = refl
 
+  base_same : (s : State) (b : Base) → base_of q (moved from s) b ≡ base_of p s b
+  base_same s (base.Statics o) = refl
+  base_same s (base.Frame o) =
+      ap (λ n. reference_to n (area_home (function_at q s.frame.function) + o)) (name_same s.frame s.waiting)
+      ∙ ap (λ n. reference_to (name_of p s.frame s.waiting) (n + o)) (home_at s.frame.function)
+
   pub place_same : (s : State) (l : Location) → place q (moved from s) (renumbered_location (to s.frame.function) l) ≡ place p s l
   place_same s (location.Statics o) = refl
   place_same s (location.Frame o) =
       ap (λ n. Some (reference_to n (area_home (function_at q s.frame.function) + o))) (name_same s.frame s.waiting)
       ∙ ap (λ n. Some (reference_to (name_of p s.frame s.waiting) (n + o))) (home_at s.frame.function)
   place_same s (location.At x) = ap reference_in (value_same s x)
+  place_same s (location.Indexed b y size) =
+      ap (λ r. indexed r size (word_in (value (moved from s) (renumbered_operand (to s.frame.function) y)))) (base_same s b)
+      ∙ ap (λ v. indexed (base_of p s b) size (word_in v)) (value_same s y)
 
   -- the number of a word is the new one just where the word is that
   word_is : (k c j : ℕ) → (j == to k c) ≡ (from k j == c)

@@ -26,6 +26,7 @@ abbrev pub renumbered_location : (ℕ → ℕ) → Location → Location
 renumbered_location to (location.Statics o) = location.Statics o
 renumbered_location to (location.Frame o) = location.Frame o
 renumbered_location to (location.At x) = location.At (renumbered_operand to x)
+renumbered_location to (location.Indexed b y size) = location.Indexed b (renumbered_operand to y) size
 
 abbrev pub renumbered : (ℕ → ℕ) → Instruction → Instruction
 renumbered to instruction.Nothing = instruction.Nothing

@@ -34,6 +34,11 @@ fn renumbered_location(swaps: &[Swap], location: Location) -> Location
         Location::Statics(offset) => Location::Statics(offset),
         Location::Frame(offset) => Location::Frame(offset),
         Location::At(operand) => Location::At(renumbered_operand(swaps, operand)),
+        Location::Indexed { base, index, size } => Location::Indexed {
+            base,
+            index: renumbered_operand(swaps, index),
+            size,
+        },
     }
 }
 

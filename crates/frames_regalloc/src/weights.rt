@@ -54,6 +54,7 @@ fn add_location(weights: &mut Vec<u64>, location: Location, weight: u64)
         Location::Statics(_) => {}
         Location::Frame(_) => {}
         Location::At(operand) => add_operand(weights, operand, weight),
+        Location::Indexed { index, .. } => add_operand(weights, index, weight),
     }
 }
 

@@ -1,8 +1,9 @@
 //! Operands of flat code, and the meanings of numbers.
 
 use crate::types::{constant, letter_of, place_of};
-use frames_code::{Conversion, Location, Operand, Operation, Target, Width};
+use frames_code::{Base, Conversion, Location, Operand, Operation, Target, Width};
 use rv32::{RegisterOp, Test};
+use test_rows::Words;
 
 /// `tN`, `cN` or `aN` for a temporary, a word of the frame or an argument; else a constant.
 pub fn operand_of(word: &[u8]) -> Operand {
@@ -22,12 +23,33 @@ pub fn target_of(word: &[u8]) -> Target {
     }
 }
 
-/// `sN` in the statics, `fN` in the arrays of the frame, or `@` with an operand.
+/// `sN` in the statics, `fN` in the arrays of the frame, or `@` with an operand; the first two may have `+`, an index, `*` and a size behind them.
 pub fn location_of(word: &[u8]) -> Location {
+    let mut parts = Words::new(word, b'+');
+    let start = parts.word();
+    if !parts.is_over() {
+        return indexed(start, parts.word());
+    }
     match letter_of(word) {
         b's' => Location::Statics(place_of(word)),
         b'f' => Location::Frame(place_of(word)),
         _ => Location::At(operand_of(word.get(1..).unwrap_or(b""))),
+    }
+}
+
+fn indexed(start: &[u8], further: &[u8]) -> Location {
+    let mut parts = Words::new(further, b'*');
+    Location::Indexed {
+        base: base_of(start),
+        index: operand_of(parts.word()),
+        size: place_of(parts.word()),
+    }
+}
+
+fn base_of(word: &[u8]) -> Base {
+    match letter_of(word) {
+        b's' => Base::Statics(place_of(word)),
+        _ => Base::Frame(place_of(word)),
     }
 }
 

@@ -5,6 +5,7 @@ The interpreter is written from frames/specs/Run.antt and the unprivileged ISA m
 stuck are left out.
 """
 import random
+import re
 import sys
 
 FULL = 2 ** 32
@@ -127,6 +128,10 @@ class Run:
         place[int(text[1:])] = value
 
     def place(self, text):
+        if '+' in text:
+            base, index, size = re.split('[+*]', text)
+            name, offset = self.place(base)
+            return name, offset + self.word(index) * int(size)
         if text[0] == 's':
             return 0, int(text[1:])
         if text[0] == 'f':

@@ -159,7 +159,7 @@ def flat(name):
 
 
 # so many rows there are of each
-KINDS = [(flat('programs.txt'), 69), (flat('random.txt'), 100)]
+KINDS = [(flat('programs.txt'), 72), (flat('random.txt'), 100)]
 
 
 def main():

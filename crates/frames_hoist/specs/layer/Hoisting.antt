@@ -5,6 +5,8 @@ use Rattle.frames_code.specs.declared.code.Operand.{Operand}
 use Rattle.frames_code.specs.declared.code.Operand.TheVariants as operand
 use Rattle.frames_code.specs.declared.code.Target.{Target}
 use Rattle.frames_code.specs.declared.code.Target.TheVariants as target
+use Rattle.frames_code.specs.declared.code.Base.{Base}
+use Rattle.frames_code.specs.declared.code.Base.TheVariants as base
 use Rattle.frames_code.specs.declared.code.Location.{Location}
 use Rattle.frames_code.specs.declared.code.Location.TheVariants as location
 use Rattle.frames_code.specs.declared.code.Instruction.{Instruction}
@@ -22,10 +24,15 @@ abbrev pub writes_below : ℕ → Target → Bool
 writes_below n (target.Temporary k) = true
 writes_below n (target.Cell c) = nat_lt c n
 
+abbrev pub is_in_statics : Base → Bool
+is_in_statics (base.Statics o) = true
+is_in_statics (base.Frame o) = false
+
 abbrev pub lies_below : ℕ → Location → Bool
 lies_below n (location.Statics o) = true
 lies_below n (location.Frame o) = false
 lies_below n (location.At x) = reads_below n x
+lies_below n (location.Indexed b y size) = is_in_statics b && reads_below n y
 
 -- and its jumps lead to instructions from `start` on
 abbrev pub is_fine : ℕ → ℕ → Instruction → Bool

@@ -25,6 +25,7 @@ abbrev pub lies_below : ℕ → Location → Bool
 lies_below t (location.Statics o) = true
 lies_below t (location.Frame o) = true
 lies_below t (location.At x) = names_below t x
+lies_below t (location.Indexed b y size) = names_below t y
 
 abbrev pub is_leaf : ℕ → Instruction → Bool
 is_leaf t instruction.Nothing = true
@@ -73,6 +74,7 @@ abbrev pub moved_location : ℕ → List ℕ → Location → Location
 moved_location t words (location.Statics o) = location.Statics o
 moved_location t words (location.Frame o) = location.Frame o
 moved_location t words (location.At x) = location.At (moved_operand t words x)
+moved_location t words (location.Indexed b y size) = location.Indexed b (moved_operand t words y) size
 
 abbrev pub moved : ℕ → List ℕ → Instruction → Instruction
 moved t words instruction.Nothing = instruction.Nothing
