@@ -1,5 +1,5 @@
 #!/bin/bash
-# Measures `cc interp` on scalars, on an array and on a switch: millions of ticks a second, and the time of the whole program as a
+# Measures `cc interp` on scalars, on an array, on a switch and on calls: millions of ticks a second, and the time of the whole program as a
 # ratio to `cc run` of the same by riscv64-unknown-elf-gcc -O0. What the switch comes to is checked.
 #
 #   bash bench/interp.sh [CC [TICKS]]
@@ -29,7 +29,7 @@ char stack[65536] __attribute__((aligned(16)));
 __asm__(".text\n.globl _start\n_start: la sp, stack + 65536\n    call main\n    li a7, 93\n    ecall\n");
 C
 
-for kind in scalars arrays switch; do
+for kind in scalars arrays switch calls; do
     source=$root/bench/interp_$kind.c
     cp "$source" $kind.c
     if [ $kind = switch ]; then
