@@ -86,6 +86,7 @@ fn written(instruction: Instruction) -> Option<usize>
     }
 }
 
+/// Whether an instruction writes a temporary.
 pub fn is_written(number: usize, instruction: Instruction) -> bool
     ensures { result ≡ liveness.is_written number instruction }
 {
