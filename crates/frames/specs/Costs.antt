@@ -16,9 +16,9 @@ use Rattle.frames_code.specs.Costs.{entry_cost, entry_cost_of, spent}
 abbrev pub spent_in_all : Program → ℕ → State → ℕ
 spent_in_all p n s = entry_cost + spent p n s
 
--- the bytes of its code: temporaries below 8 are registers, a word of the frame may lie past the reach of 12 bits, a constant takes two
--- instructions. No jump leads within the code of one instruction, but for a long branch, which counts whole; so they are at most four
--- times its cost, but for a call, whose beginning is that of the function called
+-- The bytes of its code: temporaries below 8 are registers, a word of the frame may lie past the reach of 12 bits, a constant takes two
+-- instructions. No jump leads within the code of one instruction, but for a long branch, which counts whole. So they are at most four
+-- times its cost, but for a call, whose beginning is that of the function called, and for an access by an index, which has its cost only in a small frame.
 abbrev pub temporary_bytes : ℕ → ℕ
 temporary_bytes k = if nat_lt k 8 then 0 else 12
 
