@@ -1,7 +1,6 @@
 -- Parts that are evaluated as a whole.
 use Rattle.std.proofs.Common.{◌≡◌, ◌≤◌, ◌<◌, inl, ℕ, ◌+◌, ◌-◌, List, ◌++◌, Option, Some, None, refl, sym, ap, ◌∙◌, subst, arith, Bor}
-use Rattle.std.specs.Prelude.{Result, Ok, Err, Bool, true}
-use Rattle.std.specs.Bool.{OnTrue}
+use Rattle.std.specs.Prelude.{Result, Ok, Err}
 use Rattle.typing_spec.specs.Program as typed
 use Rattle.typed_ast.specs.declared.units.Program as unit
 use Rattle.typed_ast.specs.View.{program_of}
@@ -101,7 +100,7 @@ module _ (T : List Entry → Type 0) (p : typed.Program) (all : Whole) (o : Outs
   }
 
   -- or it is given up
-  pub once_given_up : (tally : Tally) → k < limit → RunStops T p all o limit run.Memory tally port
+  once_given_up : (tally : Tally) → k < limit → RunStops T p all o limit run.Memory tally port
   once_given_up tally room = record {
     earlier = (k, (omega (arith, room), output_as o.output port.output _ _ (bytes_now T p all o k now mid x port s none) s.output_is));
     first = (0 + k, (omega (arith, room), (given_up_here T p (λ n. all (n + k)) o now mid (enters x) port s).begins));
@@ -139,6 +138,3 @@ calm_blames P (Err (run.Undefined act at)) c = tt
 calm_blames P (Err run.TicksUsed) c = tt
 calm_blames P (Err (run.Port fault)) c = absurd c
 calm_blames P (Err run.Memory) c = tt
-
-pub on_true : (P : Type 0) (b : Bool) → b ≡ true → OnTrue b P → P
-on_true P b e h = let Q : Bool → Type 0 = λ b. OnTrue b P in subst Q e h

@@ -1,7 +1,6 @@
 //! Parts of the program without calls, each evaluated as a whole.
 
-ghost use Rattle.std.specs.Prelude.{◌≡◌, ◌≢◌, ◌<◌, ◌≤◌, ◌+◌, ℕ, List, Option, None, true};
-ghost use Rattle.std.specs.Bool.{OnTrue};
+ghost use Rattle.std.specs.Prelude.{◌≡◌, ◌≢◌, ◌<◌, ◌+◌, ℕ, List, Option, None, true};
 ghost use Rattle.csem.specs.History.{Entry};
 ghost use Rattle.typing_spec.specs.Program as typed;
 ghost use Rattle.interp_store.specs.layer.Frames as on;
@@ -30,15 +29,6 @@ fn stopped(why: Why) -> Run
     }
 }
 
-/// Whether ticks were spent, and at most as many as are allowed.
-#[inline(always)]
-fn is_within(old: u64, new: u64, limit: u64) -> bool
-    ensures within { OnTrue result ((old < new) × (new ≤ limit)) }
-    ensures past { (old < new) → (new ≤ limit) → result ≡ true }
-{
-    old < new && new <= limit
-}
-
 /// A node without calls, with all its ticks.
 ///
 /// Errors: how the run stops in it.
@@ -49,7 +39,8 @@ pub fn at_once<'p>(
     limit: u64,
 ) -> Result<Step<'p>, Run>
     requires quick { quick_node (node_of node.now) ≡ true }
-    ensures meets { (h : List Entry) (p : typed.Program) (all : Whole) (o : Outset) (sent : List ℕ) (port : PortView) → spent.old < limit → Grows all →
+    requires room { spent.old < limit }
+    ensures meets { (h : List Entry) (p : typed.Program) (all : Whole) (o : Outset) (sent : List ℕ) (port : PortView) → Grows all →
         Stands (λ g. g ≡ h) p (λ n. all (n + spent.old)) o sent interpreter.old (on.enters (node_of node.now)) port → interpreter.old.kept ≡ None →
         MeetsAt (λ g. g ≡ h) p all o limit result spent.new interpreter.new port }
     ensures spends { Spends result spent.old spent.new limit }
@@ -69,9 +60,6 @@ pub fn at_once<'p>(
         &mut clock,
         node,
     );
-    if !is_within(*spent, clock.spent, limit) {
-        return Err(Run::Memory);
-    }
     *spent = clock.spent;
     match found {
         Some(found) => Ok(Step::Leaves(found)),

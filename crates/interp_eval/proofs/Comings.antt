@@ -41,7 +41,7 @@ idles : {A : Type 0} (c : Course) (limit k k2 : ℕ) (scene : Scene) (part : Sta
     Leads c k scene (λ s. tick s part) rest → (w : Why) → Idles w k2 limit → StopsBy c limit w k2 scene
 idles c limit k k2 scene part rest e h why.Ticks i = (i, (let same : 0 + k ≡ k2 = omega (arith, e) in sym (h.is_left 0 ∙ ap c.whole same)))
 idles c limit k k2 scene part rest e h (why.Undefined act at) i = absurd i
-idles c limit k k2 scene part rest e h why.Memory i = tt
+idles c limit k k2 scene part rest e h why.Memory i = absurd i
 idles c limit k k2 scene part rest e h why.Elsewhere i = absurd i
 
 -- or none is left
@@ -108,7 +108,7 @@ module _ {A B : Type 0} (view : A → B) (c : Course) (limit k : ℕ) (before la
       λ n. sym (ap (λ x. then_do x rest) (runs (record { clock = n; input = c.input; history = c.history }))) ∙ left_at n in
       subst P (sym g) came
   gave (Err stop.Memory) r runs g = as_none r g.0 (stops_with why.Memory g.1 tt)
-  gave (Err (stop.Ended n)) r runs g = as_none r g.0 (stops_with why.Memory g.1 tt)
+  gave (Err (stop.Ended n)) r runs g = absurd g
   gave (Err (stop.Undefined act at)) r runs g = as_none r g.0 (stops_with (why.Undefined act at) g.1
       (λ n. sym (left_at n) ∙ ap (λ x. then_do x rest) (runs (record { clock = n; input = c.input; history = c.history }))))
 

@@ -1,4 +1,5 @@
 pub mod Comings
+pub mod Endings
 pub mod Flows
 pub mod Here
 pub mod Leaves

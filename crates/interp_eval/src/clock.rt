@@ -1,9 +1,9 @@
 //! The ticks of a run, and why a part of it stopped.
 
-ghost use Rattle.std.specs.Prelude.{◌≡◌, ◌≢◌, ◌+◌, true, false};
+ghost use Rattle.std.specs.Prelude.{◌≡◌, ◌≢◌, ◌+◌, ◌≤◌, IfErr, true, false};
 ghost use Rattle.std.specs.Bool.{OnTrue, OnFalse};
 ghost use Rattle.interp_eval.specs.declared.clock.Why.TheVariants as why;
-ghost use Rattle.interp_eval.specs.layer.Comes.{Gives, Idles, StaysHere, StoppedBy};
+ghost use Rattle.interp_eval.specs.layer.Comes.{Gives, GoesOn, Idles, Spends, StaysHere, StoppedBy};
 
 use ctypes::Undef;
 use interp_store::Reference;
@@ -45,36 +45,26 @@ impl Clock {
     /// One tick, if one is left.
     #[inline(always)]
     pub fn tick(&mut self, limit: u64) -> bool
+        requires room { self.old.spent ≤ limit }
         ensures taken { OnTrue result (self.new.spent ≡ self.old.spent + 1) }
         ensures idle { OnFalse result (Idles self.new.why self.new.spent limit) }
         ensures same { OnFalse result (self.new.spent ≡ self.old.spent) }
         ensures here { result ≡ false → self.new.why ≢ why.Elsewhere }
+        ensures spends { Spends self.old.spent self.new.spent limit }
     {
         if self.spent < limit {
             self.spent += 1;
             true
         } else {
-            self.idle(limit);
-            false
-        }
-    }
-
-    /// No tick is left.
-    fn idle(&mut self, limit: u64)
-        ensures idle { Idles self.new.why self.new.spent limit }
-        ensures same { self.new.spent ≡ self.old.spent }
-        ensures here { self.new.why ≢ why.Elsewhere }
-    {
-        if self.spent == limit {
             self.why = Why::Ticks;
-        } else {
-            self.why = Why::Memory;
+            false
         }
     }
 
     /// The value of a leaf.
     #[inline(always)]
     pub fn given(&mut self, value: Result<i64, Stop>) -> Option<i64>
+        requires leaf { IfErr value GoesOn }
         ensures gives { Gives value result self.new.why }
         ensures spent { self.new.spent ≡ self.old.spent }
         ensures here { StaysHere true result self.new.why }
@@ -91,6 +81,7 @@ impl Clock {
     /// The reference that a leaf gave.
     #[inline(always)]
     pub fn found(&mut self, place: Result<Reference, Stop>) -> Option<Reference>
+        requires leaf { IfErr place GoesOn }
         ensures gives { Gives place result self.new.why }
         ensures spent { self.new.spent ≡ self.old.spent }
         ensures here { StaysHere true result self.new.why }
@@ -104,15 +95,16 @@ impl Clock {
         }
     }
 
-    /// The run stops.
+    /// The run stops in a leaf, which does not end the program.
     pub fn stop(&mut self, stop: Stop)
+        requires leaf { GoesOn stop }
         ensures why { StoppedBy stop self.new.why }
         ensures spent { self.new.spent ≡ self.old.spent }
         ensures here { self.new.why ≢ why.Elsewhere }
     {
         match stop {
             Stop::Undefined(act, at) => self.why = Why::Undefined(act, at),
-            Stop::Ended(_) => self.why = Why::Memory,
+            Stop::Ended(_) => unreachable!(),
             Stop::Memory => self.why = Why::Memory,
         }
     }

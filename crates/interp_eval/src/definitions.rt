@@ -1,6 +1,6 @@
 //! Definitions of automatic objects with one value (6.7.9p11).
 
-ghost use Rattle.std.specs.Prelude.{◌≡◌, None, slice_get};
+ghost use Rattle.std.specs.Prelude.{◌≡◌, ◌<◌, ◌≤◌, IfSome, None, slice_get};
 ghost use Rattle.typing_spec.specs.Program as typed;
 ghost use Rattle.typed_ast.specs.View.{initialiser_of, value_of};
 ghost use Rattle.csem.specs.Machine.{Goes, then_do, tick, stored};
@@ -10,7 +10,7 @@ ghost use Rattle.interp_store.specs.View.{reference_of};
 ghost use Rattle.interp_store.specs.layer.Presents.{call_in};
 ghost use Rattle.interp_store.specs.layer.Views.{flow_of};
 ghost use Rattle.interp_eval.specs.declared.clock.Why.TheVariants as why;
-ghost use Rattle.interp_eval.specs.layer.Comes.{Does, StaysHere, executed, objects_in, valued};
+ghost use Rattle.interp_eval.specs.layer.Comes.{Does, Spends, StaysHere, executed, objects_in, valued};
 ghost use Rattle.interp_eval.specs.layer.Quick.{quick, quick_initialiser};
 
 use crate::clock::{Clock, Scope, Why};
@@ -26,6 +26,7 @@ use typed_ast::{Initialiser, Value};
 pub fn left_out(clock: &mut Clock) -> Option<Flow>
     ensures none { result ≡ None }
     ensures why { clock.new.why ≡ why.Elsewhere }
+    ensures spent { clock.new.spent ≡ clock.old.spent }
 {
     clock.why = Why::Elsewhere;
     None
@@ -35,6 +36,7 @@ pub fn left_out(clock: &mut Clock) -> Option<Flow>
 pub fn out_of_memory(clock: &mut Clock) -> Option<Flow>
     ensures none { result ≡ None }
     ensures why { clock.new.why ≡ why.Memory }
+    ensures spent { clock.new.spent ≡ clock.old.spent }
 {
     clock.why = Why::Memory;
     None
@@ -49,9 +51,11 @@ fn first_value(
     ty: IntType,
     e: &Value,
 ) -> Option<Flow>
+    requires room { clock.old.spent ≤ scope.now.limit }
     ensures does { Does flow_of scope.now (λ p s. then_do (valued (value_of e.now) p s) (λ v s. tick s (λ s. Goes meaning.Normal (stored (reference_of r.now) (converted ty v) s))))
         clock.old scene.old result clock.new scene.new }
     ensures here { StaysHere (quick (value_of e.now)) result clock.new.why }
+    ensures spends { Spends clock.old.spent clock.new.spent scope.now.limit }
 {
     let Some(v) = value(scope, scene, clock, e) else {
         return None;
@@ -73,9 +77,11 @@ fn initialised(
     n: usize,
     i: &Initialiser,
 ) -> Option<Flow>
+    requires room { clock.old.spent ≤ scope.now.limit }
     ensures does { Does flow_of scope.now (λ p s. meaning.define_object p (call_in p) (objects_in scope.now) (slice_get (objects_in scope.now) n) n (initialiser_of i.now) s)
         clock.old scene.old result clock.new scene.new }
     ensures here { StaysHere (quick_initialiser (initialiser_of i.now)) result clock.new.why }
+    ensures spends { Spends clock.old.spent clock.new.spent scope.now.limit }
 {
     let Some(_) = type_of(scope.objects, n) else {
         return Some(Flow::Normal);
@@ -99,8 +105,11 @@ pub fn definition(
     n: usize,
     i: &Initialiser,
 ) -> Option<Flow>
+    requires room { clock.old.spent ≤ scope.now.limit }
     ensures does { Does flow_of scope.now (executed (objects_in scope.now) (typed.define n (initialiser_of i.now))) clock.old scene.old result clock.new scene.new }
     ensures here { StaysHere (quick_initialiser (initialiser_of i.now)) result clock.new.why }
+    ensures spends { Spends clock.old.spent clock.new.spent scope.now.limit }
+    ensures takes { IfSome result (λ _. clock.old.spent < clock.new.spent) }
 {
     if !clock.tick(scope.limit) {
         return None;

@@ -1,6 +1,6 @@
 //! The values of expressions that call nothing (6.5).
 
-ghost use Rattle.std.specs.Prelude.{◌≡◌, ◌&&◌, Option, true};
+ghost use Rattle.std.specs.Prelude.{◌≡◌, ◌&&◌, ◌<◌, ◌≤◌, IfSome, Option, true};
 ghost use Rattle.ctypes.specs.declared.types.IntType.{IntType};
 ghost use Rattle.ctypes.specs.Types.{truth, of_truth, converted};
 ghost use Rattle.typing_spec.specs.Program as typed;
@@ -10,7 +10,7 @@ ghost use Rattle.csem.specs.Store.{whole};
 ghost use Rattle.csem.specs.Expressions as meaning;
 ghost use Rattle.interp_store.specs.View.{reference_of};
 ghost use Rattle.interp_store.specs.layer.Agrees.{combined, number, stepped};
-ghost use Rattle.interp_eval.specs.layer.Comes.{Does, StaysHere, found, valued};
+ghost use Rattle.interp_eval.specs.layer.Comes.{Does, Spends, StaysHere, found, valued};
 ghost use Rattle.interp_eval.specs.layer.Quick.{quick, quick_place};
 
 use crate::clock::{Clock, Scope, Why};
@@ -43,8 +43,11 @@ pub fn place(
     clock: &mut Clock,
     a: &Place,
 ) -> Option<Reference>
+    requires room { clock.old.spent ≤ scope.now.limit }
     ensures does { Does reference_of scope.now (found (place_of a.now)) clock.old scene.old result clock.new scene.new }
     ensures here { StaysHere (quick_place (place_of a.now)) result clock.new.why }
+    ensures spends { Spends clock.old.spent clock.new.spent scope.now.limit }
+    ensures takes { IfSome result (λ _. clock.old.spent < clock.new.spent) }
 {
     match a {
         Place::Named(at, what) => named(scope, scene, clock, at, *what),
@@ -60,8 +63,11 @@ fn named(
     at: &Pos,
     what: Storage,
 ) -> Option<Reference>
+    requires room { clock.old.spent ≤ scope.now.limit }
     ensures does { Does reference_of scope.now (found (typed.named at.now (storage_of what))) clock.old scene.now result clock.new scene.now }
     ensures here { StaysHere true result clock.new.why }
+    ensures spends { Spends clock.old.spent clock.new.spent scope.now.limit }
+    ensures takes { IfSome result (λ _. clock.old.spent < clock.new.spent) }
 {
     if !clock.tick(scope.limit) {
         return None;
@@ -78,8 +84,11 @@ fn element(
     array: &Place,
     index: &Value,
 ) -> Option<Reference>
+    requires room { clock.old.spent ≤ scope.now.limit }
     ensures does { Does reference_of scope.now (found (typed.element at.now (place_of array.now) (value_of index.now))) clock.old scene.old result clock.new scene.new }
     ensures here { StaysHere (quick_place (place_of array.now) && quick (value_of index.now)) result clock.new.why }
+    ensures spends { Spends clock.old.spent clock.new.spent scope.now.limit }
+    ensures takes { IfSome result (λ _. clock.old.spent < clock.new.spent) }
 {
     if !clock.tick(scope.limit) {
         return None;
@@ -96,8 +105,11 @@ fn element(
 /// The value of an expression (6.5).
 #[cycle(evaluate)]
 pub fn value(scope: &Scope<'_>, scene: &mut Scene, clock: &mut Clock, e: &Value) -> Option<i64>
+    requires room { clock.old.spent ≤ scope.now.limit }
     ensures does { Does number scope.now (valued (value_of e.now)) clock.old scene.old result clock.new scene.new }
     ensures here { StaysHere (quick (value_of e.now)) result clock.new.why }
+    ensures spends { Spends clock.old.spent clock.new.spent scope.now.limit }
+    ensures takes { IfSome result (λ _. clock.old.spent < clock.new.spent) }
 {
     match e {
         Value::Constant(ty, v) => constant(scope, scene, clock, *ty, *v),
@@ -143,8 +155,11 @@ pub fn value(scope: &Scope<'_>, scene: &mut Scene, clock: &mut Clock, e: &Value)
 #[cycle(evaluate)]
 #[inline(always)]
 pub fn operand(scope: &Scope<'_>, scene: &mut Scene, clock: &mut Clock, e: &Value) -> Option<i64>
+    requires room { clock.old.spent ≤ scope.now.limit }
     ensures does { Does number scope.now (valued (value_of e.now)) clock.old scene.old result clock.new scene.new }
     ensures here { StaysHere (quick (value_of e.now)) result clock.new.why }
+    ensures spends { Spends clock.old.spent clock.new.spent scope.now.limit }
+    ensures takes { IfSome result (λ _. clock.old.spent < clock.new.spent) }
 {
     match e {
         Value::Constant(ty, v) => constant(scope, scene, clock, *ty, *v),
@@ -166,8 +181,11 @@ pub fn operand(scope: &Scope<'_>, scene: &mut Scene, clock: &mut Clock, e: &Valu
 
 #[inline(always)]
 fn constant(scope: &Scope<'_>, scene: &Scene, clock: &mut Clock, ty: IntType, v: i64) -> Option<i64>
+    requires room { clock.old.spent ≤ scope.now.limit }
     ensures does { Does number scope.now (valued (typed.constant ty v)) clock.old scene.now result clock.new scene.now }
     ensures here { StaysHere true result clock.new.why }
+    ensures spends { Spends clock.old.spent clock.new.spent scope.now.limit }
+    ensures takes { IfSome result (λ _. clock.old.spent < clock.new.spent) }
 {
     if !clock.tick(scope.limit) {
         return None;
@@ -185,8 +203,11 @@ fn read(
     ty: IntType,
     a: &Place,
 ) -> Option<i64>
+    requires room { clock.old.spent ≤ scope.now.limit }
     ensures does { Does number scope.now (valued (typed.read ty (place_of a.now))) clock.old scene.old result clock.new scene.new }
     ensures here { StaysHere (quick_place (place_of a.now)) result clock.new.why }
+    ensures spends { Spends clock.old.spent clock.new.spent scope.now.limit }
+    ensures takes { IfSome result (λ _. clock.old.spent < clock.new.spent) }
 {
     match whole_object(scope, scene, a) {
         Some(n) => read_object(scope, scene, clock, position_of(a), n),
@@ -204,8 +225,11 @@ fn read_part(
     ty: IntType,
     a: &Place,
 ) -> Option<i64>
+    requires room { clock.old.spent ≤ scope.now.limit }
     ensures does { Does number scope.now (valued (typed.read ty (place_of a.now))) clock.old scene.old result clock.new scene.new }
     ensures here { StaysHere (quick_place (place_of a.now)) result clock.new.why }
+    ensures spends { Spends clock.old.spent clock.new.spent scope.now.limit }
+    ensures takes { IfSome result (λ _. clock.old.spent < clock.new.spent) }
 {
     match a {
         Place::Named(_, _) => read_found(scope, scene, clock, ty, a),
@@ -223,8 +247,11 @@ fn read_found(
     ty: IntType,
     a: &Place,
 ) -> Option<i64>
+    requires room { clock.old.spent ≤ scope.now.limit }
     ensures does { Does number scope.now (valued (typed.read ty (place_of a.now))) clock.old scene.old result clock.new scene.new }
     ensures here { StaysHere (quick_place (place_of a.now)) result clock.new.why }
+    ensures spends { Spends clock.old.spent clock.new.spent scope.now.limit }
+    ensures takes { IfSome result (λ _. clock.old.spent < clock.new.spent) }
 {
     let Some(r) = place(scope, scene, clock, a) else {
         return None;
@@ -244,8 +271,11 @@ fn element_read(
     array: &Place,
     index: &Value,
 ) -> Option<i64>
+    requires room { clock.old.spent ≤ scope.now.limit }
     ensures does { Does number scope.now (valued (typed.read ty (typed.element at.now (place_of array.now) (value_of index.now)))) clock.old scene.old result clock.new scene.new }
     ensures here { StaysHere (quick_place (place_of array.now) && quick (value_of index.now)) result clock.new.why }
+    ensures spends { Spends clock.old.spent clock.new.spent scope.now.limit }
+    ensures takes { IfSome result (λ _. clock.old.spent < clock.new.spent) }
 {
     if !clock.tick(scope.limit) {
         return None;
@@ -267,9 +297,11 @@ fn element_of(
     n: usize,
     index: &Value,
 ) -> Option<i64>
+    requires room { clock.old.spent ≤ scope.now.limit }
     ensures does { Does number scope.now (λ p s. tick s (λ s. then_do (valued (value_of index.now) p s) (λ v s. then_do (subscripted at.now (whole n) v s) (λ r s. read at.now r s))))
         clock.old scene.old result clock.new scene.new }
     ensures here { StaysHere (quick (value_of index.now)) result clock.new.why }
+    ensures spends { Spends clock.old.spent clock.new.spent scope.now.limit }
 {
     if !clock.tick(scope.limit) {
         return None;
@@ -291,9 +323,11 @@ fn row_read(
     array: &Place,
     index: &Value,
 ) -> Option<i64>
+    requires room { clock.old.spent ≤ scope.now.limit }
     ensures does { Does number scope.now (λ p s. then_do (found (place_of array.now) p s) (λ r s. then_do (valued (value_of index.now) p s) (λ v s.
         then_do (subscripted at.now r v s) (λ r s. read at.now r s)))) clock.old scene.old result clock.new scene.new }
     ensures here { StaysHere (quick_place (place_of array.now) && quick (value_of index.now)) result clock.new.why }
+    ensures spends { Spends clock.old.spent clock.new.spent scope.now.limit }
 {
     let Some(r) = place(scope, scene, clock, array) else {
         return None;
@@ -316,8 +350,11 @@ fn assigned(
     a: &Place,
     e: &Value,
 ) -> Option<i64>
+    requires room { clock.old.spent ≤ scope.now.limit }
     ensures does { Does number scope.now (valued (typed.assigned at.now ty (place_of a.now) (value_of e.now))) clock.old scene.old result clock.new scene.new }
     ensures here { StaysHere (quick_place (place_of a.now) && quick (value_of e.now)) result clock.new.why }
+    ensures spends { Spends clock.old.spent clock.new.spent scope.now.limit }
+    ensures takes { IfSome result (λ _. clock.old.spent < clock.new.spent) }
 {
     if !clock.tick(scope.limit) {
         return None;
@@ -340,9 +377,11 @@ fn object_assigned(
     n: usize,
     e: &Value,
 ) -> Option<i64>
+    requires room { clock.old.spent ≤ scope.now.limit }
     ensures does { Does number scope.now (λ p s. tick s (λ s. then_do (valued (value_of e.now) p s) (λ v s. write p at.now (whole n) (converted ty v) s)))
         clock.old scene.old result clock.new scene.new }
     ensures here { StaysHere (quick (value_of e.now)) result clock.new.why }
+    ensures spends { Spends clock.old.spent clock.new.spent scope.now.limit }
 {
     if !clock.tick(scope.limit) {
         return None;
@@ -365,9 +404,11 @@ fn part_assigned(
     a: &Place,
     e: &Value,
 ) -> Option<i64>
+    requires room { clock.old.spent ≤ scope.now.limit }
     ensures does { Does number scope.now (λ p s. then_do (found (place_of a.now) p s) (λ r s. then_do (valued (value_of e.now) p s) (λ v s. write p at.now r (converted ty v) s)))
         clock.old scene.old result clock.new scene.new }
     ensures here { StaysHere (quick_place (place_of a.now) && quick (value_of e.now)) result clock.new.why }
+    ensures spends { Spends clock.old.spent clock.new.spent scope.now.limit }
 {
     let Some(r) = place(scope, scene, clock, a) else {
         return None;
@@ -388,9 +429,12 @@ fn compound(
     a: &Place,
     e: &Value,
 ) -> Option<i64>
+    requires room { clock.old.spent ≤ scope.now.limit }
     ensures does { c.now.read_at ≡ meaning.position_of (place_of a.now) →
         Does number scope.now (valued (typed.compound c.now.at c.now.op c.now.ty c.now.of (place_of a.now) (value_of e.now))) clock.old scene.old result clock.new scene.new }
     ensures here { StaysHere (quick_place (place_of a.now) && quick (value_of e.now)) result clock.new.why }
+    ensures spends { Spends clock.old.spent clock.new.spent scope.now.limit }
+    ensures takes { IfSome result (λ _. clock.old.spent < clock.new.spent) }
 {
     if !clock.tick(scope.limit) {
         return None;
@@ -410,9 +454,12 @@ fn stepped(
     c: &Stepping,
     a: &Place,
 ) -> Option<i64>
+    requires room { clock.old.spent ≤ scope.now.limit }
     ensures does { c.now.read_at ≡ meaning.position_of (place_of a.now) →
         Does number scope.now (valued (typed.stepped c.now.at (moment_of c.now.moment) c.now.op c.now.ty c.now.of (place_of a.now))) clock.old scene.old result clock.new scene.new }
     ensures here { StaysHere (quick_place (place_of a.now)) result clock.new.why }
+    ensures spends { Spends clock.old.spent clock.new.spent scope.now.limit }
+    ensures takes { IfSome result (λ _. clock.old.spent < clock.new.spent) }
 {
     if !clock.tick(scope.limit) {
         return None;
@@ -433,8 +480,10 @@ fn object_combined(
     n: usize,
     e: &Value,
 ) -> Option<i64>
+    requires room { clock.old.spent ≤ scope.now.limit }
     ensures does { Does number scope.now (λ p s. tick s (λ s. then_do (valued (value_of e.now) p s) (λ v s. combined p c.now (whole n) v s))) clock.old scene.old result clock.new scene.new }
     ensures here { StaysHere (quick (value_of e.now)) result clock.new.why }
+    ensures spends { Spends clock.old.spent clock.new.spent scope.now.limit }
 {
     if !clock.tick(scope.limit) {
         return None;
@@ -456,9 +505,11 @@ fn part_combined(
     a: &Place,
     e: &Value,
 ) -> Option<i64>
+    requires room { clock.old.spent ≤ scope.now.limit }
     ensures does { Does number scope.now (λ p s. then_do (found (place_of a.now) p s) (λ r s. then_do (valued (value_of e.now) p s) (λ v s. combined p c.now r v s)))
         clock.old scene.old result clock.new scene.new }
     ensures here { StaysHere (quick_place (place_of a.now) && quick (value_of e.now)) result clock.new.why }
+    ensures spends { Spends clock.old.spent clock.new.spent scope.now.limit }
 {
     let Some(r) = place(scope, scene, clock, a) else {
         return None;
@@ -479,8 +530,10 @@ fn part_stepped(
     c: &Stepping,
     a: &Place,
 ) -> Option<i64>
+    requires room { clock.old.spent ≤ scope.now.limit }
     ensures does { Does number scope.now (λ p s. then_do (found (place_of a.now) p s) (λ r s. stepped p c.now r s)) clock.old scene.old result clock.new scene.new }
     ensures here { StaysHere (quick_place (place_of a.now)) result clock.new.why }
+    ensures spends { Spends clock.old.spent clock.new.spent scope.now.limit }
 {
     let Some(r) = place(scope, scene, clock, a) else {
         return None;
@@ -499,8 +552,11 @@ fn unary(
     ty: IntType,
     e: &Value,
 ) -> Option<i64>
+    requires room { clock.old.spent ≤ scope.now.limit }
     ensures does { Does number scope.now (valued (typed.unary at.now op ty (value_of e.now))) clock.old scene.old result clock.new scene.new }
     ensures here { StaysHere (quick (value_of e.now)) result clock.new.why }
+    ensures spends { Spends clock.old.spent clock.new.spent scope.now.limit }
+    ensures takes { IfSome result (λ _. clock.old.spent < clock.new.spent) }
 {
     if !clock.tick(scope.limit) {
         return None;
@@ -524,8 +580,11 @@ fn binary(
     a: &Value,
     b: &Value,
 ) -> Option<i64>
+    requires room { clock.old.spent ≤ scope.now.limit }
     ensures does { Does number scope.now (valued (typed.binary at.now op ty (value_of a.now) (value_of b.now))) clock.old scene.old result clock.new scene.new }
     ensures here { StaysHere (quick (value_of a.now) && quick (value_of b.now)) result clock.new.why }
+    ensures spends { Spends clock.old.spent clock.new.spent scope.now.limit }
+    ensures takes { IfSome result (λ _. clock.old.spent < clock.new.spent) }
 {
     if !clock.tick(scope.limit) {
         return None;
@@ -548,8 +607,11 @@ fn both_true(
     a: &Value,
     b: &Value,
 ) -> Option<i64>
+    requires room { clock.old.spent ≤ scope.now.limit }
     ensures does { Does number scope.now (valued (typed.both_true (value_of a.now) (value_of b.now))) clock.old scene.old result clock.new scene.new }
     ensures here { StaysHere (quick (value_of a.now) && quick (value_of b.now)) result clock.new.why }
+    ensures spends { Spends clock.old.spent clock.new.spent scope.now.limit }
+    ensures takes { IfSome result (λ _. clock.old.spent < clock.new.spent) }
 {
     if !clock.tick(scope.limit) {
         return None;
@@ -573,8 +635,11 @@ fn one_true(
     a: &Value,
     b: &Value,
 ) -> Option<i64>
+    requires room { clock.old.spent ≤ scope.now.limit }
     ensures does { Does number scope.now (valued (typed.one_true (value_of a.now) (value_of b.now))) clock.old scene.old result clock.new scene.new }
     ensures here { StaysHere (quick (value_of a.now) && quick (value_of b.now)) result clock.new.why }
+    ensures spends { Spends clock.old.spent clock.new.spent scope.now.limit }
+    ensures takes { IfSome result (λ _. clock.old.spent < clock.new.spent) }
 {
     if !clock.tick(scope.limit) {
         return None;
@@ -592,8 +657,10 @@ fn one_true(
 /// Whether an operand counts as true.
 #[cycle(evaluate)]
 fn truth_of(scope: &Scope<'_>, scene: &mut Scene, clock: &mut Clock, b: &Value) -> Option<i64>
+    requires room { clock.old.spent ≤ scope.now.limit }
     ensures does { Does number scope.now (λ p s. then_do (valued (value_of b.now) p s) (λ w s. Goes (of_truth (truth w)) s)) clock.old scene.old result clock.new scene.new }
     ensures here { StaysHere (quick (value_of b.now)) result clock.new.why }
+    ensures spends { Spends clock.old.spent clock.new.spent scope.now.limit }
 {
     let Some(w) = value(scope, scene, clock, b) else {
         return None;
@@ -612,8 +679,11 @@ fn chosen(
     a: &Value,
     b: &Value,
 ) -> Option<i64>
+    requires room { clock.old.spent ≤ scope.now.limit }
     ensures does { Does number scope.now (valued (typed.chosen ty (value_of c.now) (value_of a.now) (value_of b.now))) clock.old scene.old result clock.new scene.new }
     ensures here { StaysHere (quick (value_of c.now) && quick (value_of a.now) && quick (value_of b.now)) result clock.new.why }
+    ensures spends { Spends clock.old.spent clock.new.spent scope.now.limit }
+    ensures takes { IfSome result (λ _. clock.old.spent < clock.new.spent) }
 {
     if !clock.tick(scope.limit) {
         return None;
@@ -637,8 +707,10 @@ fn conversion(
     ty: Option<IntType>,
     e: &Value,
 ) -> Option<i64>
+    requires room { clock.old.spent ≤ scope.now.limit }
     ensures does { Does number scope.now (λ p s. then_do (valued (value_of e.now) p s) (λ w s. Goes (meaning.converted_or_none ty w) s)) clock.old scene.old result clock.new scene.new }
     ensures here { StaysHere (quick (value_of e.now)) result clock.new.why }
+    ensures spends { Spends clock.old.spent clock.new.spent scope.now.limit }
 {
     let Some(v) = value(scope, scene, clock, e) else {
         return None;
@@ -655,8 +727,11 @@ fn sequence(
     a: &Value,
     b: &Value,
 ) -> Option<i64>
+    requires room { clock.old.spent ≤ scope.now.limit }
     ensures does { Does number scope.now (valued (typed.sequence (value_of a.now) (value_of b.now))) clock.old scene.old result clock.new scene.new }
     ensures here { StaysHere (quick (value_of a.now) && quick (value_of b.now)) result clock.new.why }
+    ensures spends { Spends clock.old.spent clock.new.spent scope.now.limit }
+    ensures takes { IfSome result (λ _. clock.old.spent < clock.new.spent) }
 {
     if !clock.tick(scope.limit) {
         return None;
@@ -676,8 +751,11 @@ fn cast(
     ty: IntType,
     e: &Value,
 ) -> Option<i64>
+    requires room { clock.old.spent ≤ scope.now.limit }
     ensures does { Does number scope.now (valued (typed.cast ty (value_of e.now))) clock.old scene.old result clock.new scene.new }
     ensures here { StaysHere (quick (value_of e.now)) result clock.new.why }
+    ensures spends { Spends clock.old.spent clock.new.spent scope.now.limit }
+    ensures takes { IfSome result (λ _. clock.old.spent < clock.new.spent) }
 {
     if !clock.tick(scope.limit) {
         return None;
@@ -688,8 +766,11 @@ fn cast(
 /// A cast to `void` (6.3.2.2).
 #[cycle(evaluate)]
 fn discarded(scope: &Scope<'_>, scene: &mut Scene, clock: &mut Clock, e: &Value) -> Option<i64>
+    requires room { clock.old.spent ≤ scope.now.limit }
     ensures does { Does number scope.now (valued (typed.discarded (value_of e.now))) clock.old scene.old result clock.new scene.new }
     ensures here { StaysHere (quick (value_of e.now)) result clock.new.why }
+    ensures spends { Spends clock.old.spent clock.new.spent scope.now.limit }
+    ensures takes { IfSome result (λ _. clock.old.spent < clock.new.spent) }
 {
     if !clock.tick(scope.limit) {
         return None;

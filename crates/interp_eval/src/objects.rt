@@ -1,13 +1,13 @@
 //! Whole objects and their elements, without a reference in memory (6.3.2.1, 6.5.1, 6.5.2.1).
 
-ghost use Rattle.std.specs.Prelude.{◌≡◌, ℕ, Some, pos, true};
+ghost use Rattle.std.specs.Prelude.{◌≡◌, ◌<◌, ◌≤◌, ℕ, IfSome, Some, pos, true};
 ghost use Rattle.srcset.specs.declared.refusal.Pos.{Pos};
 ghost use Rattle.typed_ast.specs.View.{place_of, program_of, storage_of};
 ghost use Rattle.csem.specs.Store.{whole};
 ghost use Rattle.csem.specs.Machine.{designated, read, subscripted, then_do, tick};
 ghost use Rattle.interp_store.specs.View.{reference_of};
 ghost use Rattle.interp_store.specs.layer.Agrees.{Outside, Runs, number, state_in, stepped};
-ghost use Rattle.interp_eval.specs.layer.Comes.{Does, Designates, IsPart, IsWhole, StaysHere, found};
+ghost use Rattle.interp_eval.specs.layer.Comes.{Does, Designates, IsPart, IsWhole, Spends, StaysHere, found};
 
 use crate::clock::{Clock, Scope};
 use interp_store::Reference;
@@ -52,8 +52,11 @@ pub fn read_object(
     at: Pos,
     n: usize,
 ) -> Option<i64>
+    requires room { clock.old.spent ≤ scope.now.limit }
     ensures does { Does number scope.now (λ p s. tick s (λ s. read at (whole n) s)) clock.old scene.now result clock.new scene.now }
     ensures here { StaysHere true result clock.new.why }
+    ensures spends { Spends clock.old.spent clock.new.spent scope.now.limit }
+    ensures takes { IfSome result (λ _. clock.old.spent < clock.new.spent) }
 {
     if !clock.tick(scope.limit) {
         return None;
@@ -160,8 +163,10 @@ pub fn object_stepped(
     c: &Stepping,
     n: usize,
 ) -> Option<i64>
+    requires room { clock.old.spent ≤ scope.now.limit }
     ensures does { Does number scope.now (λ p s. tick s (λ s. stepped p c.now (whole n) s)) clock.old scene.old result clock.new scene.new }
     ensures here { StaysHere true result clock.new.why }
+    ensures spends { Spends clock.old.spent clock.new.spent scope.now.limit }
 {
     if !clock.tick(scope.limit) {
         return None;

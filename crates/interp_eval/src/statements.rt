@@ -1,6 +1,6 @@
 //! Statements that call nothing (6.8). An initialiser that is no single value is not among them yet.
 
-ghost use Rattle.std.specs.Prelude.{◌≡◌, ◌&&◌, true, map, option_map};
+ghost use Rattle.std.specs.Prelude.{◌≡◌, ◌&&◌, ◌<◌, ◌≤◌, IfSome, true, map, option_map};
 ghost use Rattle.typing_spec.specs.Program as typed;
 ghost use Rattle.typed_ast.specs.View.{statement_of, statements_of, value_of};
 ghost use Rattle.csem.specs.Machine.{Goes, tick};
@@ -8,7 +8,7 @@ ghost use Rattle.csem.specs.Expressions.{evaluate_or};
 ghost use Rattle.interp_store.specs.layer.Agrees.{number};
 ghost use Rattle.interp_store.specs.layer.Presents.{call_in, loop};
 ghost use Rattle.interp_store.specs.layer.Views.{flow_of};
-ghost use Rattle.interp_eval.specs.layer.Comes.{Does, StaysHere, all_executed, executed, jumped, objects_in, way_out};
+ghost use Rattle.interp_eval.specs.layer.Comes.{Does, Spends, StaysHere, all_executed, executed, jumped, objects_in, way_out};
 ghost use Rattle.interp_eval.specs.layer.Quick.{quick, quick_all, quick_control, quick_initialiser, quick_or, quick_statement};
 
 use crate::clock::{Clock, Scope};
@@ -30,8 +30,11 @@ pub fn statement(
     clock: &mut Clock,
     a: &Statement,
 ) -> Option<Flow>
+    requires room { clock.old.spent ≤ scope.now.limit }
     ensures does { Does flow_of scope.now (executed (objects_in scope.now) (statement_of a.now)) clock.old scene.old result clock.new scene.new }
     ensures here { StaysHere (quick_statement (statement_of a.now)) result clock.new.why }
+    ensures spends { Spends clock.old.spent clock.new.spent scope.now.limit }
+    ensures takes { IfSome result (λ _. clock.old.spent < clock.new.spent) }
 {
     match a {
         Statement::Empty(_) | Statement::Case(_, _) | Statement::Default(_) => {
@@ -64,8 +67,11 @@ pub fn statement(
 /// A statement that does nothing, or jumps (6.8.1, 6.8.3, 6.8.6).
 #[inline(always)]
 fn at_once(scope: &Scope<'_>, scene: &Scene, clock: &mut Clock, flow: Flow) -> Option<Flow>
+    requires room { clock.old.spent ≤ scope.now.limit }
     ensures does { Does flow_of scope.now (λ p s. tick s (λ s. Goes (flow_of flow) s)) clock.old scene.now result clock.new scene.now }
     ensures here { StaysHere true result clock.new.why }
+    ensures spends { Spends clock.old.spent clock.new.spent scope.now.limit }
+    ensures takes { IfSome result (λ _. clock.old.spent < clock.new.spent) }
 {
     if !clock.tick(scope.limit) {
         return None;
@@ -75,8 +81,11 @@ fn at_once(scope: &Scope<'_>, scene: &Scene, clock: &mut Clock, flow: Flow) -> O
 
 /// An expression statement (6.8.3).
 fn evaluation(scope: &Scope<'_>, scene: &mut Scene, clock: &mut Clock, e: &Value) -> Option<Flow>
+    requires room { clock.old.spent ≤ scope.now.limit }
     ensures does { Does flow_of scope.now (executed (objects_in scope.now) (typed.evaluate (value_of e.now))) clock.old scene.old result clock.new scene.new }
     ensures here { StaysHere (quick (value_of e.now)) result clock.new.why }
+    ensures spends { Spends clock.old.spent clock.new.spent scope.now.limit }
+    ensures takes { IfSome result (λ _. clock.old.spent < clock.new.spent) }
 {
     if !clock.tick(scope.limit) {
         return None;
@@ -89,8 +98,11 @@ fn evaluation(scope: &Scope<'_>, scene: &mut Scene, clock: &mut Clock, e: &Value
 
 /// A declarator (6.2.4p6, 6.8p3).
 fn declaration(scope: &Scope<'_>, scene: &mut Scene, clock: &mut Clock, n: usize) -> Option<Flow>
+    requires room { clock.old.spent ≤ scope.now.limit }
     ensures does { Does flow_of scope.now (executed (objects_in scope.now) (typed.declare n)) clock.old scene.old result clock.new scene.new }
     ensures here { StaysHere true result clock.new.why }
+    ensures spends { Spends clock.old.spent clock.new.spent scope.now.limit }
+    ensures takes { IfSome result (λ _. clock.old.spent < clock.new.spent) }
 {
     if !clock.tick(scope.limit) {
         return None;
@@ -111,8 +123,11 @@ fn block(
     count: usize,
     all: &[Statement],
 ) -> Option<Flow>
+    requires room { clock.old.spent ≤ scope.now.limit }
     ensures does { Does flow_of scope.now (executed (objects_in scope.now) (typed.block first count (statements_of (map statement_of all.now)))) clock.old scene.old result clock.new scene.new }
     ensures here { StaysHere (quick_all (statements_of (map statement_of all.now))) result clock.new.why }
+    ensures spends { Spends clock.old.spent clock.new.spent scope.now.limit }
+    ensures takes { IfSome result (λ _. clock.old.spent < clock.new.spent) }
 {
     if !clock.tick(scope.limit) {
         return None;
@@ -131,8 +146,10 @@ fn all_of(
     clock: &mut Clock,
     all: &[Statement],
 ) -> Option<Flow>
+    requires room { clock.old.spent ≤ scope.now.limit }
     ensures does { Does flow_of scope.now (all_executed (objects_in scope.now) (statements_of (map statement_of all.now))) clock.old scene.old result clock.new scene.new }
     ensures here { StaysHere (quick_all (statements_of (map statement_of all.now))) result clock.new.why }
+    ensures spends { Spends clock.old.spent clock.new.spent scope.now.limit }
 {
     let mut rest = all;
     while let Some((a, more)) = rest.split_first() {
@@ -157,8 +174,11 @@ fn branch(
     e: &Value,
     a: &Statement,
 ) -> Option<Flow>
+    requires room { clock.old.spent ≤ scope.now.limit }
     ensures does { Does flow_of scope.now (executed (objects_in scope.now) (typed.branch (value_of e.now) (statement_of a.now))) clock.old scene.old result clock.new scene.new }
     ensures here { StaysHere (quick (value_of e.now) && quick_statement (statement_of a.now)) result clock.new.why }
+    ensures spends { Spends clock.old.spent clock.new.spent scope.now.limit }
+    ensures takes { IfSome result (λ _. clock.old.spent < clock.new.spent) }
 {
     if !clock.tick(scope.limit) {
         return None;
@@ -183,8 +203,11 @@ fn branches(
     a: &Statement,
     b: &Statement,
 ) -> Option<Flow>
+    requires room { clock.old.spent ≤ scope.now.limit }
     ensures does { Does flow_of scope.now (executed (objects_in scope.now) (typed.branches (value_of e.now) (statement_of a.now) (statement_of b.now))) clock.old scene.old result clock.new scene.new }
     ensures here { StaysHere (quick (value_of e.now) && quick_statement (statement_of a.now) && quick_statement (statement_of b.now)) result clock.new.why }
+    ensures spends { Spends clock.old.spent clock.new.spent scope.now.limit }
+    ensures takes { IfSome result (λ _. clock.old.spent < clock.new.spent) }
 {
     if !clock.tick(scope.limit) {
         return None;
@@ -211,8 +234,11 @@ fn switch(
     count: usize,
     all: &[Statement],
 ) -> Option<Flow>
+    requires room { clock.old.spent ≤ scope.now.limit }
     ensures does { Does flow_of scope.now (executed (objects_in scope.now) (typed.switch ty (value_of e.now) first count (statements_of (map statement_of all.now)))) clock.old scene.old result clock.new scene.new }
     ensures here { StaysHere (quick (value_of e.now) && quick_all (statements_of (map statement_of all.now))) result clock.new.why }
+    ensures spends { Spends clock.old.spent clock.new.spent scope.now.limit }
+    ensures takes { IfSome result (λ _. clock.old.spent < clock.new.spent) }
 {
     if !clock.tick(scope.limit) {
         return None;
@@ -238,8 +264,10 @@ fn jump(
     value: i64,
     all: &[Statement],
 ) -> Option<Flow>
+    requires room { clock.old.spent ≤ scope.now.limit }
     ensures does { Does flow_of scope.now (jumped (objects_in scope.now) value (statements_of (map statement_of all.now))) clock.old scene.old result clock.new scene.new }
     ensures here { StaysHere (quick_all (statements_of (map statement_of all.now))) result clock.new.why }
+    ensures spends { Spends clock.old.spent clock.new.spent scope.now.limit }
 {
     let Some(rest) = selected(scope, clock, value, all) else {
         return None;
@@ -259,8 +287,11 @@ fn while_loop(
     e: &Value,
     a: &Statement,
 ) -> Option<Flow>
+    requires room { clock.old.spent ≤ scope.now.limit }
     ensures does { Does flow_of scope.now (executed (objects_in scope.now) (typed.while (value_of e.now) (statement_of a.now))) clock.old scene.old result clock.new scene.new }
     ensures here { StaysHere (quick (value_of e.now) && quick_statement (statement_of a.now)) result clock.new.why }
+    ensures spends { Spends clock.old.spent clock.new.spent scope.now.limit }
+    ensures takes { IfSome result (λ _. clock.old.spent < clock.new.spent) }
 {
     if !clock.tick(scope.limit) {
         return None;
@@ -277,8 +308,11 @@ fn do_loop(
     a: &Statement,
     e: &Value,
 ) -> Option<Flow>
+    requires room { clock.old.spent ≤ scope.now.limit }
     ensures does { Does flow_of scope.now (executed (objects_in scope.now) (typed.do_while (statement_of a.now) (value_of e.now))) clock.old scene.old result clock.new scene.new }
     ensures here { StaysHere (quick (value_of e.now) && quick_statement (statement_of a.now)) result clock.new.why }
+    ensures spends { Spends clock.old.spent clock.new.spent scope.now.limit }
+    ensures takes { IfSome result (λ _. clock.old.spent < clock.new.spent) }
 {
     if !clock.tick(scope.limit) {
         return None;
@@ -304,11 +338,14 @@ fn for_loop(
     step: Option<&Value>,
     a: &Statement,
 ) -> Option<Flow>
+    requires room { clock.old.spent ≤ scope.now.limit }
     ensures does { Does flow_of scope.now (executed (objects_in scope.now) (typed.for (statements_of (map statement_of declared.now))
         (option_map (λ e. value_of e.now) start.entry) (option_map (λ e. value_of e.now) test.entry) (option_map (λ e. value_of e.now) step.entry) (statement_of a.now)))
         clock.old scene.old result clock.new scene.new }
     ensures here { StaysHere (quick_control (option_map (λ e. value_of e.now) start.entry) (option_map (λ e. value_of e.now) test.entry) (option_map (λ e. value_of e.now) step.entry)
         && quick_all (statements_of (map statement_of declared.now)) && quick_statement (statement_of a.now)) result clock.new.why }
+    ensures spends { Spends clock.old.spent clock.new.spent scope.now.limit }
+    ensures takes { IfSome result (λ _. clock.old.spent < clock.new.spent) }
 {
     if !clock.tick(scope.limit) {
         return None;
@@ -330,8 +367,10 @@ fn value_or(
     clock: &mut Clock,
     e: Option<&Value>,
 ) -> Option<i64>
+    requires room { clock.old.spent ≤ scope.now.limit }
     ensures does { Does number scope.now (λ p s. evaluate_or p (call_in p) (option_map (λ e. value_of e.now) e.entry) s) clock.old scene.old result clock.new scene.new }
     ensures here { StaysHere (quick_or (option_map (λ e. value_of e.now) e.entry)) result clock.new.why }
+    ensures spends { Spends clock.old.spent clock.new.spent scope.now.limit }
 {
     match e {
         None => Some(1),
@@ -352,7 +391,7 @@ fn left_by(flow: Flow) -> Option<Flow>
     }
 }
 
-/// The turns of a loop (6.8.5): as many as there are ticks are enough.
+/// The turns of a loop (6.8.5). Each takes a tick.
 #[cycle(execute)]
 fn turns(
     scope: &Scope<'_>,
@@ -362,12 +401,14 @@ fn turns(
     a: &Statement,
     step: Option<&Value>,
 ) -> Option<Flow>
+    requires room { clock.old.spent ≤ scope.now.limit }
     ensures does { Does flow_of scope.now (λ p s. loop p (call_in p) (objects_in scope.now) (option_map (λ e. value_of e.now) test.entry) (statement_of a.now)
         (option_map (λ e. value_of e.now) step.entry) s) clock.old scene.old result clock.new scene.new }
     ensures here { StaysHere (quick_or (option_map (λ e. value_of e.now) test.entry) && quick_statement (statement_of a.now)
         && quick_or (option_map (λ e. value_of e.now) step.entry)) result clock.new.why }
+    ensures spends { Spends clock.old.spent clock.new.spent scope.now.limit }
 {
-    for _ in 0..scope.limit {
+    loop {
         let Some(v) = value_or(scope, scene, clock, test) else {
             return None;
         };
@@ -384,7 +425,6 @@ fn turns(
             return None;
         };
     }
-    out_of_memory(clock)
 }
 
 /// `return` with a value (6.8.6.4p3).
@@ -395,8 +435,11 @@ fn return_value(
     ty: IntType,
     e: &Value,
 ) -> Option<Flow>
+    requires room { clock.old.spent ≤ scope.now.limit }
     ensures does { Does flow_of scope.now (executed (objects_in scope.now) (typed.return_value ty (value_of e.now))) clock.old scene.old result clock.new scene.new }
     ensures here { StaysHere (quick (value_of e.now)) result clock.new.why }
+    ensures spends { Spends clock.old.spent clock.new.spent scope.now.limit }
+    ensures takes { IfSome result (λ _. clock.old.spent < clock.new.spent) }
 {
     if !clock.tick(scope.limit) {
         return None;

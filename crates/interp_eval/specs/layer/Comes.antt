@@ -1,5 +1,5 @@
 -- The result of a part of a program that is evaluated at once: the rest of the run after it.
-use Rattle.std.specs.Prelude.{◌≡◌, ◌≢◌, Bool, true, ℕ, ◌+◌, ◌-◌, ℤ, List, length, map, nat_lt, Option, Some, None, Result, Ok, Err, ⊤}
+use Rattle.std.specs.Prelude.{◌≡◌, ◌≢◌, ◌≤◌, Bool, true, ℕ, ◌+◌, ◌-◌, ℤ, List, length, map, nat_lt, Option, Some, None, Result, Ok, Err, ⊤}
 use Rattle.typing_spec.specs.Program as typed
 use Rattle.typed_ast.specs.View.{program_of, object_type_of}
 use Rattle.csem.specs.History.{Entry}
@@ -60,19 +60,29 @@ DoesIn view limit p part old before result new after = (c : Course) (rest : _ �
 abbrev pub Idles : Why → ℕ → ℕ → Type 0
 Idles why.Ticks spent limit = spent ≡ limit
 Idles (why.Undefined act at) spent limit = ⊥
-Idles why.Memory spent limit = ⊤
+Idles why.Memory spent limit = ⊥
 Idles why.Elsewhere spent limit = ⊥
+
+-- ticks were spent, and no more than are allowed
+abbrev pub Spends : (old new limit : ℕ) → Type 0
+Spends old new limit = (old ≤ new) × (new ≤ limit)
+
+-- a part of an expression stops, and the program does not end in it
+abbrev pub GoesOn : Stop → Type 0
+GoesOn stop.Memory = ⊤
+GoesOn (stop.Ended n) = ⊥
+GoesOn (stop.Undefined act at) = ⊤
 
 -- the value of a leaf
 abbrev pub Gives : {A : Type 0} → Result A Stop → Option A → Why → Type 0
 Gives (Ok a) r w = r ≡ Some a
 Gives (Err stop.Memory) r w = (r ≡ None) × (w ≡ why.Memory)
-Gives (Err (stop.Ended n)) r w = (r ≡ None) × (w ≡ why.Memory)
+Gives (Err (stop.Ended n)) r w = ⊥
 Gives (Err (stop.Undefined act at)) r w = (r ≡ None) × (w ≡ why.Undefined act at)
 
 abbrev pub StoppedBy : Stop → Why → Type 0
 StoppedBy stop.Memory w = w ≡ why.Memory
-StoppedBy (stop.Ended n) w = w ≡ why.Memory
+StoppedBy (stop.Ended n) w = ⊥
 StoppedBy (stop.Undefined act at) w = w ≡ why.Undefined act at
 
 -- where the part is quick, it is not left to be evaluated elsewhere

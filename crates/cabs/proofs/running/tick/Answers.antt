@@ -24,7 +24,7 @@ returns-then-is_whole-clause-meets g c b p all o r =
     let T = Knows b (g.O.Observer.told c.settle.new.observer) in
     let here = stands_rested T p (λ n. all (n + k)) o met.0 _ _ _ _ met.1.0 c.rest_before.ensures in
     let h = here.history in
-    meets_at_told (λ g. g ≡ h) T (same_history T h here.told) p o all _ _ _ _ _ (c.at_once.ensures.meets h p all o met.0 _ c.requires.room r.grows (exactly T p (λ n. all (n + k)) o met.0 _ _ _ here) met.1.1)
+    meets_at_told (λ g. g ≡ h) T (same_history T h here.told) p o all _ _ _ _ _ (c.at_once.ensures.meets h p all o met.0 _ r.grows (exactly T p (λ n. all (n + k)) o met.0 _ _ _ here) met.1.1)
 
 pub returns-in-Ok-take_tick-clause-meets : goal.returns-in-Ok-take_tick-clause-meets
 returns-in-Ok-take_tick-clause-meets g c b p all o r =

@@ -17,6 +17,7 @@ use Rattle.interp_eval.proofs.Leaves.{gave_with, gave_with_both, chose, leads_ch
 use Rattle.interp_eval.proofs.Wholes.{leads_whole, read_whole, reads_element, combines_found, steps_found}
 use Rattle.std.proofs.lemmas.Bool.{and_parts}
 use Rattle.interp_eval.specs.layer.Quick.{quick, quick_place}
+use Rattle.interp_eval.proofs.Endings.{stays_for, stays_read, stays_subscripted, stays_element, stays_written, stays_combined, stays_stepped, stays_computed}
 use Rattle.interp_eval.proofs.expressions.+evaluate.Goals as goal
 
 pub element-returns-then-not-tick-clause-does : goal.element-returns-then-not-tick-clause-does
@@ -706,3 +707,72 @@ part_stepped-returns-clause-does t c = λ run rest h.
 
 pub part_stepped-returns-clause-here : goal.part_stepped-returns-clause-here
 part_stepped-returns-clause-here t c = λ q. c.given.ensures.here refl
+
+pub element-found-requires : goal.element-found-requires
+element-found-requires t c =
+    let r = reference_of c.in-Some.r in
+    let v = to_z w64 (of_z w64 c.in-Some-value.v) in
+    record { leaf = stays_for reference_of (λ s. subscripted c.args.at.now r v s) c.subscripted.result c.value.new.scene c.value.new.scene (λ s. stays_subscripted c.args.at.now r v s) c.subscripted.ensures }
+
+pub read_found-given-requires : goal.read_found-given-requires
+read_found-given-requires t c =
+    let r = reference_of c.in-Some.r in
+    record { leaf = stays_for number (λ s. read c.position_of.result r s) c.read.result c.place.new.scene c.place.new.scene (λ s. stays_read c.position_of.result r s) c.read.ensures }
+
+pub element_of-given-requires : goal.element_of-given-requires
+element_of-given-requires t c =
+    let r = whole c.args.n in
+    let v = to_z w64 (of_z w64 c.in-Some.v) in
+    record { leaf = stays_for number (λ s. then_do (subscripted c.args.at.now r v s) (λ r s. read c.args.at.now r s)) c.read_element.result c.operand.new.scene c.operand.new.scene (λ s. stays_element c.args.at.now r v s) c.read_element.ensures }
+
+pub row_read-given-requires : goal.row_read-given-requires
+row_read-given-requires t c =
+    let r = reference_of c.in-Some.r in
+    let v = to_z w64 (of_z w64 c.in-Some-value.v) in
+    record { leaf = stays_for number (λ s. then_do (subscripted c.args.at.now r v s) (λ r s. read c.args.at.now r s)) c.read_at.result c.value.new.scene c.value.new.scene (λ s. stays_element c.args.at.now r v s) c.read_at.ensures }
+
+pub object_assigned-given-requires : goal.object_assigned-given-requires
+object_assigned-given-requires t c =
+    let p = program_of c.args.scope.now.program.now in
+    let r = reference_of c.whole.result in
+    let v = converted c.args.ty (to_z w64 (of_z w64 c.in-Some.v)) in
+    record { leaf = stays_for number (λ s. write p c.args.at.now r v s) c.write.result c.operand.new.scene c.write.new.self (λ s. stays_written p c.args.at.now r v s) c.write.ensures }
+
+pub part_assigned-given-requires : goal.part_assigned-given-requires
+part_assigned-given-requires t c =
+    let p = program_of c.args.scope.now.program.now in
+    let r = reference_of c.in-Some.r in
+    let v = converted c.args.ty (to_z w64 (of_z w64 c.in-Some-value.v)) in
+    record { leaf = stays_for number (λ s. write p c.args.at.now r v s) c.write.result c.value.new.scene c.write.new.self (λ s. stays_written p c.args.at.now r v s) c.write.ensures }
+
+pub object_combined-given-requires : goal.object_combined-given-requires
+object_combined-given-requires t c =
+    let p = program_of c.args.scope.now.program.now in
+    let r = reference_of c.whole.result in
+    let v = to_z w64 (of_z w64 c.in-Some.v) in
+    record { leaf = stays_for number (λ s. combined p c.args.c.now r v s) c.combine.result c.operand.new.scene c.combine.new.self (λ s. stays_combined p c.args.c.now r v s) c.combine.ensures }
+
+pub part_combined-given-requires : goal.part_combined-given-requires
+part_combined-given-requires t c =
+    let p = program_of c.args.scope.now.program.now in
+    let r = reference_of c.in-Some.r in
+    let v = to_z w64 (of_z w64 c.in-Some-value.v) in
+    record { leaf = stays_for number (λ s. combined p c.args.c.now r v s) c.combine.result c.value.new.scene c.combine.new.self (λ s. stays_combined p c.args.c.now r v s) c.combine.ensures }
+
+pub part_stepped-given-requires : goal.part_stepped-given-requires
+part_stepped-given-requires t c =
+    let p = program_of c.args.scope.now.program.now in
+    let r = reference_of c.in-Some.r in
+    record { leaf = stays_for number (λ s. stepped p c.args.c.now r s) c.step.result c.place.new.scene c.step.new.self (λ s. stays_stepped p c.args.c.now r s) c.step.ensures }
+
+pub unary-given-requires : goal.unary-given-requires
+unary-given-requires t c =
+    let x = sign_of c.args.op c.args.ty (to_z w64 (of_z w64 c.in-Some.v)) in
+    let scene = c.value.new.scene in
+    record { leaf = stays_for number (λ s. computed_at c.args.at.now x s) c.sign_at.result scene scene (λ s. stays_computed c.args.at.now x s) (λ o. c.sign_at.ensures (state_in scene o)) }
+
+pub binary-given-requires : goal.binary-given-requires
+binary-given-requires t c =
+    let x = operated c.args.op c.args.ty (to_z w64 (of_z w64 c.in-Some.v)) (to_z w64 (of_z w64 c.in-Some-operand.w)) in
+    let scene = c.operand-2.new.scene in
+    record { leaf = stays_for number (λ s. computed_at c.args.at.now x s) c.operated_at.result scene scene (λ s. stays_computed c.args.at.now x s) (λ o. c.operated_at.ensures (state_in scene o)) }

@@ -1,6 +1,9 @@
 use Rattle.interp_store.specs.View.{reference_of}
 use Rattle.interp_eval.proofs.Comings.{after_tick, no_tick, gave}
 use Rattle.std.proofs.Common.{refl}
+use Rattle.typed_ast.specs.View.{program_of, storage_of}
+use Rattle.csem.specs.Machine.{Goes, designated}
+use Rattle.interp_eval.proofs.Endings.{stays_for}
 use Rattle.interp_eval.proofs.expressions.named.Goals as goal
 
 pub returns-then-not-tick-clause-does : goal.returns-then-not-tick-clause-does
@@ -18,3 +21,7 @@ returns-clause-does c = λ run rest h.
 
 pub returns-clause-here : goal.returns-clause-here
 returns-clause-here c = λ q. c.found.ensures.here refl
+
+pub found-requires : goal.found-requires
+found-requires c =
+    record { leaf = stays_for reference_of (λ s. Goes (designated (program_of c.args.scope.now.program.now) (storage_of c.args.what) s) s) c.designated.result c.args.scene.now c.args.scene.now (λ s. tt) c.designated.ensures }

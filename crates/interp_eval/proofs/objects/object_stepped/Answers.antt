@@ -5,6 +5,7 @@ use Rattle.interp_store.specs.layer.Agrees.{number, stepped}
 use Rattle.interp_eval.proofs.Comings.{after_tick, no_tick}
 use Rattle.interp_eval.proofs.Leaves.{gave_with}
 use Rattle.std.proofs.Common.{refl}
+use Rattle.interp_eval.proofs.Endings.{stays_for, stays_stepped}
 use Rattle.interp_eval.proofs.objects.object_stepped.Goals as goal
 
 pub returns-then-not-tick-clause-does : goal.returns-then-not-tick-clause-does
@@ -24,3 +25,9 @@ returns-clause-does c = λ run rest h.
 
 pub returns-clause-here : goal.returns-clause-here
 returns-clause-here c = λ q. c.given.ensures.here refl
+
+pub given-requires : goal.given-requires
+given-requires c =
+    let p = program_of c.args.scope.now.program.now in
+    let r = reference_of c.whole.result in
+    record { leaf = stays_for number (λ s. stepped p c.args.c.now r s) c.step_at.result c.args.scene.now c.step_at.new.scene (λ s. stays_stepped p c.args.c.now r s) c.step_at.ensures }

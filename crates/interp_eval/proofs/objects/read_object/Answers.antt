@@ -5,6 +5,7 @@ use Rattle.interp_store.specs.View.{reference_of}
 use Rattle.interp_store.specs.layer.Agrees.{number}
 use Rattle.interp_eval.proofs.Comings.{after_tick, no_tick}
 use Rattle.interp_eval.proofs.Leaves.{gave_with}
+use Rattle.interp_eval.proofs.Endings.{stays_for, stays_read}
 use Rattle.interp_eval.proofs.objects.read_object.Goals as goal
 
 pub returns-then-not-tick-clause-does : goal.returns-then-not-tick-clause-does
@@ -23,3 +24,7 @@ returns-clause-does c = λ run rest h.
 
 pub returns-clause-here : goal.returns-clause-here
 returns-clause-here c = λ q. c.given.ensures.here refl
+
+pub given-requires : goal.given-requires
+given-requires c =
+    record { leaf = stays_for number (λ s. read c.args.at (reference_of c.whole.result) s) c.read.result c.args.scene.now c.args.scene.now (λ s. stays_read c.args.at (reference_of c.whole.result) s) c.read.ensures }

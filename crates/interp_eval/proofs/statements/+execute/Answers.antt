@@ -183,7 +183,7 @@ switch-returns-in-Ok-clause-here t c = λ q. c.jump.ensures.here (and_parts (qui
 pub jump-all_of-requires : goal.jump-all_of-requires
 jump-all_of-requires t c =
     let h = part_below c.in-Some.ensures.part.0 c.args.all.now c.in-Some.rest.now c.in-Some.ensures.part.1 in
-    (omega (arith, h, c.decreases), tt)
+    (omega (arith, h, c.decreases), c.selected.ensures.spends.1)
 
 pub jump-returns-in_default-clause-does : goal.jump-returns-in_default-clause-does
 jump-returns-in_default-clause-does t c = λ run rest h.
@@ -368,6 +368,7 @@ all_of-returns-in-Some-Returned-clause-does t c = λ run rest h.
 
 pub all_of-loop-a-preserved : goal.all_of-loop-a-preserved
 all_of-loop-a-preserved t c = record {
+  spends = (omega (arith, c.loop-a.invariant.spends.0, c.statement.ensures.spends.0), c.statement.ensures.spends.1);
   below = fewer c.loop-a.rest.now c.in-Some.a.now c.in-Some.more.now _ c.in-Some.ensures.cases.0 c.loop-a.invariant.below;
   here = λ q. rest_quick c.loop-a.rest.now c.in-Some.a.now c.in-Some.more.now c.in-Some.ensures.cases.0 (c.loop-a.invariant.here q);
   leads = λ run rest h. (gone_on flow_of run c.args.scope.now.limit c.loop-a.clock.spent c.loop-a.scene _ _ rest c.statement.result flow.Normal
@@ -378,10 +379,10 @@ all_of-loop-a-preserved t c = record {
 
 pub turns-returns-in_default-clause-does : goal.turns-returns-in_default-clause-does
 turns-returns-in_default-clause-does t c = λ run rest h.
-    gone_none number run c.args.scope.now.limit c.loop.clock.spent c.loop.scene _ _ rest c.value_or.result c.value_or.new.clock c.value_or.new.scene c.in_default.is (c.value_or.ensures.does run)
-    (turned run c.loop.clock.spent c.loop.scene (program_of c.args.scope.now.program.now) (objects_in c.args.scope.now)
+    gone_none number run c.args.scope.now.limit c.loop-v.clock.spent c.loop-v.scene _ _ rest c.value_or.result c.value_or.new.clock c.value_or.new.scene c.in_default.is (c.value_or.ensures.does run)
+    (turned run c.loop-v.clock.spent c.loop-v.scene (program_of c.args.scope.now.program.now) (objects_in c.args.scope.now)
     (option_map (λ e. value_of e.now) c.args.test) (statement_of c.args.a.now) (option_map (λ e. value_of e.now) c.args.step) rest
-    (c.loop.invariant.leads run rest h))
+    (c.loop-v.invariant.leads run rest h))
 
 pub turns-returns-in_default-clause-here : goal.turns-returns-in_default-clause-here
 turns-returns-in_default-clause-here t c = λ q none.
@@ -398,11 +399,11 @@ turns-returns-then-not-is_true-clause-does t c = λ run rest h.
     (λ flow s. after_body flow s (λ s. stepped (program_of c.args.scope.now.program.now) (call_in (program_of c.args.scope.now.program.now))
     (objects_in c.args.scope.now) (option_map (λ e. value_of e.now) c.args.test) (statement_of c.args.a.now)
     (option_map (λ e. value_of e.now) c.args.step) s))) (λ s. Goes Normal s) rest test
-    (gone_on number run c.args.scope.now.limit c.loop.clock.spent c.loop.scene _ _ rest c.value_or.result c.in-Some.v c.value_or.new.clock
+    (gone_on number run c.args.scope.now.limit c.loop-v.clock.spent c.loop-v.scene _ _ rest c.value_or.result c.in-Some.v c.value_or.new.clock
     c.value_or.new.scene c.in-Some.is (c.value_or.ensures.does run)
-    (turned run c.loop.clock.spent c.loop.scene (program_of c.args.scope.now.program.now) (objects_in c.args.scope.now)
+    (turned run c.loop-v.clock.spent c.loop-v.scene (program_of c.args.scope.now.program.now) (objects_in c.args.scope.now)
     (option_map (λ e. value_of e.now) c.args.test) (statement_of c.args.a.now) (option_map (λ e. value_of e.now) c.args.step) rest
-    (c.loop.invariant.leads run rest h))))
+    (c.loop-v.invariant.leads run rest h))))
 
 pub turns-returns-in_default-statement-clause-does : goal.turns-returns-in_default-statement-clause-does
 turns-returns-in_default-statement-clause-does t c = λ run rest h.
@@ -415,11 +416,11 @@ turns-returns-in_default-statement-clause-does t c = λ run rest h.
     (λ flow s. after_body flow s (λ s. stepped (program_of c.args.scope.now.program.now) (call_in (program_of c.args.scope.now.program.now))
     (objects_in c.args.scope.now) (option_map (λ e. value_of e.now) c.args.test) (statement_of c.args.a.now)
     (option_map (λ e. value_of e.now) c.args.step) s))) (λ s. Goes Normal s) rest test
-    (gone_on number run c.args.scope.now.limit c.loop.clock.spent c.loop.scene _ _ rest c.value_or.result c.in-Some.v c.value_or.new.clock
+    (gone_on number run c.args.scope.now.limit c.loop-v.clock.spent c.loop-v.scene _ _ rest c.value_or.result c.in-Some.v c.value_or.new.clock
     c.value_or.new.scene c.in-Some.is (c.value_or.ensures.does run)
-    (turned run c.loop.clock.spent c.loop.scene (program_of c.args.scope.now.program.now) (objects_in c.args.scope.now)
+    (turned run c.loop-v.clock.spent c.loop-v.scene (program_of c.args.scope.now.program.now) (objects_in c.args.scope.now)
     (option_map (λ e. value_of e.now) c.args.test) (statement_of c.args.a.now) (option_map (λ e. value_of e.now) c.args.step) rest
-    (c.loop.invariant.leads run rest h))))
+    (c.loop-v.invariant.leads run rest h))))
 
 pub turns-returns-in_default-statement-clause-here : goal.turns-returns-in_default-statement-clause-here
 turns-returns-in_default-statement-clause-here t c = λ q none.
@@ -442,19 +443,19 @@ turns-returns-in-Some-left_by-clause-does t c = λ run rest h.
     (λ flow s. after_body flow s (λ s. stepped (program_of c.args.scope.now.program.now) (call_in (program_of c.args.scope.now.program.now))
     (objects_in c.args.scope.now) (option_map (λ e. value_of e.now) c.args.test) (statement_of c.args.a.now)
     (option_map (λ e. value_of e.now) c.args.step) s))) (λ s. Goes Normal s) rest test
-    (gone_on number run c.args.scope.now.limit c.loop.clock.spent c.loop.scene _ _ rest c.value_or.result c.in-Some.v c.value_or.new.clock
+    (gone_on number run c.args.scope.now.limit c.loop-v.clock.spent c.loop-v.scene _ _ rest c.value_or.result c.in-Some.v c.value_or.new.clock
     c.value_or.new.scene c.in-Some.is (c.value_or.ensures.does run)
-    (turned run c.loop.clock.spent c.loop.scene (program_of c.args.scope.now.program.now) (objects_in c.args.scope.now)
+    (turned run c.loop-v.clock.spent c.loop-v.scene (program_of c.args.scope.now.program.now) (objects_in c.args.scope.now)
     (option_map (λ e. value_of e.now) c.args.test) (statement_of c.args.a.now) (option_map (λ e. value_of e.now) c.args.step) rest
-    (c.loop.invariant.leads run rest h))))))
+    (c.loop-v.invariant.leads run rest h))))))
 
 pub turns-returns-in_default-value_or-clause-does : goal.turns-returns-in_default-value_or-clause-does
 turns-returns-in_default-value_or-clause-does t c = λ run rest h.
     let same : to_z w64 (of_z w64 c.in-Some.v) ≡ c.in-Some.v = search (rules, to_z-of_z) in
     let test : truth c.in-Some.v ≡ true = ap truth (sym same) ∙ sym c.is_true.ensures ∙ c.if-not-is_true.false in
     let is = sym c.left_by.ensures ∙ ap (option_map flow_of) c.in_default-left_by.is in
-    gone_none number run c.args.scope.now.limit c.statement.new.clock.spent c.statement.new.scene _ _ rest c.value_or-in-loop.result
-    c.value_or-in-loop.new.clock c.value_or-in-loop.new.scene c.in_default-value_or.is (c.value_or-in-loop.ensures.does run)
+    gone_none number run c.args.scope.now.limit c.statement.new.clock.spent c.statement.new.scene _ _ rest c.value_or-in-loop-v.result
+    c.value_or-in-loop-v.new.clock c.value_or-in-loop-v.new.scene c.in_default-value_or.is (c.value_or-in-loop-v.ensures.does run)
     (on run c.statement.new.clock.spent c.statement.new.scene (flow_of c.in-Some-statement.flow)
     (λ s. stepped (program_of c.args.scope.now.program.now) (call_in (program_of c.args.scope.now.program.now)) (objects_in c.args.scope.now)
     (option_map (λ e. value_of e.now) c.args.test) (statement_of c.args.a.now) (option_map (λ e. value_of e.now) c.args.step) s) rest is
@@ -465,26 +466,27 @@ turns-returns-in_default-value_or-clause-does t c = λ run rest h.
     (λ flow s. after_body flow s (λ s. stepped (program_of c.args.scope.now.program.now) (call_in (program_of c.args.scope.now.program.now))
     (objects_in c.args.scope.now) (option_map (λ e. value_of e.now) c.args.test) (statement_of c.args.a.now)
     (option_map (λ e. value_of e.now) c.args.step) s))) (λ s. Goes Normal s) rest test
-    (gone_on number run c.args.scope.now.limit c.loop.clock.spent c.loop.scene _ _ rest c.value_or.result c.in-Some.v c.value_or.new.clock
+    (gone_on number run c.args.scope.now.limit c.loop-v.clock.spent c.loop-v.scene _ _ rest c.value_or.result c.in-Some.v c.value_or.new.clock
     c.value_or.new.scene c.in-Some.is (c.value_or.ensures.does run)
-    (turned run c.loop.clock.spent c.loop.scene (program_of c.args.scope.now.program.now) (objects_in c.args.scope.now)
+    (turned run c.loop-v.clock.spent c.loop-v.scene (program_of c.args.scope.now.program.now) (objects_in c.args.scope.now)
     (option_map (λ e. value_of e.now) c.args.test) (statement_of c.args.a.now) (option_map (λ e. value_of e.now) c.args.step) rest
-    (c.loop.invariant.leads run rest h))))))
+    (c.loop-v.invariant.leads run rest h))))))
 
 pub turns-returns-in_default-value_or-clause-here : goal.turns-returns-in_default-value_or-clause-here
 turns-returns-in_default-value_or-clause-here t c = λ q none.
-    c.value_or-in-loop.ensures.here (and_parts (quick_or (option_map (λ e. value_of e.now) c.args.test) && quick_statement (statement_of c.args.a.now))
+    c.value_or-in-loop-v.ensures.here (and_parts (quick_or (option_map (λ e. value_of e.now) c.args.test) && quick_statement (statement_of c.args.a.now))
     (quick_or (option_map (λ e. value_of e.now) c.args.step)) q).1 c.in_default-value_or.is
 
-pub turns-loop-preserved : goal.turns-loop-preserved
-turns-loop-preserved t c =
+pub turns-loop-v-preserved : goal.turns-loop-v-preserved
+turns-loop-v-preserved t c =
     let same : to_z w64 (of_z w64 c.in-Some.v) ≡ c.in-Some.v = search (rules, to_z-of_z) in
     let test : truth c.in-Some.v ≡ true = ap truth (sym same) ∙ sym c.is_true.ensures ∙ c.if-not-is_true.false in
     let is = sym c.left_by.ensures ∙ ap (option_map flow_of) c.in_default-left_by.is in
     record {
+      spends = (omega (arith, c.loop-v.invariant.spends.0, c.value_or.ensures.spends.0, c.statement.ensures.spends.0, c.value_or-in-loop-v.ensures.spends.0), c.value_or-in-loop-v.ensures.spends.1);
       leads = λ run rest h. (gone_on number run c.args.scope.now.limit c.statement.new.clock.spent c.statement.new.scene _ _ rest
-          c.value_or-in-loop.result c.in-Some-value_or.field-0 c.value_or-in-loop.new.clock c.value_or-in-loop.new.scene c.in-Some-value_or.is
-          (c.value_or-in-loop.ensures.does run)
+          c.value_or-in-loop-v.result c.in-Some-value_or.field-0 c.value_or-in-loop-v.new.clock c.value_or-in-loop-v.new.scene c.in-Some-value_or.is
+          (c.value_or-in-loop-v.ensures.does run)
           (on run c.statement.new.clock.spent c.statement.new.scene (flow_of c.in-Some-statement.flow)
           (λ s. stepped (program_of c.args.scope.now.program.now) (call_in (program_of c.args.scope.now.program.now))
           (objects_in c.args.scope.now) (option_map (λ e. value_of e.now) c.args.test) (statement_of c.args.a.now)
@@ -496,9 +498,9 @@ turns-loop-preserved t c =
           (λ flow s. after_body flow s (λ s. stepped (program_of c.args.scope.now.program.now) (call_in (program_of c.args.scope.now.program.now))
           (objects_in c.args.scope.now) (option_map (λ e. value_of e.now) c.args.test) (statement_of c.args.a.now)
           (option_map (λ e. value_of e.now) c.args.step) s))) (λ s. Goes Normal s) rest test
-          (gone_on number run c.args.scope.now.limit c.loop.clock.spent c.loop.scene _ _ rest c.value_or.result c.in-Some.v c.value_or.new.clock
+          (gone_on number run c.args.scope.now.limit c.loop-v.clock.spent c.loop-v.scene _ _ rest c.value_or.result c.in-Some.v c.value_or.new.clock
           c.value_or.new.scene c.in-Some.is (c.value_or.ensures.does run)
-          (turned run c.loop.clock.spent c.loop.scene (program_of c.args.scope.now.program.now) (objects_in c.args.scope.now)
+          (turned run c.loop-v.clock.spent c.loop-v.scene (program_of c.args.scope.now.program.now) (objects_in c.args.scope.now)
           (option_map (λ e. value_of e.now) c.args.test) (statement_of c.args.a.now) (option_map (λ e. value_of e.now) c.args.step) rest
-          (c.loop.invariant.leads run rest h)))))));
+          (c.loop-v.invariant.leads run rest h)))))));
     }

@@ -1,11 +1,11 @@
-use Rattle.std.proofs.Common.{◌≡◌, ◌+◌, ◌≤◌, map, length, option_map}
+use Rattle.std.proofs.Common.{◌≡◌, ◌+◌, ◌-◌, ◌≤◌, map, length, option_map}
 use Rattle.std.specs.Prelude.{true}
 use Rattle.typed_ast.specs.View.{statement_of, statements_of, value_of, program_of}
 use Rattle.csem.specs.Machine.{State, Run}
 use Rattle.csem.specs.Statements.{Flow}
 use Rattle.interp_store.specs.layer.Frames.{Found}
 use Rattle.interp_store.specs.layer.Presents.{call_in, loop}
-use Rattle.interp_eval.specs.layer.Comes.{Course, Leads, all_executed, objects_in}
+use Rattle.interp_eval.specs.layer.Comes.{Course, Leads, Spends, all_executed, objects_in}
 use Rattle.interp_eval.specs.layer.Quick.{quick_all}
 use Rattle.interp_eval.proofs.Work.{work_statement, work_all}
 use Rattle.interp_eval.proofs.statements.+execute.Given as goal
@@ -48,6 +48,7 @@ decreases-all_of-loop-a l = length l.rest
 
 abbrev pub invariant-all_of-loop-a : goal.invariant-all_of-loop-a
 invariant-all_of-loop-a l = record {
+  spends : Spends l.initial.clock.spent l.clock.spent l.scope.limit;
   below : work_all (statements_of (map statement_of l.rest)) ≤ work_all (statements_of (map statement_of l.all));
   here : quick_all (statements_of (map statement_of l.all)) ≡ true → quick_all (statements_of (map statement_of l.rest)) ≡ true;
   leads : (c : Course) (rest : Flow → State → Run Found) →
@@ -55,10 +56,14 @@ invariant-all_of-loop-a l = record {
       Leads c l.clock.spent l.scene (all_executed (objects_in l.scope) (statements_of (map statement_of l.rest)) (program_of l.scope.program.now)) rest;
 }
 
-abbrev pub invariant-turns-loop : goal.invariant-turns-loop
-invariant-turns-loop l = record {
+abbrev pub invariant-turns-loop-v : goal.invariant-turns-loop-v
+invariant-turns-loop-v l = record {
+  spends : Spends l.initial.clock.spent l.clock.spent l.scope.limit;
   leads : (c : Course) (rest : Flow → State → Run Found) →
       let p = program_of l.scope.program.now in
       let part : State → Run Flow = λ s. loop p (call_in p) (objects_in l.scope) (option_map (λ e. value_of e.now) l.test) (statement_of l.a) (option_map (λ e. value_of e.now) l.step) s in
       Leads c l.initial.clock.spent l.initial.scene part rest → Leads c l.clock.spent l.scene part rest;
 }
+
+abbrev pub decreases-turns-loop-v : goal.decreases-turns-loop-v
+decreases-turns-loop-v l = l.scope.limit - l.clock.spent

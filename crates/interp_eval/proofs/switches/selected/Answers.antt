@@ -1,4 +1,4 @@
-use Rattle.std.proofs.Common.{rules, ◌≡◌, suc, sym, ap, refl, ◌∙◌, to_z, of_z, w64, length, map}
+use Rattle.std.proofs.Common.{rules, arith, ◌≡◌, suc, sym, ap, refl, ◌∙◌, to_z, of_z, w64, length, map}
 use Rattle.std.proofs.Math.Facts.{to_z-of_z}
 use Rattle.std.specs.Prelude.{true, false}
 use Rattle.typed_ast.specs.View.{statement_of, statements_of}
@@ -12,6 +12,7 @@ use Rattle.interp_eval.proofs.switches.selected.Goals as goal
 
 pub loop-a-init : goal.loop-a-init
 loop-a-init c = record {
+  spends = (omega arith, c.requires.room);
   left = (0, refl);
   passed = (length c.args.all.now, no_part c.args.all.now);
   leads = λ run scene rest h. chooses_all run c.args.clock.now.spent scene (to_z w64 (of_z w64 c.args.value)) rest (statements_of (map statement_of c.args.all.now)) h;
@@ -49,6 +50,7 @@ loop-a-preserved-else-same_value c =
     let l = c.loop-a in
     let test : same_value c.in-Case.c v ≡ false = ap (λ w. same_value w v) (sym sw) ∙ sym c.same_value.ensures ∙ c.if-same_value.false in
     record {
+      spends = (omega (arith, l.invariant.spends.0, c.tick.ensures.spends.0), c.tick.ensures.spends.1);
       left = (suc l.invariant.left.0, next_part l.invariant.left.0 c.args.all.now l.rest.now c.in-Some.a.now c.in-Some.more.now l.invariant.left.1 c.in-Some.ensures.cases.0);
       passed = l.invariant.passed;
       leads = λ run scene rest h. chose run c.tick.new.self.spent scene (same_value c.in-Case.c v) false (λ s. Goes (statements_of (map statement_of l.rest.now)) s)
@@ -63,6 +65,7 @@ loop-a-preserved-in-Default c =
     let v = to_z w64 (of_z w64 c.args.value) in
     let l = c.loop-a in
     record {
+      spends = l.invariant.spends;
       left = (suc l.invariant.left.0, next_part l.invariant.left.0 c.args.all.now l.rest.now c.in-Some.a.now c.in-Some.more.now l.invariant.left.1 c.in-Some.ensures.cases.0);
       passed = l.invariant.left;
       leads = λ run scene rest h. at_default run l.clock.spent scene v rest l.rest.now c.in-Some.a.now c.in-Some.more.now (statements_of (map statement_of l.default.now)) c.in-Some.ensures.cases.0
@@ -74,6 +77,7 @@ loop-a-preserved c =
     let v = to_z w64 (of_z w64 c.args.value) in
     let l = c.loop-a in
     record {
+      spends = l.invariant.spends;
       left = (suc l.invariant.left.0, next_part l.invariant.left.0 c.args.all.now l.rest.now c.in-Some.a.now c.in-Some.more.now l.invariant.left.1 c.in-Some.ensures.cases.0);
       passed = l.invariant.passed;
       leads = λ run scene rest h. at_none run l.clock.spent scene v rest l.rest.now c.in-Some.a.now c.in-Some.more.now (statements_of (map statement_of l.default.now)) c.in-Some.ensures.cases.0

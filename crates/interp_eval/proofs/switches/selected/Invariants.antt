@@ -5,7 +5,7 @@ use Rattle.typed_ast.specs.View.{statement_of, statements_of}
 use Rattle.csem.specs.Machine.{State, Run}
 use Rattle.interp_store.specs.declared.scene.Scene.{Scene}
 use Rattle.interp_store.specs.layer.Frames.{Found}
-use Rattle.interp_eval.specs.layer.Comes.{Course, Leads, selected}
+use Rattle.interp_eval.specs.layer.Comes.{Course, Leads, Spends, selected}
 use Rattle.interp_eval.proofs.Jumps.{choosing}
 use Rattle.interp_eval.proofs.switches.selected.Given as goal
 
@@ -14,6 +14,7 @@ decreases-loop-a l = length l.rest
 
 abbrev pub invariant-loop-a : goal.invariant-loop-a
 invariant-loop-a l = record {
+  spends : Spends l.initial.clock.spent l.clock.spent l.scope.limit;
   left : (k : ℕ) × (l.rest ≡ drop k l.all);
   passed : (k : ℕ) × (l.default ≡ drop k l.all);
   leads : (c : Course) (scene : Scene) (rest : typed.Statements → State → Run Found) →
