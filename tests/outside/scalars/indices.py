@@ -30,7 +30,7 @@ class Maker:
         self.arrays.append((name, length, rows))
         before = '%schar %s[%d];\n' % (storage, self.name('z'), filler) if filler and not rows else ''
         sizes = '[%d][%d]' % (rows, length) if rows else '[%d]' % length
-        return before + '%s%s %s%s%s;\n' % (storage, kind, name, sizes, '' if storage else ' = { 0 }')
+        return before + '%s%s %s%s%s;\n' % (storage, kind, name, sizes, '' if storage else ' = { { 0 } }' if rows else ' = { 0 }')
 
     def index(self, names, length):
         """A subscript below the length."""
