@@ -1,3 +1,4 @@
+#!/bin/bash
 # Sources for build_lines.sh, which reads this file, and for table.py, for which `bash bench/lines.sh KIND N` writes one to standard output.
 
 # functions N: N lines, in functions of 20 lines.
