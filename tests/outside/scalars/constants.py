@@ -1,8 +1,6 @@
 #!/usr/bin/env python3
 """Writes programs whose loops use constants that no instruction can have in itself: `constants.py COUNT SEED >constants.txt`. Functions have no to
 twelve variables and no to ten parameters, so that the room of their frames differs; unsigned numbers, so that all is defined."""
-import random
-import subprocess
 import sys
 
 import outsiders
@@ -66,23 +64,5 @@ class Maker:
                 '    return (sum ^ sum >> 8 ^ sum >> 16 ^ sum >> 24) & 127u;\n}\n' % (functions, call))
 
 
-def main(count, seed):
-    chance, made = random.Random(seed), 0
-    print('# Written by tests/outside/scalars/constants.py %d %d; statuses are those of gcc -O0 and clang -O1 with their sanitizers, and of gcc -O2,\n# for RV32IM under qemu-riscv32.' % (count, seed))
-    while made < count:
-        source = Maker(chance).program()
-        ending, output, spent = ticks.Machine(source).run(60000, b'')
-        if ending[0] != 'ended' or spent < 600:
-            continue
-        try:
-            agreed = outsiders.all_of_them(source, b'') == [(ending[1], output)]
-        except subprocess.CalledProcessError:
-            continue
-        if agreed:
-            made += 1
-            print('=== constants_%d | %d | %d | - | -' % (made, ending[1], spent))
-            print(source, end='', flush=True)
-
-
 if __name__ == '__main__':
-    ticks.deep(lambda: main(int(sys.argv[1]), int(sys.argv[2])))
+    ticks.deep(lambda: outsiders.write('constants', Maker, 600, int(sys.argv[1]), int(sys.argv[2])))

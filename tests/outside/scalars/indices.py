@@ -1,8 +1,6 @@
 #!/usr/bin/env python3
 """Writes programs that read and write elements by subscripts that change: `indices.py COUNT SEED >indices.txt`. Arrays are static or automatic, of all
 element types, of one and of two rows, near and far from the first static and from the frame's start; all is defined by construction."""
-import random
-import subprocess
 import sys
 
 import outsiders
@@ -104,23 +102,5 @@ class Maker:
                 '    return (sum ^ sum >> 8 ^ sum >> 16 ^ sum >> 24) & 127u;\n}\n' % (statics, first, second, self.call('f', ones), self.call('g', others)))
 
 
-def main(count, seed):
-    chance, made = random.Random(seed), 0
-    print('# Written by tests/outside/scalars/indices.py %d %d; statuses are those of gcc -O0 and clang -O1 with their sanitizers, and of gcc -O2,\n# for RV32IM under qemu-riscv32.' % (count, seed))
-    while made < count:
-        source = Maker(chance).program()
-        ending, output, spent = ticks.Machine(source).run(60000, b'')
-        if ending[0] != 'ended' or spent < 300:
-            continue
-        try:
-            agreed = outsiders.all_of_them(source, b'') == [(ending[1], output)]
-        except subprocess.CalledProcessError:
-            continue
-        if agreed:
-            made += 1
-            print('=== indices_%d | %d | %d | - | -' % (made, ending[1], spent))
-            print(source, end='', flush=True)
-
-
 if __name__ == '__main__':
-    ticks.deep(lambda: main(int(sys.argv[1]), int(sys.argv[2])))
+    ticks.deep(lambda: outsiders.write('indices', Maker, 300, int(sys.argv[1]), int(sys.argv[2])))
