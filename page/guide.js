@@ -11,10 +11,14 @@ import * as sources from './sources.js';
 import * as tabs from './tabs.js';
 import { startsOf } from './table.js';
 
-// What is looked at in each step of docs/TOUR.md.
+// The address of which a step of the tour speaks.
+const addressIn = step => Number(/0x1[0-9a-f]{4}\b/.exec(step.parts.map(part => part.text ?? '').join(' '))[0]);
+
+// What is looked at in each step of docs/TOUR.md; `behind`: the machine has executed the word at this address.
 const WALK = [
   { tab: 'tokens', line: 4 }, { tab: 'tokens', line: 4 }, { tab: 'tokens', line: 4 }, { tab: 'forms', form: 1, line: 4 }, { tab: 'forms', form: 2, line: 4 },
-  { tab: 'forms', form: 3, line: 4 }, { tab: 'listing', word: 0x1101c }, { tab: 'listing', word: 0x1101c }, { tab: 'machine', step: 6 }, { tab: 'machine', step: 13 }, { tab: 'both' },
+  { tab: 'forms', form: 3, line: 4 }, { tab: 'listing', word: addressIn(tour[7]) }, { tab: 'listing', word: addressIn(tour[7]) }, { tab: 'machine', behind: addressIn(tour[8]) },
+  { tab: 'machine', behind: addressIn(tour[9]) }, { tab: 'both' },
 ];
 let at = 0, take = async () => {};
 
@@ -28,12 +32,19 @@ async function runTo(line) {
   await running.runTo(startsOf(session.table, place(line)));
 }
 
-async function look({ tab, form, line, word, step, until, end, verify }) {
+// Runs to a word, and executes it.
+async function runBehind(address) {
+  await running.go(0);
+  await running.runTo([address]);
+  await running.go(session.seen.steps + 1);
+}
+
+async function look({ tab, form, line, word, behind, until, end, verify }) {
   if (verify && !$('verify').checked) { $('verify').checked = true; $('verify').onchange(); }
   if (form !== undefined) $('form').value = String(form);
   tabs.choose(tab);
   if (tab === 'forms') await forms.show();
-  if (step !== undefined) await running.go(step);
+  if (behind !== undefined) await runBehind(behind);
   if (until !== undefined) await runTo(until);
   if (end) await running.runTo([]);
   if (line !== undefined) joined.mark(place(line), 'guide');

@@ -2,11 +2,11 @@
 import { $, button, element, hex, row } from './dom.js';
 import { session } from './session.js';
 import * as joined from './joined.js';
-import { computed, fields, offsetOf, operands, target, withNames } from './words.js';
+import { computed, fields, globalPointer, offsetOf, operands, target, withNames } from './words.js';
 import { nameAt, placeAt } from './table.js';
 
 const SHOWN = 4000;      // words; a longer listing is the program's to show
-let lines = [], rows = new Map();          // lines: { address, word, says }
+let lines = [], rows = new Map(), gp;          // lines: { address, word, says }
 let runTo = () => {}, breakAt = () => {};
 
 export function begin(ways) {
@@ -19,7 +19,7 @@ const labelOf = address => nameAt(session.table, address) ?? `.L${hex(address).r
 
 // An instruction with names: those of registers where they are wanted, the label of a branch, and what it refers to.
 function said(k) {
-  const line = lines[k], to = target(line), at = computed(lines[k - 1], line);
+  const line = lines[k], to = target(line), at = computed(lines[k - 1], line, gp);
   const instruction = to === undefined ? line.says : line.says.replace(/-?\d+$/, labelOf(to));
   const name = at === undefined ? undefined : nameAt(session.table, at);
   return `${$('abi').checked ? withNames(instruction) : instruction}${name ? `  # ${name}` : ''}`;
@@ -56,6 +56,7 @@ function showLines() {
 export function showListing(text) {
   lines = text.trimEnd().split('\n').map(line => /^(\S+) (\S+)\s*(.*)$/.exec(line)).filter(Boolean)
     .map(([, address, word, says]) => ({ address: parseInt(address, 16), word: parseInt(word, 16), says }));
+  gp = globalPointer(lines);
   showLines();
   $('listing-rest').textContent = lines.length > SHOWN ? `${lines.length - SHOWN} more words: zkc list shows all.` : '';
   $('word').hidden = true;
@@ -92,7 +93,7 @@ function where({ address, word }) {
 }
 
 function showWord(index) {
-  const line = lines[index], to = target(line) ?? computed(lines[index - 1], line), parts = fields(line.word);
+  const line = lines[index], to = target(line) ?? computed(lines[index - 1], line, gp), parts = fields(line.word);
   $('word').hidden = false;
   $('word-name').textContent = `${hex(line.address)}: ${said(index)}`;
   $('word-where').textContent = where(line);

@@ -158,16 +158,9 @@ export const isInScope = (one, place) => one.isParameter || one.from === undefin
 
 // ---- the machine's way beside it
 
-// The number of the next event that begins a statement or enters a function, from one on.
-function opens(events, from) {
-  let at = from;
-  while (at < events.length && events[at].event !== 'statement' && events[at].event !== 'enter') at++;
-  return at;
-}
-
 // The number of the events up to the place to which a machine has come, by the places at which statements begin that it met, in order:
-// each { enters } a function or begins a statement at { file, line }. A function may have code before its first statement, at its own line, of which
-// no event tells. Nothing where the two go apart.
+// each { enters } a function or begins a statement at { file, line }. A statement may have no code, so that the machine does not come to it; and a function
+// may have code before its first statement, at its own line, of which no event tells. Nothing where the two go apart.
 export function follow(events, arrivals) {
   let at = 0, place = [], isOpening = false;
   const pass = event => {
@@ -179,14 +172,12 @@ export function follow(events, arrivals) {
     const isHere = event => arrival.enters !== undefined ? event.event === 'enter' && event.function === arrival.enters : event.event === 'statement' && event.file === arrival.file && event.line === arrival.line;
     const now = place.at(-1);
     if (arrival.enters === undefined && now && isHere(now)) continue;
-    if (isOpening && arrival.enters === undefined && !isHere(events[opens(events, at)] ?? {})) continue;
-    isOpening = arrival.enters !== undefined;
     let next = at;
-    while (next < events.length && !isHere(events[next])) {
-      if (events[next].event === 'enter') return undefined;
-      next++;
-    }
-    if (next >= events.length) return undefined;
+    while (next < events.length && !isHere(events[next]) && events[next].event !== 'enter') next++;
+    const isFound = next < events.length && isHere(events[next]);
+    if (!isFound && isOpening && arrival.enters === undefined) continue;
+    if (!isFound) return undefined;
+    isOpening = arrival.enters !== undefined;
     for (; at <= next; at++) pass(events[at]);
     if (arrival.enters !== undefined) while (events[at]?.event === 'set') at++;      // its parameters
   }

@@ -30,14 +30,25 @@ export function target({ address, word }) {
   return undefined;
 }
 
-// The address that a word computes with the auipc or the lui before it, from whose register it reads: that of a callee or of an object.
-export function computed(before, { word }) {
-  const base = before && { 0x17: before.address, 0x37: 0 }[before.word & 127];
-  if (base === undefined) return undefined;
-  const rd = before.word >>> 7 & 31, rs1 = word >>> 15 & 31, opcode = word & 127;
-  const low = opcode === 0x23 ? word >> 25 << 5 | word >>> 7 & 31 : word >> 20;
-  if (rd !== rs1 || ![0x13, 0x67, 0x03, 0x23].includes(opcode) || opcode === 0x13 && (word >>> 12 & 7) !== 0) return undefined;
-  return base + (before.word & 0xfffff000) + low >>> 0;
+// What a word adds to the register that it reads: the immediate of an addition, a load, a store or a jump through a register.
+function added({ word }) {
+  const opcode = word & 127;
+  if (![0x13, 0x67, 0x03, 0x23].includes(opcode) || opcode === 0x13 && (word >>> 12 & 7) !== 0) return undefined;
+  return { rs1: word >>> 15 & 31, low: opcode === 0x23 ? word >> 25 << 5 | word >>> 7 & 31 : word >> 20 };
+}
+
+// The address that a word computes, of a callee or of an object: with the auipc or the lui before it, from whose register it reads, or from gp, where that is known.
+export function computed(before, line, gp) {
+  const found = added(line), base = before && { 0x17: before.address, 0x37: 0 }[before.word & 127];
+  if (!found) return undefined;
+  if (base !== undefined && (before.word >>> 7 & 31) === found.rs1) return base + (before.word & 0xfffff000) + found.low >>> 0;
+  return found.rs1 === 3 && gp !== undefined ? gp + found.low >>> 0 : undefined;
+}
+
+// What gp has, by the words of the program's start that set it.
+export function globalPointer(lines) {
+  const k = lines.findIndex(({ word }) => (word & 0xfff) === 0x1b7);      // lui x3
+  return k < 0 || k + 1 >= lines.length ? undefined : computed(lines[k], lines[k + 1]);
 }
 
 const ROLES = [[/^zero$/, 'always 0'], [/^ra$/, 'the return address'], [/^sp$/, 'the stack pointer'], [/^gp$/, 'the global pointer, 2048 bytes past the begin of the data'],

@@ -43,9 +43,9 @@ const SEEN = [
   [`all('#form-nodes .joined').some(one => one.textContent.startsWith('binary + int'))`],
   [`/Add.*Constant\\(70\\).*Constant\\(2\\)/.test($('form-nodes').textContent)`],
   [`$('word-bits').textContent === '00000100011000000000001010010011'`],
-  [`/offset 0000101C, as the bytes 93 02 60 04/.test($('word-where').textContent)`],
+  [`/offset 00001024, as the bytes 93 02 60 04/.test($('word-where').textContent)`],
   [`/t0 {3}00000046/.test($('registers').textContent)`, `$('next-instruction').textContent === 'addi x10,x5,2'`],
-  [`$('output').textContent === 'H'`, `/pc 0001103C/.test($('where').textContent)`],
+  [`$('output').textContent === 'H'`, `/pc 00011044/.test($('where').textContent)`],
   [`/^They agree: the abstract machine ends within 11 ticks .* 42, having put the same 1 bytes/.test($('agree').textContent)`],
 ];
 

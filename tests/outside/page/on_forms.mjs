@@ -40,7 +40,7 @@ async function shown(reader) {
 
 const joinedWords = `all('#listing-lines tr.joined .word').map(one => one.textContent).join(' ')`;
 // The words between the first of line 4 and the first of line 5, by docs/TOUR.md.
-const LINE_4 = Array.from({ length: 13 }, (_, k) => (0x1101c + 4 * k).toString(16).toUpperCase().padStart(8, '0')).join(' ');
+const LINE_4 = Array.from({ length: 13 }, (_, k) => (0x11024 + 4 * k).toString(16).toUpperCase().padStart(8, '0')).join(' ');
 
 async function joined(reader) {
   const { page } = reader;
@@ -65,23 +65,23 @@ async function joined(reader) {
     reader.check(`the cursor's line is marked in form ${form}`, code.test(marked), marked);
   }
   await reader.at(`$('source').setSelectionRange(75, 75); $('source').dispatchEvent(new Event('click'))`);
-  reader.check('the line of the cursor is marked in the listing', /^00011050 /.test(await reader.at(joinedWords)), await reader.at(joinedWords));
+  reader.check('the line of the cursor is marked in the listing', /^00011058 /.test(await reader.at(joinedWords)), await reader.at(joinedWords));
 }
 
 async function listing(reader) {
   const { page } = reader;
   await reader.example('tour');
   await page.click('tab-listing');
-  await reader.at(`all('#listing-lines .word')[7].focus()`);
-  reader.check('a word is told by its place in the file', /offset 0000101C, as the bytes 93 02 60 04/.test(await page.told('word-where')), await page.told('word-where'));
+  await reader.at(`all('#listing-lines .word')[9].focus()`);
+  reader.check('a word is told by its place in the file', /offset 00001024, as the bytes 93 02 60 04/.test(await page.told('word-where')), await page.told('word-where'));
   reader.check('and by its bits', (await page.told('word-bits')) === '000001000110' + '00000' + '000' + '00101' + '0010011', await page.told('word-bits'));
   reader.check('its statement is told', /tour\.c:4/.test(await page.told('word-where')));
   reader.check('what x5 is', /x5 is t0: a temporary/.test(await page.told('word-says')), await page.told('word-says'));
   await page.key('ArrowDown', 40);
-  reader.check('an arrow goes to the next word', /^00011020:/.test(await page.told('word-name')), await page.told('word-name'));
-  reader.check('functions and labels have lines of their own', (await reader.at(`all('#listing-lines tr.label').map(one => one.textContent).join(' ')`)) === 'main: .L11050: .L11060:', await reader.at(`all('#listing-lines tr.label').map(one => one.textContent).join(' ')`));
+  reader.check('an arrow goes to the next word', /^00011028:/.test(await page.told('word-name')), await page.told('word-name'));
+  reader.check('functions and labels have lines of their own', (await reader.at(`all('#listing-lines tr.label').map(one => one.textContent).join(' ')`)) === 'main: .L11058: .L11068:', await reader.at(`all('#listing-lines tr.label').map(one => one.textContent).join(' ')`));
   reader.check('a call has the name of what it calls', /jalr x1,16\(x1\) {2}# main/.test(await page.told('listing-lines')));
-  reader.check('a branch has its label', /beq x10,x0,\.L11050/.test(await page.told('listing-lines')));
+  reader.check('a branch has its label', /beq x10,x0,\.L11058/.test(await page.told('listing-lines')));
   await reader.tick('abi', true);
   reader.check('registers have their names where wanted', /addi t0,zero,70/.test(await page.told('listing-lines')));
   await reader.tick('abi', false);
