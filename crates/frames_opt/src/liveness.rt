@@ -114,7 +114,7 @@ fn mask_at(masks: &[u8], number: usize) -> u8
     }
 }
 
-fn dead_at(masks: &[u8], at: usize, number: usize) -> bool
+pub fn dead_at(masks: &[u8], at: usize, number: usize) -> bool
     ensures { result ≡ liveness.dead_at masks.now at number }
 {
     is_dead(mask_at(masks, at), number)
