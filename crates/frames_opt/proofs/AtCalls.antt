@@ -12,7 +12,7 @@ use Rattle.frames_opt.specs.inside.Facts.{known_of, room_of}
 use Rattle.frames_opt.specs.inside.Rules.{simpler_operand, simpler}
 use Rattle.frames_opt.specs.inside.Liveness.{reads, dead_at}
 use Rattle.frames_opt.proofs.Alike.{same_some, over, Agree, same_where_read}
-use Rattle.frames_opt.proofs.Positions.{compute_form, element_form}
+use Rattle.frames_opt.proofs.Positions.{carried_form, compute_form, element_form}
 use Rattle.frames_opt.proofs.Runs.{Position, IsSimpler, dead, reached}
 
 -- it calls, or returns
@@ -39,13 +39,13 @@ Stays x = Leaves x → ⊥
 -- no other instruction becomes one of these
 stays : (area : ℕ) (facts : List Known) (x : Instruction) → Leaves (simpler area facts x) → simpler area facts x ≡ x
 stays area facts instruction.Nothing h = absurd h
-stays area facts (instruction.Move d x) h = absurd h
+stays area facts (instruction.Move d x) h = absurd (carried_form Stays d (simpler_operand facts x) (λ no. no) (λ no. no) h)
 stays area facts (instruction.Compute o d x y) h = absurd (compute_form Stays o d (λ o2 x2 y2 no. no) (simpler_operand facts x) (simpler_operand facts y) h)
 stays area facts (instruction.Convert c d x) h = absurd h
 stays area facts (instruction.Load w d l) h = absurd h
 stays area facts (instruction.Store w x l) h = absurd h
 stays area facts (instruction.Address d l) h = absurd h
-stays area facts (instruction.Element d x y size) h = absurd (element_form Stays d x size (λ y2 no. no) (λ o no. no) (λ o no. no) area (known_of facts x) (simpler_operand facts y) h)
+stays area facts (instruction.Element d x y size) h = absurd (element_form Stays d x size (λ no. no) (λ no. no) (λ y2 no. no) (λ o no. no) (λ o no. no) area (known_of facts x) (simpler_operand facts y) h)
 stays area facts (instruction.Jump to) h = absurd h
 stays area facts (instruction.Branch t x y to) h = absurd h
 stays area facts (instruction.Call f) h = refl
