@@ -11,6 +11,7 @@ use Rattle.rv32.specs.Arithmetic.{compare_of, operate_of}
 use Rattle.frames_code.specs.declared.code.Operand.{Operand}
 use Rattle.frames_code.specs.declared.code.Operand.TheVariants as operand
 use Rattle.frames_code.specs.declared.code.Target.{Target}
+use Rattle.frames_code.specs.declared.code.Target.TheVariants as target
 use Rattle.frames_code.specs.declared.code.Base.{Base}
 use Rattle.frames_code.specs.declared.code.Base.TheVariants as base
 use Rattle.frames_code.specs.declared.code.Location.{Location}
@@ -20,11 +21,11 @@ use Rattle.frames_code.specs.declared.code.Operation.TheVariants as operation
 use Rattle.frames_code.specs.declared.code.Instruction.{Instruction}
 use Rattle.frames_code.specs.declared.code.Instruction.TheVariants as instruction
 use Rattle.frames_code.specs.Code.{Program, area_home}
-use Rattle.frames_code.specs.Run.{Value, Values, State, Progress, running, word, reference, value, word_at, word_in, reference_in, set, next, past, goes_to, Reference, place, base_of, indexed, gives, gives_word, operate, loaded, stored, act, function_at, name_of, ◌>>=◌}
+use Rattle.frames_code.specs.Run.{Value, Values, State, Progress, running, ended, stuck, word, reference, value, word_at, word_in, reference_in, set, with_at, next, past, goes_to, Reference, place, base_of, indexed, gives, gives_word, operate, loaded, stored, act, function_at, name_of, ◌>>=◌}
 use Rattle.frames_opt.specs.declared.facts.Known.{Known}
 use Rattle.frames_opt.specs.declared.facts.Known.TheVariants as known
-use Rattle.frames_opt.specs.inside.Facts.{held, known_of, is_index}
-use Rattle.frames_opt.specs.inside.Rules.{constant_or, simpler_operand, location_or, simpler_location, commutes, with_constant, with_power, is_power, with_word, arranged, compute, statics_or, frame_or, numbered, simpler_element, simpler}
+use Rattle.frames_opt.specs.inside.Facts.{held, known_of, is_target, is_index}
+use Rattle.frames_opt.specs.inside.Rules.{constant_or, simpler_operand, location_or, simpler_location, carried, commutes, with_constant, with_power, is_power, with_word, arranged, compute, stepped, statics_or, frame_or, numbered, simpler_element, simpler}
 
 -- ---- known facts hold of a value, where the frame has a name, its arrays begin `home` bytes above its start, and its words and temporaries are c and t
 
@@ -67,6 +68,40 @@ bind_same (Some x) f g e = e x
 
 pub binds_same : {A : Type 0} (u o : Option A) (f g : A → Progress) → u ≡ o → ((x : A) → f x ≡ g x) → (u >>= f) ≡ (o >>= g)
 binds_same u o f g e each = ap (λ z. z >>= f) e ∙ bind_same o f g each
+
+-- ---- the second does what the first does, and may have more arguments left; nothing is asked of it where the first is stuck
+
+pub record Keeps (s : State) (z : Progress) : Type 0 where
+  pub given : Values
+  pub is : z ≡ running (record s { arguments = given })
+  pub more : (k : ℕ) (v : Value) → s.arguments k ≡ Some v → given k ≡ Some v
+
+abbrev pub Follows : Progress → Progress → Type 0
+Follows (running s) z = Keeps s z
+Follows (ended status input trace) z = z ≡ ended status input trace
+Follows stuck z = Unit {0}
+
+pub follows_same : (x z : Progress) → z ≡ x → Follows x z
+follows_same (running s) z e = record { given = s.arguments; is = e; more = λ k v h. h }
+follows_same (ended status input trace) z e = e
+follows_same stuck z e = tt
+
+follows_on : (x y z : Progress) → Follows x y → Follows y z → Follows x z
+follows_on (running s) y z one two =
+    let next : Keeps (record s { arguments = one.given }) z = subst (λ w. Follows w z) one.is two in
+    record { given = next.given; is = next.is; more = λ k v h. next.more k v (one.more k v h) }
+follows_on (ended status input trace) y z one two = subst (λ w. Follows w z) one two
+follows_on stuck y z one two = tt
+
+none_some : (v : Value) → None ≡ Some v → ⊥
+none_some v e = let x : ⊥ = cc in x
+
+put_back : (m : Values) (k : ℕ) (v : Value) → m k ≡ Some v → with_at m k v ≡ m
+put_back m k v e = let each : (j : ℕ) → with_at m k v j ≡ m j = λ j. on j (j == k) refl in λ i j. each j i
+  where
+    on : (j : ℕ) (t : Bool) → (j == k) ≡ t → (if j == k then Some v else m j) ≡ m j
+    on j true u = rw u (sym e ∙ ap m (sym (eqb-true j k u)))
+    on j false u = rw u refl
 
 -- ---- operations
 
@@ -241,30 +276,77 @@ module _ (p : Program) (s : State) where
   abbrev addressed : Target → (list offset : ℕ) → Progress
   addressed d list offset = gives d s (reference list offset)
 
-  statics_same : (d : Target) (x : Operand) (n size o : ℕ) (t : Bool) → value s x ≡ Some (reference 0 o)
-      → does (statics_or (if t then Some (o + n * size) else None) d x n size) ≡ does (instruction.Element d x (operand.Constant n) size)
-  statics_same d x n size o false e = refl
-  statics_same d x n size o true e = ap (λ v. reference_in v >>= λ r. addressed d r.list (r.offset + n * size)) (sym e)
+  back_same : (d : Target) (x : Operand) → is_target d x ≡ true → (v : Value) → value s x ≡ Some v → running (past s) ≡ running (set d v (past s))
+  back_same (target.Temporary j) (operand.Temporary k) e v h = ap (λ (m : Values). running (record (past s) { temporaries = m })) (sym (put_back s.temporaries j v (ap s.temporaries (eqb-true j k e) ∙ h)))
+  back_same (target.Temporary j) (operand.Cell c) e v h = absurd (not_true e)
+  back_same (target.Temporary j) (operand.Constant w) e v h = absurd (not_true e)
+  back_same (target.Temporary j) (operand.Argument k) e v h = absurd (not_true e)
+  back_same (target.Cell c) (operand.Temporary k) e v h = absurd (not_true e)
+  back_same (target.Cell c) (operand.Cell k) e v h =
+      ap (λ (m : Values). running (record s { frame = record s.frame { at = s.frame.at + 1; cells = m } })) (sym (put_back s.frame.cells c v (ap s.frame.cells (eqb-true c k e) ∙ h)))
+  back_same (target.Cell c) (operand.Constant w) e v h = absurd (not_true e)
+  back_same (target.Cell c) (operand.Argument k) e v h = absurd (not_true e)
 
-  frame_same : (d : Target) (x : Operand) (n size o : ℕ) (t : Bool) → value s x ≡ Some (reference name (home + o))
-      → does (frame_or (if t then Some (o + n * size) else None) d x n size) ≡ does (instruction.Element d x (operand.Constant n) size)
-  frame_same d x n size o false e = refl
-  frame_same d x n size o true e =
+  carried_follows : (d : Target) (x : Operand) → Follows (does (instruction.Move d x)) (does (carried d x))
+  carried_follows d x = on (is_target d x) refl
+    where
+      itself : is_target d x ≡ true → (o : Option Value) → value s x ≡ o → Follows (o >>= λ v. running (set d v (past s))) (running (past s))
+      itself e None h = tt
+      itself e (Some v) h = follows_same (running (set d v (past s))) (running (past s)) (back_same d x e v h)
+
+      on : (t : Bool) → is_target d x ≡ t → Follows (does (instruction.Move d x)) (does (if t then instruction.Nothing else instruction.Move d x))
+      on true e = itself e (value s x) refl
+      on false e = follows_same (does (instruction.Move d x)) (does (instruction.Move d x)) refl
+
+  past_follows : (d : Target) (v : Value) → Keeps (set d v (next s)) (running (set d v (past s)))
+  past_follows (target.Temporary j) v = record { given = s.arguments; is = refl; more = λ k v2 h. absurd (none_some v2 h) }
+  past_follows (target.Cell c) v = record { given = s.arguments; is = refl; more = λ k v2 h. absurd (none_some v2 h) }
+
+  -- an element that is none further on
+  first_follows : (d : Target) (x : Operand) (n size : ℕ) → n ≡ 0 → Follows (does (instruction.Element d x (operand.Constant n) size)) (does (instruction.Move d x))
+  first_follows d x n size e = on (value s x)
+    where
+      on : (o : Option Value) → Follows (reference_in o >>= λ r. gives d s (reference r.list (r.offset + n * size))) (o >>= λ v. running (set d v (past s)))
+      on None = tt
+      on (Some (word w)) = tt
+      on (Some (reference l o)) =
+          let none : n * size ≡ 0 * size = ap (λ m. m * size) e in
+          let sum : o ≡ o + n * size = omega (arith, none) in
+          subst (λ m. Keeps (set d (reference l m) (next s)) (running (set d (reference l o) (past s)))) sum (past_follows d (reference l o))
+
+  stepped_follows : (d : Target) (x : Operand) (n size : ℕ) → Follows (does (instruction.Element d x (operand.Constant n) size)) (does (stepped d x n size))
+  stepped_follows d x n size = on (n == 0) refl
+    where
+      on : (t : Bool) → (n == 0) ≡ t → Follows (does (instruction.Element d x (operand.Constant n) size)) (does (if t then carried d x else instruction.Element d x (operand.Constant n) size))
+      on true e =
+          follows_on (does (instruction.Element d x (operand.Constant n) size)) (does (instruction.Move d x)) (does (carried d x)) (first_follows d x n size (eqb-true n 0 e)) (carried_follows d x)
+      on false e = follows_same (does (instruction.Element d x (operand.Constant n) size)) (does (instruction.Element d x (operand.Constant n) size)) refl
+
+  abbrev Element : Target → Operand → ℕ → ℕ → Progress
+  Element d x n size = does (instruction.Element d x (operand.Constant n) size)
+
+  statics_follows : (d : Target) (x : Operand) (n size o : ℕ) (t : Bool) → value s x ≡ Some (reference 0 o) → Follows (Element d x n size) (does (statics_or (if t then Some (o + n * size) else None) d x n size))
+  statics_follows d x n size o false e = stepped_follows d x n size
+  statics_follows d x n size o true e = follows_same (Element d x n size) (addressed d 0 (o + n * size)) (ap (λ v. reference_in v >>= λ r. addressed d r.list (r.offset + n * size)) (sym e))
+
+  frame_follows : (d : Target) (x : Operand) (n size o : ℕ) (t : Bool) → value s x ≡ Some (reference name (home + o)) → Follows (Element d x n size) (does (frame_or (if t then Some (o + n * size) else None) d x n size))
+  frame_follows d x n size o false e = stepped_follows d x n size
+  frame_follows d x n size o true e =
       let sum : home + (o + n * size) ≡ home + o + n * size = omega arith in
-      ap (addressed d name) sum ∙ ap (λ v. reference_in v >>= λ r. addressed d r.list (r.offset + n * size)) (sym e)
+      follows_same (Element d x n size) (addressed d name (home + (o + n * size))) (ap (addressed d name) sum ∙ ap (λ v. reference_in v >>= λ r. addressed d r.list (r.offset + n * size)) (sym e))
 
-  numbered_same : (area : ℕ) (k : Known) (d : Target) (x : Operand) (n size : ℕ) → Here k (value s x) → does (numbered area k d x n size) ≡ does (instruction.Element d x (operand.Constant n) size)
-  numbered_same area known.Unknown d x n size e = refl
-  numbered_same area (known.Word w) d x n size e = refl
-  numbered_same area (known.Statics o) d x n size e = statics_same d x n size o (nat_lt (o + n * size) 0x10000000) e
-  numbered_same area (known.Frame o) d x n size e = frame_same d x n size o (nat_lt (o + n * size) area) e
-  numbered_same area (known.Indexed b y width) d x n size e = refl
+  numbered_follows : (area : ℕ) (k : Known) (d : Target) (x : Operand) (n size : ℕ) → Here k (value s x) → Follows (Element d x n size) (does (numbered area k d x n size))
+  numbered_follows area known.Unknown d x n size e = stepped_follows d x n size
+  numbered_follows area (known.Word w) d x n size e = stepped_follows d x n size
+  numbered_follows area (known.Statics o) d x n size e = statics_follows d x n size o (nat_lt (o + n * size) 0x10000000) e
+  numbered_follows area (known.Frame o) d x n size e = frame_follows d x n size o (nat_lt (o + n * size) area) e
+  numbered_follows area (known.Indexed b y width) d x n size e = stepped_follows d x n size
 
-  element_same : (area : ℕ) (k : Known) (d : Target) (x y : Operand) (size : ℕ) → Here k (value s x) → does (simpler_element area k d x y size) ≡ does (instruction.Element d x y size)
-  element_same area k d x (operand.Temporary j) size e = refl
-  element_same area k d x (operand.Cell c) size e = refl
-  element_same area k d x (operand.Constant n) size e = numbered_same area k d x n size e
-  element_same area k d x (operand.Argument j) size e = refl
+  element_follows : (area : ℕ) (k : Known) (d : Target) (x y : Operand) (size : ℕ) → Here k (value s x) → Follows (does (instruction.Element d x y size)) (does (simpler_element area k d x y size))
+  element_follows area k d x (operand.Temporary j) size e = follows_same (does (instruction.Element d x (operand.Temporary j) size)) _ refl
+  element_follows area k d x (operand.Cell c) size e = follows_same (does (instruction.Element d x (operand.Cell c) size)) _ refl
+  element_follows area k d x (operand.Constant n) size e = numbered_follows area k d x n size e
+  element_follows area k d x (operand.Argument j) size e = follows_same (does (instruction.Element d x (operand.Argument j) size)) _ refl
 
   module _ (facts : List Known) (holds : Holds name home facts s.frame.cells s.temporaries) where
     pub known_holds : (x : Operand) → Here (known_of facts x) (value s x)
@@ -285,28 +367,33 @@ module _ (p : Program) (s : State) where
     place_same (location.At x) = reference_same x (known_of facts x) (known_holds x)
     place_same (location.Indexed b y size) = refl
 
-    pub act_same : (area : ℕ) (x : Instruction) → does (simpler area facts x) ≡ does x
-    act_same area instruction.Nothing = refl
-    act_same area (instruction.Move d x) = ap (λ v. v >>= λ u. running (set d u (past s))) (operand_same x)
-    act_same area (instruction.Compute o d x y) =
-        compute_same o d (simpler_operand facts x) (simpler_operand facts y)
+    -- where it is an equation
+    same : (x z : Instruction) → does z ≡ does x → Follows (does x) (does z)
+    same x z e = follows_same (does x) (does z) e
+
+    pub act_follows : (area : ℕ) (x : Instruction) → Follows (does x) (does (simpler area facts x))
+    act_follows area instruction.Nothing = same instruction.Nothing instruction.Nothing refl
+    act_follows area (instruction.Move d x) =
+        subst (λ v. Follows (v >>= λ u. running (set d u (past s))) (does (carried d (simpler_operand facts x)))) (operand_same x) (carried_follows d (simpler_operand facts x))
+    act_follows area (instruction.Compute o d x y) = same (instruction.Compute o d x y) (compute o d (simpler_operand facts x) (simpler_operand facts y))
+        (compute_same o d (simpler_operand facts x) (simpler_operand facts y)
         ∙ (ap (λ v. v >>= λ a. word_at s (simpler_operand facts y) >>= λ b. gives_word d s (operate o a b)) (word_same x)
-        ∙ ap (λ v. word_at s x >>= λ a. v >>= λ b. gives_word d s (operate o a b)) (word_same y))
-    act_same area (instruction.Convert c d x) = refl
-    act_same area (instruction.Load w d l) = ap (λ r. r >>= loaded p s w d) (place_same l)
-    act_same area (instruction.Store w x l) =
-        ap (λ v. v >>= λ a. place p s (simpler_location facts l) >>= stored p s w a) (word_same x)
-        ∙ ap (λ r. word_at s x >>= λ a. r >>= stored p s w a) (place_same l)
-    act_same area (instruction.Address d l) = ap (λ o. o >>= λ r. gives d s (reference r.list r.offset)) (place_same l)
-    act_same area (instruction.Element d x y size) =
-        element_same area (known_of facts x) d x (simpler_operand facts y) size (known_holds x)
-        ∙ ap (λ v. reference_in (value s x) >>= λ r. v >>= λ n. gives d s (reference r.list (r.offset + n * size))) (word_same y)
-    act_same area (instruction.Jump to) = refl
-    act_same area (instruction.Branch t x y to) =
-        ap (λ v. v >>= λ a. word_at s (simpler_operand facts y) >>= λ b. running (if compare_of t a b then goes_to s to else next s)) (word_same x)
-        ∙ ap (λ v. word_at s x >>= λ a. v >>= λ b. running (if compare_of t a b then goes_to s to else next s)) (word_same y)
-    act_same area (instruction.Call f) = refl
-    act_same area instruction.PutByte = refl
-    act_same area instruction.GetByte = refl
-    act_same area instruction.Exit = refl
-    act_same area instruction.Return = refl
+        ∙ ap (λ v. word_at s x >>= λ a. v >>= λ b. gives_word d s (operate o a b)) (word_same y)))
+    act_follows area (instruction.Convert c d x) = same (instruction.Convert c d x) (instruction.Convert c d x) refl
+    act_follows area (instruction.Load w d l) = same (instruction.Load w d l) (instruction.Load w d (simpler_location facts l)) (ap (λ r. r >>= loaded p s w d) (place_same l))
+    act_follows area (instruction.Store w x l) = same (instruction.Store w x l) (instruction.Store w (simpler_operand facts x) (simpler_location facts l))
+        (ap (λ v. v >>= λ a. place p s (simpler_location facts l) >>= stored p s w a) (word_same x)
+        ∙ ap (λ r. word_at s x >>= λ a. r >>= stored p s w a) (place_same l))
+    act_follows area (instruction.Address d l) = same (instruction.Address d l) (instruction.Address d (simpler_location facts l)) (ap (λ o. o >>= λ r. gives d s (reference r.list r.offset)) (place_same l))
+    act_follows area (instruction.Element d x y size) =
+        subst (λ v. Follows (reference_in (value s x) >>= λ r. v >>= λ n. gives d s (reference r.list (r.offset + n * size))) (does (simpler_element area (known_of facts x) d x (simpler_operand facts y) size))) (word_same y)
+        (element_follows area (known_of facts x) d x (simpler_operand facts y) size (known_holds x))
+    act_follows area (instruction.Jump to) = same (instruction.Jump to) (instruction.Jump to) refl
+    act_follows area (instruction.Branch t x y to) = same (instruction.Branch t x y to) (instruction.Branch t (simpler_operand facts x) (simpler_operand facts y) to)
+        (ap (λ v. v >>= λ a. word_at s (simpler_operand facts y) >>= λ b. running (if compare_of t a b then goes_to s to else next s)) (word_same x)
+        ∙ ap (λ v. word_at s x >>= λ a. v >>= λ b. running (if compare_of t a b then goes_to s to else next s)) (word_same y))
+    act_follows area (instruction.Call f) = same (instruction.Call f) (instruction.Call f) refl
+    act_follows area instruction.PutByte = same instruction.PutByte instruction.PutByte refl
+    act_follows area instruction.GetByte = same instruction.GetByte instruction.GetByte refl
+    act_follows area instruction.Exit = same instruction.Exit instruction.Exit refl
+    act_follows area instruction.Return = same instruction.Return instruction.Return refl

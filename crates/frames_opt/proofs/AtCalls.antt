@@ -5,14 +5,14 @@ use Rattle.frames_code.specs.declared.code.Instruction.{Instruction}
 use Rattle.frames_code.specs.declared.code.Instruction.TheVariants as instruction
 use Rattle.frames_code.specs.Code.{Program}
 use Rattle.frames_code.specs.Costs.{next_of}
-use Rattle.frames_code.specs.Run.{Values, State, running, run, start, function_at}
+use Rattle.frames_code.specs.Run.{Value, Values, State, running, run, start, function_at}
 use Rattle.frames_opt.specs.declared.facts.Known.{Known}
-use Rattle.frames_opt.specs.Simplified.{HasItsValues, IsAtCall}
+use Rattle.frames_opt.specs.Simplified.{IsAtCall}
 use Rattle.frames_opt.specs.inside.Facts.{known_of, room_of}
 use Rattle.frames_opt.specs.inside.Rules.{simpler_operand, simpler}
 use Rattle.frames_opt.specs.inside.Liveness.{reads, dead_at}
 use Rattle.frames_opt.proofs.Alike.{same_some, over, Agree, same_where_read}
-use Rattle.frames_opt.proofs.Positions.{compute_form, element_form}
+use Rattle.frames_opt.proofs.Positions.{carried_form, compute_form, element_form}
 use Rattle.frames_opt.proofs.Runs.{Position, IsSimpler, dead, reached}
 
 -- it calls, or returns
@@ -39,13 +39,13 @@ Stays x = Leaves x → ⊥
 -- no other instruction becomes one of these
 stays : (area : ℕ) (facts : List Known) (x : Instruction) → Leaves (simpler area facts x) → simpler area facts x ≡ x
 stays area facts instruction.Nothing h = absurd h
-stays area facts (instruction.Move d x) h = absurd h
+stays area facts (instruction.Move d x) h = absurd (carried_form Stays d (simpler_operand facts x) (λ no. no) (λ no. no) h)
 stays area facts (instruction.Compute o d x y) h = absurd (compute_form Stays o d (λ o2 x2 y2 no. no) (simpler_operand facts x) (simpler_operand facts y) h)
 stays area facts (instruction.Convert c d x) h = absurd h
 stays area facts (instruction.Load w d l) h = absurd h
 stays area facts (instruction.Store w x l) h = absurd h
 stays area facts (instruction.Address d l) h = absurd h
-stays area facts (instruction.Element d x y size) h = absurd (element_form Stays d x size (λ y2 no. no) (λ o no. no) (λ o no. no) area (known_of facts x) (simpler_operand facts y) h)
+stays area facts (instruction.Element d x y size) h = absurd (element_form Stays d x size (λ no. no) (λ no. no) (λ y2 no. no) (λ o no. no) (λ o no. no) area (known_of facts x) (simpler_operand facts y) h)
 stays area facts (instruction.Jump to) h = absurd h
 stays area facts (instruction.Branch t x y to) h = absurd h
 stays area facts (instruction.Call f) h = refl
@@ -54,22 +54,9 @@ stays area facts instruction.GetByte h = absurd h
 stays area facts instruction.Exit h = absurd h
 stays area facts instruction.Return h = refl
 
-reads_all : (x : Instruction) → Leaves x → (k : ℕ) → reads k x ≡ true
-reads_all instruction.Nothing h k = absurd h
-reads_all (instruction.Move d x) h k = absurd h
-reads_all (instruction.Compute o d x y) h k = absurd h
-reads_all (instruction.Convert c d x) h k = absurd h
-reads_all (instruction.Load w d l) h k = absurd h
-reads_all (instruction.Store w x l) h k = absurd h
-reads_all (instruction.Address d l) h k = absurd h
-reads_all (instruction.Element d x y size) h k = absurd h
-reads_all (instruction.Jump to) h k = absurd h
-reads_all (instruction.Branch t x y to) h k = absurd h
-reads_all (instruction.Call f) h k = refl
-reads_all instruction.PutByte h k = absurd h
-reads_all instruction.GetByte h k = absurd h
-reads_all instruction.Exit h k = absurd h
-reads_all instruction.Return h k = refl
+-- the second has what the first has in the temporaries that it reads
+abbrev HasWhatIsRead : Instruction → State → State → Type 0
+HasWhatIsRead y s t = (k : ℕ) → reads k y ≡ true → (v : Value) → s.temporaries k ≡ Some v → t.temporaries k ≡ Some v
 
 none_too : (xs ys : List Instruction) (i : ℕ) → length ys ≡ length xs → slice_get xs i ≡ None → slice_get ys i ≡ None
 none_too xs [] i count e = refl
@@ -100,17 +87,17 @@ module _ (p q : Program) (kn : ℕ → ℕ → List Known) (masks : ℕ → List
     whole : Leaves c.done → c.done ≡ x
     whole leaves = half_is leaves ∙ first_is (subst Leaves (half_is leaves) leaves)
 
-    values : Leaves c.done → HasItsValues s (over u a s)
-    values leaves j v e = same_where_read c.done (λ m. dead_at (masks k) i m) s u a c.unread agree j (reads_all c.done leaves j) ∙ e
+    values : HasWhatIsRead c.done s (over u a s)
+    values j read v e = same_where_read c.done (λ m. dead_at (masks k) i m) s u a c.unread agree j read ∙ e
 
     -- the next instruction of the second is y
-    met : (y : Instruction) → Leaves y → next_of q (over u a s) ≡ Some y → (next_of p s ≡ Some y) × HasItsValues s (over u a s)
+    met : (y : Instruction) → Leaves y → next_of q (over u a s) ≡ Some y → (next_of p s ≡ Some y) × HasWhatIsRead y s (over u a s)
     met y leaves e =
         let same : c.done ≡ y = same_some c.done y (sym c.done_is ∙ e) in
         let here : Leaves c.done = subst Leaves (sym same) leaves in
-        (is ∙ ap Some (sym (whole here) ∙ same), values here)
+        (is ∙ ap Some (sym (whole here) ∙ same), subst (λ z. HasWhatIsRead z s (over u a s)) same values)
 
-  on : (o : Option Instruction) → slice_get (function_at p k).code i ≡ o → (y : Instruction) → Leaves y → next_of q (over u a s) ≡ Some y → (next_of p s ≡ Some y) × HasItsValues s (over u a s)
+  on : (o : Option Instruction) → slice_get (function_at p k).code i ≡ o → (y : Instruction) → Leaves y → next_of q (over u a s) ≡ Some y → (next_of p s ≡ Some y) × HasWhatIsRead y s (over u a s)
   on None e y leaves h =
       let none : slice_get (function_at q k).code i ≡ None = none_too (function_at p k).code (function_at q k).code i (simple.count k) e in
       let no : None ≡ Some y = sym none ∙ h in
@@ -119,8 +106,8 @@ module _ (p q : Program) (kn : ℕ → ℕ → List Known) (masks : ℕ → List
 
   pub at_call : IsAtCall p q s (over u a s)
   at_call = record {
-    calls = λ g e. on (slice_get (function_at p k).code i) refl (instruction.Call g) tt e;
-    returns = λ e. let r = on (slice_get (function_at p k).code i) refl instruction.Return tt e in (r.0, r.1 0);
+    calls = λ g e. let r = on (slice_get (function_at p k).code i) refl (instruction.Call g) tt e in (r.0, λ j. r.1 j refl);
+    returns = λ e. let r = on (slice_get (function_at p k).code i) refl instruction.Return tt e in (r.0, r.1 0 refl);
   }
 
 same_running : (s t : State) → running s ≡ running t → s ≡ t

@@ -25,7 +25,7 @@ use Rattle.frames_opt.specs.declared.room.Room.{Room}
 use Rattle.frames_opt.specs.declared.facts.Known.{Known}
 use Rattle.frames_opt.specs.declared.facts.Known.TheVariants as known
 use Rattle.frames_opt.specs.inside.Facts.{nothing, held, known_of, reference_to, is_target, killed, all_killed, learned, room_of, is_index, is_cheap, is_near, indexed_if, from_base, moved, further, indexed_from, result_on, computed, behind}
-use Rattle.frames_opt.specs.inside.Rules.{constant_or, simpler_operand, location_or, simpler_location, with_constant, with_power, is_power, with_word, arranged, compute, within, statics_or, frame_or, numbered, simpler_element, simpler}
+use Rattle.frames_opt.specs.inside.Rules.{constant_or, simpler_operand, location_or, simpler_location, carried, with_constant, with_power, is_power, with_word, arranged, compute, within, stepped, statics_or, frame_or, numbered, simpler_element, simpler}
 use Rattle.frames_opt.specs.inside.Liveness.{written, is_dead, kept, kept_by, swept}
 use Rattle.frames_opt.specs.inside.Passes.{is_marked, fresh, forward}
 use Rattle.frames_opt.specs.layer.Functions.{IsSimplerCode, stayed, improved, with_code, IsSimplerFunction}
@@ -277,26 +277,32 @@ module _ (n : ℕ) (f : Function) where
   compute_fits : (o : Operation) (d : Target) (x y : Operand) → TargetFits f d → OperandFits f x → OperandFits f y → Fits (compute o d x y)
   compute_fits o d x y hd hx hy = either_fits _ (arranged o d y x) (arranged o d x y) (arranged_fits o d y x hd hy hx) (arranged_fits o d x y hd hx hy)
 
+  carried_fits : (d : Target) (x : Operand) → TargetFits f d → OperandFits f x → Fits (carried d x)
+  carried_fits d x hd hx = either_fits (is_target d x) instruction.Nothing (instruction.Move d x) tt (hd, hx)
+
+  stepped_fits : (d : Target) (x : Operand) (m size : ℕ) → TargetFits f d → OperandFits f x → m < 2 ^ 32 → size < 2 ^ 32 → Fits (stepped d x m size)
+  stepped_fits d x m size hd hx hm hs = either_fits (m == 0) (carried d x) (instruction.Element d x (operand.Constant m) size) (carried_fits d x hd hx) (hd, hx, hm, hs)
+
   statics_fits : (o m size : ℕ) (d : Target) (x : Operand) → TargetFits f d → OperandFits f x → m < 2 ^ 32 → size < 2 ^ 32 → Fits (statics_or (within o m size 0x10000000) d x m size)
   statics_fits o m size d x hd hx hm hs = on (nat_lt (o + m * size) 0x10000000) refl
     where
       on : (t : Bool) → nat_lt (o + m * size) 0x10000000 ≡ t → Fits (statics_or (if t then Some (o + m * size) else None) d x m size)
       on true e = (hd, ltb-true (o + m * size) 0x10000000 e)
-      on false e = (hd, hx, hm, hs)
+      on false e = stepped_fits d x m size hd hx hm hs
 
   frame_fits : (o m size : ℕ) (d : Target) (x : Operand) → TargetFits f d → OperandFits f x → m < 2 ^ 32 → size < 2 ^ 32 → Fits (frame_or (within o m size f.area) d x m size)
   frame_fits o m size d x hd hx hm hs = on (nat_lt (o + m * size) f.area) refl
     where
       on : (t : Bool) → nat_lt (o + m * size) f.area ≡ t → Fits (frame_or (if t then Some (o + m * size) else None) d x m size)
       on true e = (hd, ltb-true (o + m * size) f.area e)
-      on false e = (hd, hx, hm, hs)
+      on false e = stepped_fits d x m size hd hx hm hs
 
   numbered_fits : (k : Known) (d : Target) (x : Operand) (m size : ℕ) → TargetFits f d → OperandFits f x → m < 2 ^ 32 → size < 2 ^ 32 → Fits (numbered f.area k d x m size)
-  numbered_fits known.Unknown d x m size hd hx hm hs = (hd, hx, hm, hs)
-  numbered_fits (known.Word w) d x m size hd hx hm hs = (hd, hx, hm, hs)
+  numbered_fits known.Unknown d x m size hd hx hm hs = stepped_fits d x m size hd hx hm hs
+  numbered_fits (known.Word w) d x m size hd hx hm hs = stepped_fits d x m size hd hx hm hs
   numbered_fits (known.Statics o) d x m size hd hx hm hs = statics_fits o m size d x hd hx hm hs
   numbered_fits (known.Frame o) d x m size hd hx hm hs = frame_fits o m size d x hd hx hm hs
-  numbered_fits (known.Indexed b y width) d x m size hd hx hm hs = (hd, hx, hm, hs)
+  numbered_fits (known.Indexed b y width) d x m size hd hx hm hs = stepped_fits d x m size hd hx hm hs
 
   element_fits : (k : Known) (d : Target) (x y : Operand) (size : ℕ) → TargetFits f d → OperandFits f x → OperandFits f y → size < 2 ^ 32 → Fits (simpler_element f.area k d x y size)
   element_fits k d x (operand.Temporary j) size hd hx hy hs = (hd, hx, hy, hs)
@@ -316,7 +322,7 @@ module _ (n : ℕ) (f : Function) where
 
     simpler_fits : (x : Instruction) → Fits x → Fits (simpler f.area facts x)
     simpler_fits instruction.Nothing e = tt
-    simpler_fits (instruction.Move d x) e = (e.0, operand_fits x e.1)
+    simpler_fits (instruction.Move d x) e = carried_fits d (simpler_operand facts x) e.0 (operand_fits x e.1)
     simpler_fits (instruction.Compute o d x y) e = compute_fits o d (simpler_operand facts x) (simpler_operand facts y) e.0 (operand_fits x e.1) (operand_fits y e.2)
     simpler_fits (instruction.Convert c d x) e = e
     simpler_fits (instruction.Load w d l) e = (e.0, location_fits l e.1)

@@ -17,8 +17,8 @@ use Rattle.frames_code.specs.Costs.{cost}
 use Rattle.frames_opt.specs.declared.room.Room.{Room}
 use Rattle.frames_opt.specs.declared.facts.Known.{Known}
 use Rattle.frames_opt.specs.declared.facts.Known.TheVariants as known
-use Rattle.frames_opt.specs.inside.Facts.{nothing, known_of, behind}
-use Rattle.frames_opt.specs.inside.Rules.{simpler_operand, with_constant, with_power, is_power, is_constant, commutes, arranged, compute, within, statics_or, frame_or, numbered, simpler_element, simpler}
+use Rattle.frames_opt.specs.inside.Facts.{nothing, known_of, is_target, behind}
+use Rattle.frames_opt.specs.inside.Rules.{simpler_operand, carried, with_constant, with_power, is_power, is_constant, commutes, arranged, compute, within, stepped, statics_or, frame_or, numbered, simpler_element, simpler}
 use Rattle.frames_opt.specs.inside.Liveness.{written, reads, is_written, is_dead, dead_at, dead_behind, kept, kept_by, swept, is_right, all_right, are_right}
 use Rattle.frames_opt.specs.inside.Passes.{jump_of, is_marked, marked_by, marked, all_marked, AreMarked, fresh, forward}
 use Rattle.frames_opt.proofs.Acts.{not_true}
@@ -66,21 +66,27 @@ module _ (P : Instruction → Type 0) where
     pub compute_form : (x y : Operand) → P (compute o d x y)
     compute_form x y = either (is_constant x && (not (is_constant y) && commutes o)) (arranged o d y x) (arranged o d x y) (arranged_form o y x) (arranged_form o x y)
 
-  module _ (d : Target) (x : Operand) (size : ℕ) (any : (y : Operand) → P (instruction.Element d x y size)) (frame : (o : ℕ) → P (instruction.Address d (location.Frame o))) (statics : (o : ℕ) → P (instruction.Address d (location.Statics o))) where
+  pub carried_form : (d : Target) (x : Operand) → P instruction.Nothing → P (instruction.Move d x) → P (carried d x)
+  carried_form d x none some = either (is_target d x) instruction.Nothing (instruction.Move d x) none some
+
+  module _ (d : Target) (x : Operand) (size : ℕ) (none : P instruction.Nothing) (some : P (instruction.Move d x)) (any : (y : Operand) → P (instruction.Element d x y size)) (frame : (o : ℕ) → P (instruction.Address d (location.Frame o))) (statics : (o : ℕ) → P (instruction.Address d (location.Statics o))) where
+    stepped_form : (n : ℕ) → P (stepped d x n size)
+    stepped_form n = either (n == 0) (carried d x) (instruction.Element d x (operand.Constant n) size) (carried_form d x none some) (any (operand.Constant n))
+
     statics_form : (o : Option ℕ) (n : ℕ) → P (statics_or o d x n size)
     statics_form (Some o) n = statics o
-    statics_form None n = any (operand.Constant n)
+    statics_form None n = stepped_form n
 
     frame_form : (o : Option ℕ) (n : ℕ) → P (frame_or o d x n size)
     frame_form (Some o) n = frame o
-    frame_form None n = any (operand.Constant n)
+    frame_form None n = stepped_form n
 
     numbered_form : (area : ℕ) (k : Known) (n : ℕ) → P (numbered area k d x n size)
-    numbered_form area known.Unknown n = any (operand.Constant n)
-    numbered_form area (known.Word w) n = any (operand.Constant n)
+    numbered_form area known.Unknown n = stepped_form n
+    numbered_form area (known.Word w) n = stepped_form n
     numbered_form area (known.Statics o) n = statics_form (within o n size 0x10000000) n
     numbered_form area (known.Frame o) n = frame_form (within o n size area) n
-    numbered_form area (known.Indexed b y width) n = any (operand.Constant n)
+    numbered_form area (known.Indexed b y width) n = stepped_form n
 
     pub element_form : (area : ℕ) (k : Known) (y : Operand) → P (simpler_element area k d x y size)
     element_form area k (operand.Temporary j) = any (operand.Temporary j)
@@ -90,13 +96,13 @@ module _ (P : Instruction → Type 0) where
 
 jump_same : (area : ℕ) (facts : List Known) (x : Instruction) → jump_of (simpler area facts x) ≡ jump_of x
 jump_same area facts instruction.Nothing = refl
-jump_same area facts (instruction.Move d x) = refl
+jump_same area facts (instruction.Move d x) = carried_form (λ z. jump_of z ≡ None) d (simpler_operand facts x) refl refl
 jump_same area facts (instruction.Compute o d x y) = compute_form (λ z. jump_of z ≡ None) o d (λ o2 x2 y2. refl) (simpler_operand facts x) (simpler_operand facts y)
 jump_same area facts (instruction.Convert c d x) = refl
 jump_same area facts (instruction.Load w d l) = refl
 jump_same area facts (instruction.Store w x l) = refl
 jump_same area facts (instruction.Address d l) = refl
-jump_same area facts (instruction.Element d x y size) = element_form (λ z. jump_of z ≡ None) d x size (λ y2. refl) (λ o. refl) (λ o. refl) area (known_of facts x) (simpler_operand facts y)
+jump_same area facts (instruction.Element d x y size) = element_form (λ z. jump_of z ≡ None) d x size refl refl (λ y2. refl) (λ o. refl) (λ o. refl) area (known_of facts x) (simpler_operand facts y)
 jump_same area facts (instruction.Jump to) = refl
 jump_same area facts (instruction.Branch t x y to) = refl
 jump_same area facts (instruction.Call f) = refl
@@ -107,14 +113,14 @@ jump_same area facts instruction.Return = refl
 
 cost_less : (area : ℕ) (facts : List Known) (x : Instruction) → cost (simpler area facts x) ≤ cost x
 cost_less area facts instruction.Nothing = omega arith
-cost_less area facts (instruction.Move d x) = omega arith
+cost_less area facts (instruction.Move d x) = carried_form (λ z. cost z ≤ 6) d (simpler_operand facts x) (omega arith) (omega arith)
 cost_less area facts (instruction.Compute o d x y) = compute_form (λ z. cost z ≤ 11) o d (λ o2 x2 y2. omega arith) (simpler_operand facts x) (simpler_operand facts y)
 cost_less area facts (instruction.Convert c d x) = omega arith
 cost_less area facts (instruction.Load w d l) = omega arith
 cost_less area facts (instruction.Store w x l) = omega arith
 cost_less area facts (instruction.Address d l) = omega arith
 cost_less area facts (instruction.Element d x y size) =
-    element_form (λ z. cost z ≤ 13) d x size (λ y2. omega arith) (λ o. omega arith) (λ o. omega arith) area (known_of facts x) (simpler_operand facts y)
+    element_form (λ z. cost z ≤ 13) d x size (omega arith) (omega arith) (λ y2. omega arith) (λ o. omega arith) (λ o. omega arith) area (known_of facts x) (simpler_operand facts y)
 cost_less area facts (instruction.Jump to) = omega arith
 cost_less area facts (instruction.Branch t x y to) = omega arith
 cost_less area facts (instruction.Call f) = omega arith

@@ -12,7 +12,7 @@ use Rattle.frames_opt.specs.declared.room.Room.{Room}
 use Rattle.frames_opt.specs.inside.Facts.{nothing, room_of}
 use Rattle.frames_opt.specs.inside.Rules.{simpler}
 use Rattle.frames_opt.specs.inside.Liveness.{written, is_written, reads, dead_at, dead_behind}
-use Rattle.frames_opt.proofs.Acts.{Holds, name_in, home_in, act_same}
+use Rattle.frames_opt.proofs.Acts.{Holds, name_in, home_in, Follows, follows_same, act_follows}
 use Rattle.frames_opt.proofs.Stands.{Sat, Flow, Stands, act_stands, nothing_holds}
 use Rattle.frames_opt.proofs.Alike.{Sized, over, Agree, Match}
 use Rattle.frames_opt.proofs.Steps.{act_alike, left_out_alike}
@@ -47,6 +47,18 @@ module _ (p q : Program) (kn : ℕ → ℕ → List Known) (masks : ℕ → List
   abbrev pub dead : State → ℕ → Bool
   dead s k = dead_at (masks s.frame.function) s.frame.at k
 
+  stands_before : (x y : Progress) → Follows x y → Sat (Stands p kn) y → Sat (Stands p kn) x
+  stands_before (running s) y f h = subst (Sat (Stands p kn)) f.is h
+  stands_before (ended status input trace) y f h = tt
+  stands_before stuck y f h = tt
+
+  match_before : (x y z : Progress) → Follows x y → Match dead y z → Match dead x z
+  match_before (running s) y z f m =
+      let g : Match dead (running (record s { arguments = f.given })) z = subst (λ w. Match dead w z) f.is m in
+      record { others = g.others; given = g.given; is = g.is; agree = record { temporaries = g.agree.temporaries; arguments = λ k v e. g.agree.arguments k v (f.more k v e) } }
+  match_before (ended status input trace) y z f m = subst (λ w. Match dead w z) f m
+  match_before stuck y z f m = tt
+
   module _ (s : State) (u a : Values) (good : Stands p kn s) (agree : Agree (dead s) s u a) where
     abbrev t : State
     t = over u a s
@@ -64,11 +76,13 @@ module _ (p q : Program) (kn : ℕ → ℕ → List Known) (masks : ℕ → List
       abbrev c : Position (room_of (function_at p k)) (kn k) (masks k) (function_at q k).code i x
       c = simple.each k i x is
 
-      same : act p s c.half ≡ act p s x
-      same = ⊎_elim (λ e. ap (act p s) e) (λ e. ap (act p s) e ∙ act_same p s (kn k i) good.0 (function_at p k).area x) c.by
+      follows : Follows (act p s x) (act p s c.half)
+      follows =
+          ⊎_elim (λ e. follows_same (act p s x) (act p s c.half) (ap (act p s) e))
+          (λ e. subst (λ y. Follows (act p s x) (act p s y)) (sym e) (act_follows p s (kn k i) good.0 (function_at p k).area x)) c.by
 
       stands : Sat (Stands p kn) (act p s x)
-      stands = subst (Sat (Stands p kn)) same (act_stands p kn simple.starts s good c.half c.flow)
+      stands = stands_before (act p s x) (act p s c.half) follows (act_stands p kn simple.starts s good c.half c.flow)
 
       alike : Match dead (act p s c.half) (act q t c.done)
       alike =
@@ -80,7 +94,7 @@ module _ (p q : Program) (kn : ℕ → ℕ → List Known) (masks : ℕ → List
           c.out
 
       matches : Match dead (act p s x) (act q t c.done)
-      matches = subst (λ w. Match dead w (act q t c.done)) same alike
+      matches = match_before (act p s x) (act p s c.half) (act q t c.done) follows alike
 
       step_first : step p s ≡ act p s x
       unfolding step

@@ -12,7 +12,7 @@ use Rattle.frames_code.specs.declared.code.Location.{Location}
 use Rattle.frames_code.specs.declared.code.Instruction.{Instruction}
 use Rattle.frames_code.specs.declared.code.Instruction.TheVariants as instruction
 use Rattle.frames_code.specs.Code.{Program}
-use Rattle.frames_code.specs.Run.{Value, Values, Frame, State, Progress, running, ended, stuck, word, reference, value, word_at, reference_in, set, unset, next, past, memory, fits, element_in, goes_to, place, gives, gives_word, operate, converted, loaded, stored, put, got, returned, entered, result_alone, act, ◌>>=◌}
+use Rattle.frames_code.specs.Run.{Value, Values, Frame, State, Progress, running, ended, stuck, word, reference, value, word_at, word_in, reference_in, set, unset, next, past, memory, fits, element_in, goes_to, place, gives, gives_word, operate, converted, loaded, stored, put, got, returned, entered, result_alone, act, ◌>>=◌}
 use Rattle.frames_opt.specs.inside.Liveness.{names, is_through, reads, written, is_written, dead_at, dead_behind}
 use Rattle.frames_opt.proofs.Alike.{Sized, over, Agree, Goes, Match, match_bind, match_left, or_left, or_right, left_true, right_true, value_below, word_at_below, reference_at_below, place_below, same_where_read, gives_match, move_match, loaded_match, stored_match, none_written, gives_dropped, move_dropped}
 
@@ -177,12 +177,6 @@ module _ (p q : Program) (r : Sized p q) (dead : State → ℕ → Bool) (s : St
   same : (s2 : State) → Goes (dead s2) s2 (running s2)
   same s2 = record { others = s2.temporaries; given = s2.arguments; is = refl; agree = record { temporaries = λ k. inl refl; arguments = λ k v g. g } }
 
-  returned_alike : (ws : List Frame) → Match dead (returned s ws) (returned t3 ws)
-  returned_alike [] =
-      let out : ℕ → Progress = λ v. ended (v % 2 ^ 8) s.input s.trace in
-      match_bind dead (word_at s (operand.Temporary 0)) (word_at s (operand.Temporary 0)) out out (λ v e. e) (λ v. refl)
-  returned_alike (f ∷ fs) = same (record s { frame = f; temporaries = result_alone (s.temporaries 0); arguments = unset; waiting = fs })
-
   got_alike : (input : List ℕ) → Match dead (got s input) (got t3 input)
   got_alike [] = same (record (next s) { temporaries = result_alone (Some (word (2 ^ 32 - 1))); trace = GotEnd ∷ s.trace })
   got_alike (b ∷ more) = same (record (next s) { temporaries = result_alone (Some (word b)); input = more; trace = Got b ∷ s.trace })
@@ -196,6 +190,18 @@ module _ (p q : Program) (r : Sized p q) (dead : State → ℕ → Bool) (s : St
   exit_alike =
       let out : ℕ → Progress = λ v. ended (v % 2 ^ 8) s.input s.trace in
       match_bind dead (word_at s (operand.Temporary 0)) (word_at s (operand.Temporary 0)) out out (λ v e. e) (λ v. refl)
+
+-- ---- a return, where the result is the same
+
+module _ (p q : Program) (r : Sized p q) (dead : State → ℕ → Bool) (s : State) (u a : Values) (result : u 0 ≡ s.temporaries 0) where
+  abbrev t4 : State
+  t4 = over u a s
+
+  returned_alike : (ws : List Frame) → Match dead (returned s ws) (returned t4 ws)
+  returned_alike [] =
+      let out : ℕ → Progress = λ v. ended (v % 2 ^ 8) s.input s.trace in
+      match_bind dead (word_at s (operand.Temporary 0)) (word_at t4 (operand.Temporary 0)) out out (λ v e. ap word_in result ∙ e) (λ v. refl)
+  returned_alike (f ∷ fs) = record { others = result_alone (u 0); given = unset; is = refl; agree = record { temporaries = λ k. inl (ap (λ v. result_alone v k) result); arguments = λ k v g. g } }
 
 -- ---- each instruction
 
@@ -245,7 +251,7 @@ module _ (p q : Program) (r : Sized p q) (dead : State → ℕ → Bool) (s : St
   act_alike instruction.PutByte agree ok = all_same instruction.PutByte (λ k. refl) agree ok (put_alike p q r dead s a agree.arguments)
   act_alike instruction.GetByte agree ok = all_same instruction.GetByte (λ k. refl) agree ok (got_alike p q r dead s a agree.arguments s.input)
   act_alike instruction.Exit agree ok = all_same instruction.Exit (λ k. refl) agree ok (exit_alike p q r dead s a agree.arguments)
-  act_alike instruction.Return agree ok = all_same instruction.Return (λ k. refl) agree ok (returned_alike p q r dead s a agree.arguments s.waiting)
+  act_alike instruction.Return agree ok = returned_alike p q r dead s u a (same_where_read instruction.Return here s u a ok.unread agree 0 refl) s.waiting
 
   -- an instruction that is left out
   straight_stays : (y : Instruction) (j : ℕ) → written y ≡ Some j → (k : ℕ) → dead_behind masks s.frame.at y k ≡ true → there k ≡ true
@@ -263,7 +269,7 @@ module _ (p q : Program) (r : Sized p q) (dead : State → ℕ → Bool) (s : St
   straight_stays instruction.PutByte j w k e = e
   straight_stays instruction.GetByte j w k e = e
   straight_stays instruction.Exit j w k e = e
-  straight_stays instruction.Return j w k e = e
+  straight_stays instruction.Return j w k e = absurd (let x : ⊥ = cc in x)
 
   pub left_out_alike : (y done : Instruction) (j : ℕ) → there j ≡ true → Agree here s u a → Passes y done → written y ≡ Some j → Match dead (act p s y) (running (past (over u a s)))
   left_out_alike y done j lost agree ok w =

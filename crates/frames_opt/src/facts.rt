@@ -70,7 +70,7 @@ fn reference_to(location: Location) -> Known
 }
 
 /// Whether the word that is written is the operand.
-fn is_target(target: Target, operand: Operand) -> bool
+pub fn is_target(target: Target, operand: Operand) -> bool
     ensures { result ≡ facts_in.is_target target operand }
 {
     match target {

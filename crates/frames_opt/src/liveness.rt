@@ -31,7 +31,7 @@ fn is_through(number: usize, location: Location) -> bool
     }
 }
 
-/// Whether an instruction reads a temporary; a call, a byte put or got, and an end count as reading all.
+/// Whether an instruction reads a temporary; a call, a byte put or got, and an exit count as reading all, and a return reads the result.
 pub fn reads(number: usize, instruction: Instruction) -> bool
     ensures { result ≡ liveness.reads number instruction }
 {
@@ -50,7 +50,7 @@ pub fn reads(number: usize, instruction: Instruction) -> bool
         Instruction::PutByte => true,
         Instruction::GetByte => true,
         Instruction::Exit => true,
-        Instruction::Return => true,
+        Instruction::Return => number == 0,
     }
 }
 
@@ -114,13 +114,13 @@ fn mask_at(masks: &[u8], number: usize) -> u8
     }
 }
 
-fn dead_at(masks: &[u8], at: usize, number: usize) -> bool
+pub fn dead_at(masks: &[u8], at: usize, number: usize) -> bool
     ensures { result ≡ liveness.dead_at masks.now at number }
 {
     is_dead(mask_at(masks, at), number)
 }
 
-/// Whether a temporary is dead wherever instruction `at` leads, if calls and ends are left aside.
+/// Whether a temporary is dead wherever instruction `at` leads, if calls and exits are left aside; a return leads nowhere here.
 fn dead_behind(masks: &[u8], at: usize, instruction: Instruction, number: usize) -> bool
     requires { at < 2 ^ 62 }
     ensures { result ≡ liveness.dead_behind masks.now at instruction number }
@@ -142,7 +142,7 @@ fn dead_behind(masks: &[u8], at: usize, instruction: Instruction, number: usize)
         Instruction::PutByte => dead_at(masks, at + 1, number),
         Instruction::GetByte => dead_at(masks, at + 1, number),
         Instruction::Exit => dead_at(masks, at + 1, number),
-        Instruction::Return => dead_at(masks, at + 1, number),
+        Instruction::Return => true,
     }
 }
 
@@ -255,7 +255,7 @@ fn bits_read(instruction: Instruction) -> u8 {
         Instruction::PutByte => 255,
         Instruction::GetByte => 255,
         Instruction::Exit => 255,
-        Instruction::Return => 255,
+        Instruction::Return => 1,
     }
 }
 
@@ -268,6 +268,7 @@ fn mask_before(masks: &[u8], at: usize, instruction: Instruction) -> u8
         Instruction::Nothing => next,
         Instruction::Jump(to) => mask_at(masks, to),
         Instruction::Branch { to, .. } => next & mask_at(masks, to) & !bits_read(instruction),
+        Instruction::Return => !bits_read(instruction),
         _ => match written(instruction) {
             Some(number) => {
                 if is_dead(next, number) {

@@ -4,7 +4,7 @@ ghost use Rattle.std.specs.Prelude.{◌≡◌, ℕ, true, length, set, IfOk};
 ghost use Rattle.frames_opt.specs.inside.Passes as passes;
 ghost use Rattle.frames_opt.specs.inside.Passes.{AreMarked};
 
-use crate::liveness::{is_written, reads};
+use crate::liveness::{dead_at, is_written, masks_of, reads};
 use frames_code::{Instruction, Operand, Target};
 use std::alloc::{AllocError, Global};
 
@@ -95,30 +95,40 @@ fn ends_use(instruction: Instruction, number: usize) -> bool {
     }
 }
 
-/// Whether the code after instruction `at` reads the reference that it makes more than once.
-fn is_shared(code: &[Instruction], at: usize) -> bool {
-    let Some(
+/// The temporary that takes a reference by an index that is no constant.
+fn reference_made(instruction: Instruction) -> Option<usize> {
+    match instruction {
+        Instruction::Element {
+            index: Operand::Constant(_),
+            ..
+        } => None,
         Instruction::Element {
             target: Target::Temporary(number),
             ..
-        },
-    ) = code.get(at)
-    else {
-        return false;
-    };
+        } => Some(number),
+        _ => None,
+    }
+}
+
+/// Whether the code from instruction `first` on reads the reference in a temporary more than once.
+fn is_read_twice(masks: &[u8], code: &[Instruction], first: usize, number: usize) -> bool {
     let mut is_read = false;
     for behind in 0..WINDOW {
-        let Some(instruction) = code.get(at.saturating_add(1).saturating_add(behind)) else {
+        let place = first.saturating_add(behind);
+        let Some(instruction) = code.get(place) else {
             return false;
         };
-        if !leads_on(*instruction, *number) {
-            if reads(*number, *instruction) {
+        if dead_at(masks, place, number) {
+            return false;
+        }
+        if !leads_on(*instruction, number) {
+            if reads(number, *instruction) {
                 if is_read {
                     return true;
                 }
                 is_read = true;
             }
-            if ends_use(*instruction, *number) {
+            if ends_use(*instruction, number) {
                 return false;
             }
         }
@@ -126,32 +136,44 @@ fn is_shared(code: &[Instruction], at: usize) -> bool {
     false
 }
 
+/// Whether the code after instruction `at` reads the reference that it makes by an index more than once.
+fn is_shared(masks: &[u8], code: &[Instruction], at: usize) -> bool {
+    let Some(instruction) = code.get(at) else {
+        return false;
+    };
+    match reference_made(*instruction) {
+        Some(number) => is_read_twice(masks, code, at.saturating_add(1), number),
+        None => false,
+    }
+}
+
 /// Marks the instruction after each that makes a reference for more than one access: to name the element in each would take its sum again.
-fn mark_shared(marks: &mut [bool], code: &[Instruction])
+fn mark_shared(marks: &mut [bool], masks: &[u8], code: &[Instruction])
     ensures more { (k : ℕ) → passes.is_marked marks.old k ≡ true → passes.is_marked marks.new k ≡ true }
     ensures len { length marks.new ≡ length marks.old }
 {
     for number in 0..code.len() {
-        if is_shared(code, number) {
+        if is_shared(masks, code, number) {
             put_mark(marks, number + 1);
         }
     }
 }
 
-fn mark_each(marks: &mut [bool], code: &[Instruction])
+fn mark_each(marks: &mut [bool], masks: &[u8], code: &[Instruction])
     ensures marked { AreMarked marks.new code.now }
     ensures len { length marks.new ≡ length marks.old }
 {
     mark_all(marks, code);
-    mark_shared(marks, code);
+    mark_shared(marks, masks, code);
 }
 
 /// Marks for the instructions that jumps lead to, and for some others.
 pub fn marks_of(alloc: Global, code: &[Instruction]) -> Result<Vec<bool>, AllocError>
     ensures { IfOk result (λ marks. AreMarked marks.items code.now) }
 {
+    let masks = masks_of(alloc, code)?;
     let mut marks = Vec::new(alloc);
     marks.resize(code.len(), false)?;
-    mark_each(&mut marks, code);
+    mark_each(&mut marks, &masks, code);
     Ok(marks)
 }

@@ -3,7 +3,7 @@
 ghost use Rattle.std.specs.Prelude.{◌≡◌};
 ghost use Rattle.frames_opt.specs.inside.Rules as rules;
 
-use crate::facts::{Facts, Known, known_of};
+use crate::facts::{Facts, Known, is_target, known_of};
 use crate::operations::compute;
 use frames_code::{Instruction, Location, Operand, Target};
 
@@ -64,6 +64,33 @@ fn within(offset: usize, index: u32, size: usize, most: usize) -> Option<usize>
     if sum < most { Some(sum) } else { None }
 }
 
+/// A move, which does nothing where it is of a word onto itself.
+fn carried(target: Target, source: Operand) -> Instruction
+    ensures { result ≡ rules.carried target source }
+{
+    if is_target(target, source) {
+        Instruction::Nothing
+    } else {
+        Instruction::Move { target, source }
+    }
+}
+
+/// The element a number of elements further on: where that is none, a move.
+fn stepped(target: Target, array: Operand, index: u32, size: usize) -> Instruction
+    ensures { result ≡ rules.stepped target array index size }
+{
+    if index == 0 {
+        carried(target, array)
+    } else {
+        Instruction::Element {
+            target,
+            array,
+            index: Operand::Constant(index),
+            size,
+        }
+    }
+}
+
 fn statics_or(
     place: Option<usize>,
     target: Target,
@@ -78,12 +105,7 @@ fn statics_or(
             target,
             of: Location::Statics(offset),
         },
-        None => Instruction::Element {
-            target,
-            array,
-            index: Operand::Constant(index),
-            size,
-        },
+        None => stepped(target, array, index, size),
     }
 }
 
@@ -101,12 +123,7 @@ fn frame_or(
             target,
             of: Location::Frame(offset),
         },
-        None => Instruction::Element {
-            target,
-            array,
-            index: Operand::Constant(index),
-            size,
-        },
+        None => stepped(target, array, index, size),
     }
 }
 
@@ -181,10 +198,7 @@ pub fn simpler(area: usize, facts: &Facts, instruction: Instruction) -> Instruct
 {
     match instruction {
         Instruction::Nothing => Instruction::Nothing,
-        Instruction::Move { target, source } => Instruction::Move {
-            target,
-            source: simpler_operand(facts, source),
-        },
+        Instruction::Move { target, source } => carried(target, simpler_operand(facts, source)),
         Instruction::Compute {
             operation,
             target,

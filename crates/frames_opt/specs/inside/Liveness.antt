@@ -21,7 +21,7 @@ is_through k (location.Frame o) = false
 is_through k (location.At x) = names k x
 is_through k (location.Indexed b y size) = names k y
 
--- it reads temporary k; a call, a byte put or got, and an end count as reading all
+-- it reads temporary k; a call, a byte put or got, and an exit count as reading all, and a return reads the result
 abbrev pub reads : ℕ → Instruction → Bool
 reads k instruction.Nothing = false
 reads k (instruction.Move d x) = names k x
@@ -37,7 +37,7 @@ reads k (instruction.Call f) = true
 reads k instruction.PutByte = true
 reads k instruction.GetByte = true
 reads k instruction.Exit = true
-reads k instruction.Return = true
+reads k instruction.Return = k == 0
 
 abbrev pub temporary_of : Target → Option ℕ
 temporary_of (target.Temporary k) = Some k
@@ -75,7 +75,7 @@ is_dead mask k = nat_lt k 8 && (mask / 2 ^ k % 2 == 1)
 abbrev pub dead_at : List ℕ → (i k : ℕ) → Bool
 dead_at masks i k = is_dead (get_or masks i 0) k
 
--- dead wherever instruction i leads, if calls and ends, which read all, are left aside
+-- dead wherever instruction i leads, if calls and exits, which read all, are left aside; a return leads nowhere here
 abbrev pub dead_behind : List ℕ → ℕ → Instruction → ℕ → Bool
 dead_behind masks i instruction.Nothing k = dead_at masks (i + 1) k
 dead_behind masks i (instruction.Move d x) k = dead_at masks (i + 1) k
@@ -91,7 +91,7 @@ dead_behind masks i (instruction.Call f) k = dead_at masks (i + 1) k
 dead_behind masks i instruction.PutByte k = dead_at masks (i + 1) k
 dead_behind masks i instruction.GetByte k = dead_at masks (i + 1) k
 dead_behind masks i instruction.Exit k = dead_at masks (i + 1) k
-dead_behind masks i instruction.Return k = dead_at masks (i + 1) k
+dead_behind masks i instruction.Return k = true
 
 -- ---- without dead stores: an instruction whose temporary is dead after it becomes nothing
 

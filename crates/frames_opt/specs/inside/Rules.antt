@@ -14,7 +14,7 @@ use Rattle.frames_code.specs.declared.code.Instruction.{Instruction}
 use Rattle.frames_code.specs.declared.code.Instruction.TheVariants as instruction
 use Rattle.frames_opt.specs.declared.facts.Known.{Known}
 use Rattle.frames_opt.specs.declared.facts.Known.TheVariants as known
-use Rattle.frames_opt.specs.inside.Facts.{known_of}
+use Rattle.frames_opt.specs.inside.Facts.{known_of, is_target}
 
 -- ---- operands, locations
 
@@ -40,6 +40,10 @@ simpler_location facts (location.Statics o) = location.Statics o
 simpler_location facts (location.Frame o) = location.Frame o
 simpler_location facts (location.At x) = location_or x (known_of facts x)
 simpler_location facts (location.Indexed b y size) = location.Indexed b y size
+
+-- a word that is moved onto itself stays there
+abbrev pub carried : Target → Operand → Instruction
+carried d x = if is_target d x then instruction.Nothing else instruction.Move d x
 
 -- ---- operations
 
@@ -131,13 +135,17 @@ within o n size most = if nat_lt (o + n * size) most then Some (o + n * size) el
 abbrev pub element : Target → Operand → Operand → ℕ → Instruction
 element d x y size = instruction.Element d x y size
 
+-- no number of elements further on is where the reference is
+abbrev pub stepped : Target → Operand → ℕ → ℕ → Instruction
+stepped d x n size = if n == 0 then carried d x else instruction.Element d x (operand.Constant n) size
+
 abbrev pub statics_or : Option ℕ → Target → Operand → ℕ → ℕ → Instruction
 statics_or (Some o) d x n size = instruction.Address d (location.Statics o)
-statics_or None d x n size = instruction.Element d x (operand.Constant n) size
+statics_or None d x n size = stepped d x n size
 
 abbrev pub frame_or : Option ℕ → Target → Operand → ℕ → ℕ → Instruction
 frame_or (Some o) d x n size = instruction.Address d (location.Frame o)
-frame_or None d x n size = instruction.Element d x (operand.Constant n) size
+frame_or None d x n size = stepped d x n size
 
 abbrev pub numbered : ℕ → Known → Target → Operand → ℕ → ℕ → Instruction
 numbered area known.Unknown d x n size = frame_or None d x n size
@@ -156,7 +164,7 @@ simpler_element area k d x (operand.Argument j) size = element d x (operand.Argu
 
 abbrev pub simpler : ℕ → List Known → Instruction → Instruction
 simpler area facts instruction.Nothing = instruction.Nothing
-simpler area facts (instruction.Move d x) = instruction.Move d (simpler_operand facts x)
+simpler area facts (instruction.Move d x) = carried d (simpler_operand facts x)
 simpler area facts (instruction.Compute o d x y) = compute o d (simpler_operand facts x) (simpler_operand facts y)
 simpler area facts (instruction.Convert c d x) = instruction.Convert c d x
 simpler area facts (instruction.Load w d l) = instruction.Load w d (simpler_location facts l)
