@@ -1,5 +1,5 @@
 -- Each step of a program whose constants were hoisted is that of the program.
-use Rattle.std.proofs.Common.{◌≡◌, ◌≤◌, ◌<◌, ◌⊎◌, inl, inr, ⊎_elim, ℕ, zero, suc, ◌+◌, ◌*◌, ◌%◌, ◌^◌, List, [], ◌∷◌, length, Option, Some, None, Bool, true, false, refl, sym, ap, ◌∙◌, subst, arith}
+use Rattle.std.proofs.Common.{◌≡◌, ◌≤◌, ◌<◌, ◌⊎◌, inl, inr, ⊎_elim, ℕ, zero, suc, ◌+◌, ◌-◌, ◌*◌, ◌%◌, ◌^◌, List, [], ◌∷◌, length, Option, Some, None, Bool, true, false, refl, sym, ap, ◌∙◌, subst, arith}
 use Rattle.std.specs.Prelude.{◌==◌, ◌&&◌, if◌then◌else◌, nat_le, slice_get}
 use Rattle.std.proofs.lemmas.Bool.{eqb-true, eqb-false, ne_eqb, leb-true}
 use Rattle.rv32.specs.Arithmetic.{compare_of}
@@ -122,7 +122,7 @@ calls_agree (home_of.Words b) pool n c d ts us vs ws e alike agree = record { sa
 calls_agree (home_of.Temporaries b) pool n c d ts us vs ws e alike agree = absurd (let z : ⊥ = cc in z)
 
 -- a function begins with none of its constants
-begins_agree : (h : Home) (pool : List ℕ) (n : ℕ) (ts us : Values) → n ≡ 0 → ((j : ℕ) → us j ≡ ts j) → PlacesAgree h pool n unset unset ts us
+pub begins_agree : (h : Home) (pool : List ℕ) (n : ℕ) (ts us : Values) → n ≡ 0 → ((j : ℕ) → us j ≡ ts j) → PlacesAgree h pool n unset unset ts us
 begins_agree h pool n ts us none alike = record {
   same = λ j out. refl;
   temporaries = λ j out. alike j;
@@ -373,7 +373,7 @@ module _ (p q : Program) (home : ℕ → Home) (pool : ℕ → List ℕ) (fill :
         is = refl;
         agree = record {
           frame = calls_agree (home f.function) (pool f.function) (fill f.function f.at) f.cells (first_or f.cells vs) unset unset (result_alone (s.temporaries 0)) (result_alone (us 0)) h.2
-          (λ j. ap (λ m. result_alone m j) (agree.frame.temporaries 0 out)) h.0;
+              (λ j. ap (λ m. result_alone m j) (agree.frame.temporaries 0 out)) h.0;
           waiting = h.3;
         };
       }
@@ -473,7 +473,7 @@ module _ (p q : Program) (home : ℕ → Home) (pool : ℕ → List ℕ) (fill :
       is = ap running (set_is (home k) (fill k i) (word constant) d us ds (past s));
       agree = record {
         frame = subst (λ n. Places n s.frame.cells (words_with (home k) (fill k i) (word constant) d) s.temporaries (temporaries_with (home k) (fill k i) (word constant) us)) (sym more)
-        (put_agrees (home k) (pool k) (fill k i) constant s.frame.cells d s.temporaries us there agree.frame);
+            (put_agrees (home k) (pool k) (fill k i) constant s.frame.cells d s.temporaries us there agree.frame);
         waiting = agree.waiting;
       };
     }
