@@ -17,7 +17,7 @@ use Rattle.frames_code.specs.declared.code.Instruction.TheVariants as instructio
 use Rattle.frames_code.specs.Code.{Function, area_home}
 use Rattle.frames_hoist.specs.declared.homes.Home.{Home}
 use Rattle.frames_hoist.specs.declared.homes.Home.TheVariants as home_of
-use Rattle.frames_hoist.specs.layer.Hoisting.{spares_word, spares_temporary, spares_arrays, survives_calls, reads_beside, writes_beside, begins_beside, lies_beside, is_fine, is_straight, is_nothing, from_pool, with_pool, put_word, filled, more_filled, hoisted_one, next_filled, hoisted, filled_at, is_straight_at, are_straight}
+use Rattle.frames_hoist.specs.layer.Hoisting.{spares_word, spares_temporary, spares_arrays, reads_beside, writes_beside, begins_beside, lies_beside, is_fine, is_straight, is_nothing, from_pool, with_pool, put_word, filled, more_filled, hoisted_one, next_filled, hoisted, filled_at, is_straight_at, are_straight}
 use Rattle.frames_hoist.specs.layer.Functions.{with_code, IsPooled}
 use Rattle.frames_hoist.proofs.Agreeing.{Outside, WordOutside, TemporaryOutside, OperandOutside, TargetOutside, BaseOutside, LocationOutside, IsOutside, LeadsAlike, PutsOne, Reads, Position}
 
