@@ -245,7 +245,7 @@ module _ (p q : Program) (home : ℕ → Home) (pool : ℕ → List ℕ) (fill :
       on true = record { frame = agree.frame; waiting = agree.waiting }
       on false = record { frame = agree.frame; waiting = all_changed s.waiting ds (suc l) b agree.waiting }
 
-  -- ---- an instruction that stays, but for constants that come from the frame
+  -- ---- an instruction that stays, but for constants that come from their places
 
   module _ (s : State) (d us : Values) (ds : List Values) (agree : Agrees s d us ds) where
     abbrev t : State
@@ -272,37 +272,19 @@ module _ (p q : Program) (home : ℕ → Home) (pool : ℕ → List ℕ) (fill :
     past_agrees : Next → Agrees (past s) d us ds
     past_agrees e = record { frame = places_next e; waiting = agree.waiting }
 
+    temporary_next : Next → (j : ℕ) (v : Value) → TemporaryOutside (home k) (pool k) j → Places (fill k (i + 1)) s.frame.cells d (with_at s.temporaries j v) (with_at us j v)
+    temporary_next e j v out = temporary_set (home k) (pool k) (fill k (i + 1)) j v s.frame.cells d s.temporaries us out (places_next e)
+
+    word_next : Next → (c : ℕ) (v : Value) → WordOutside (home k) (pool k) c → Places (fill k (i + 1)) (with_at s.frame.cells c v) (with_at d c v) s.temporaries us
+    word_next e c v out = word_set (home k) (pool k) (fill k (i + 1)) c v s.frame.cells d s.temporaries us out (places_next e)
+
     gives_match : Next → (g : Target) (v : Value) → TargetOutside (home k) (pool k) g → Matches (gives g s v) (gives g t v)
-    gives_match e (target.Temporary j) v out = record {
-      words = d;
-      temporaries = with_at us j v;
-      others = ds;
-      is = refl;
-      agree = record { frame = temporary_set (home k) (pool k) (fill k (i + 1)) j v s.frame.cells d s.temporaries us out (places_next e); waiting = agree.waiting };
-    }
-    gives_match e (target.Cell c) v out = record {
-      words = with_at d c v;
-      temporaries = us;
-      others = ds;
-      is = refl;
-      agree = record { frame = word_set (home k) (pool k) (fill k (i + 1)) c v s.frame.cells d s.temporaries us out (places_next e); waiting = agree.waiting };
-    }
+    gives_match e (target.Temporary j) v out = record { words = d; temporaries = with_at us j v; others = ds; is = refl; agree = record { frame = temporary_next e j v out; waiting = agree.waiting } }
+    gives_match e (target.Cell c) v out = record { words = with_at d c v; temporaries = us; others = ds; is = refl; agree = record { frame = word_next e c v out; waiting = agree.waiting } }
 
     move_match : Next → (g : Target) (v : Value) → TargetOutside (home k) (pool k) g → Matches (running (set g v (past s))) (running (set g v (past t)))
-    move_match e (target.Temporary j) v out = record {
-      words = d;
-      temporaries = with_at us j v;
-      others = ds;
-      is = refl;
-      agree = record { frame = temporary_set (home k) (pool k) (fill k (i + 1)) j v s.frame.cells d s.temporaries us out (places_next e); waiting = agree.waiting };
-    }
-    move_match e (target.Cell c) v out = record {
-      words = with_at d c v;
-      temporaries = us;
-      others = ds;
-      is = refl;
-      agree = record { frame = word_set (home k) (pool k) (fill k (i + 1)) c v s.frame.cells d s.temporaries us out (places_next e); waiting = agree.waiting };
-    }
+    move_match e (target.Temporary j) v out = record { words = d; temporaries = with_at us j v; others = ds; is = refl; agree = record { frame = temporary_next e j v out; waiting = agree.waiting } }
+    move_match e (target.Cell c) v out = record { words = with_at d c v; temporaries = us; others = ds; is = refl; agree = record { frame = word_next e c v out; waiting = agree.waiting } }
 
     loaded_on : Next → (w : Width) (g : Target) (offset : ℕ) → TargetOutside (home k) (pool k) g → (o o2 : Option Memory) → MemoryAlike o o2
         → Matches (o >>= λ m. if fits w offset m then element_in w m.bytes offset >>= gives_word g s else stuck) (o2 >>= λ m. if fits w offset m then element_in w m.bytes offset >>= gives_word g t else stuck)

@@ -54,7 +54,7 @@ fn home_in(function: &Function) -> (Home, usize) {
     }
 }
 
-/// Whether a function has so many places there that its code may not need.
+/// Whether so many places there are registers: of words in a frame without arrays, or of temporaries.
 fn has_places(function: &Function, home: Home, most: usize) -> bool
     requires { most ≤ 4 }
     ensures { OnTrue result (HasPlaces (function_of function.now) home most) }

@@ -36,7 +36,7 @@ pub fn put_in(home: Home, number: usize) -> Target
     }
 }
 
-/// Whether a word of the frame is behind none of the places.
+/// Whether a word of the frame comes before the places, if these are words.
 pub fn spares_word(home: Home, number: usize) -> bool
     ensures { result ≡ hoisting.spares_word home number }
 {
@@ -46,7 +46,7 @@ pub fn spares_word(home: Home, number: usize) -> bool
     }
 }
 
-/// Whether a temporary is behind none of the places.
+/// Whether a temporary comes before the places, if these are temporaries.
 pub fn spares_temporary(home: Home, number: usize) -> bool
     ensures { result ≡ hoisting.spares_temporary home number }
 {
