@@ -298,12 +298,12 @@ module _ (f g : Function) (is : IsPooled f g) where
   pub count : length g.code ≡ length f.code
   count = ap (λ (h : Function). length h.code) is.is ∙ hoisted_length is.home is.pool is.start 0 0 f.code
 
-  arrays_stay : (h : Home) (n : ℕ) (code : List Instruction) → spares_arrays h ≡ true → area_home (with_code f h n code) ≡ area_home f
-  arrays_stay (home_of.Words b) n code e = absurd (not_true e)
-  arrays_stay (home_of.Temporaries b) n code e = omega arith
+  arrays_spared : (h : Home) (n : ℕ) (code : List Instruction) → spares_arrays h ≡ true → area_home (with_code f h n code) ≡ area_home f
+  arrays_spared (home_of.Words b) n code e = absurd (not_true e)
+  arrays_spared (home_of.Temporaries b) n code e = omega arith
 
   pub arrays : spares_arrays is.home ≡ true → area_home g ≡ area_home f
-  arrays e = ap area_home is.is ∙ arrays_stay is.home m (hoisted is.home is.pool is.start 0 0 f.code) e
+  arrays e = ap area_home is.is ∙ arrays_spared is.home m (hoisted is.home is.pool is.start 0 0 f.code) e
 
   module _ (i : ℕ) (x : Instruction) (e : slice_get f.code i ≡ Some x) where
     abbrev done : Instruction
