@@ -14,10 +14,12 @@ use Rattle.frames_code.specs.declared.code.Location.{Location}
 use Rattle.frames_code.specs.declared.code.Location.TheVariants as location
 use Rattle.frames_code.specs.declared.code.Instruction.{Instruction}
 use Rattle.frames_code.specs.declared.code.Instruction.TheVariants as instruction
-use Rattle.frames_code.specs.Code.{Function}
-use Rattle.frames_hoist.specs.layer.Hoisting.{reads_below, writes_below, is_in_statics, lies_below, is_fine, is_straight, is_nothing, from_pool, with_pool, put_word, filled, more_filled, hoisted_one, next_filled, hoisted, filled_at, is_straight_at, are_straight}
-use Rattle.frames_hoist.specs.layer.Functions.{IsPooled}
-use Rattle.frames_hoist.proofs.Agreeing.{Outside, OperandOutside, TargetOutside, BaseOutside, LocationOutside, IsOutside, LeadsAlike, PutsOne, Reads, Position}
+use Rattle.frames_code.specs.Code.{Function, area_home}
+use Rattle.frames_hoist.specs.declared.homes.Home.{Home}
+use Rattle.frames_hoist.specs.declared.homes.Home.TheVariants as home_of
+use Rattle.frames_hoist.specs.layer.Hoisting.{spares_word, spares_temporary, spares_arrays, reads_beside, writes_beside, begins_beside, lies_beside, is_fine, is_straight, is_nothing, from_pool, with_pool, put_word, filled, more_filled, hoisted_one, next_filled, hoisted, filled_at, is_straight_at, are_straight}
+use Rattle.frames_hoist.specs.layer.Functions.{with_code, IsPooled}
+use Rattle.frames_hoist.proofs.Agreeing.{Outside, WordOutside, TemporaryOutside, OperandOutside, TargetOutside, BaseOutside, LocationOutside, IsOutside, LeadsAlike, PutsOne, Reads, Position}
 
 -- ---- tests
 
@@ -107,17 +109,17 @@ module _ (m start : ℕ) where
 
 -- ---- each instruction
 
-module _ (c : ℕ) (pool : List ℕ) (start : ℕ) where
+module _ (h : Home) (pool : List ℕ) (start : ℕ) where
   pub hoisted_at : (k n : ℕ) (xs : List Instruction) (i j : ℕ) (x : Instruction) → slice_get xs i ≡ Some x → j ≡ k + i
-      → slice_get (hoisted c pool start k n xs) i ≡ Some (hoisted_one c pool start j (filled_at (length pool) start k n xs i) x)
+      → slice_get (hoisted h pool start k n xs) i ≡ Some (hoisted_one h pool start j (filled_at (length pool) start k n xs i) x)
   hoisted_at k n [] i j x e g = absurd (no_item i x e)
   hoisted_at k n (y ∷ ys) zero j x e g =
       let here : j ≡ k = omega (arith, g) in
       let same : y ≡ x = cc in
-      ap (λ z. Some (hoisted_one c pool start k n z)) same ∙ ap (λ o. Some (hoisted_one c pool start o n x)) (sym here)
+      ap (λ z. Some (hoisted_one h pool start k n z)) same ∙ ap (λ o. Some (hoisted_one h pool start o n x)) (sym here)
   hoisted_at k n (y ∷ ys) (suc i) j x e g = hoisted_at (k + 1) (next_filled (length pool) start k n y) ys i j x e (omega (arith, g))
 
-  pub hoisted_length : (k n : ℕ) (xs : List Instruction) → length (hoisted c pool start k n xs) ≡ length xs
+  pub hoisted_length : (k n : ℕ) (xs : List Instruction) → length (hoisted h pool start k n xs) ≡ length xs
   hoisted_length k n [] = refl
   hoisted_length k n (x ∷ xs) = ap suc (hoisted_length (k + 1) (next_filled (length pool) start k n x) xs)
 
@@ -139,55 +141,63 @@ all_at f (y ∷ ys) (suc i) x h e = all_at f ys i x (right_true (f y) (list_all 
 
 -- ---- what an instruction names
 
-module _ (base start : ℕ) (pool : List ℕ) (f g : Function) where
-  word_outside : (c : ℕ) → nat_lt c base ≡ true → Outside base pool c
-  word_outside c e = λ i w h same. let lt = ltb-true c base e in omega (arith, lt, same)
+number_outside : (b : ℕ) (pool : List ℕ) (k : ℕ) → nat_lt k b ≡ true → Outside b pool k
+number_outside b pool k e = λ i w h same. let lt = ltb-true k b e in omega (arith, lt, same)
 
-  operand_outside : (x : Operand) → reads_below base x ≡ true → OperandOutside base pool x
-  operand_outside (operand.Temporary k) e = tt
-  operand_outside (operand.Cell c) e = word_outside c e
+word_outside : (h : Home) (pool : List ℕ) (k : ℕ) → spares_word h k ≡ true → WordOutside h pool k
+word_outside (home_of.Words b) pool k e = number_outside b pool k e
+word_outside (home_of.Temporaries b) pool k e = tt
+
+temporary_outside : (h : Home) (pool : List ℕ) (k : ℕ) → spares_temporary h k ≡ true → TemporaryOutside h pool k
+temporary_outside (home_of.Words b) pool k e = tt
+temporary_outside (home_of.Temporaries b) pool k e = number_outside b pool k e
+
+module _ (h : Home) (start : ℕ) (pool : List ℕ) (f g : Function) (arrays : spares_arrays h ≡ true → area_home g ≡ area_home f) where
+  operand_outside : (x : Operand) → reads_beside h x ≡ true → OperandOutside h pool x
+  operand_outside (operand.Temporary k) e = temporary_outside h pool k e
+  operand_outside (operand.Cell c) e = word_outside h pool c e
   operand_outside (operand.Constant v) e = tt
   operand_outside (operand.Argument k) e = tt
 
-  target_outside : (d : Target) → writes_below base d ≡ true → TargetOutside base pool d
-  target_outside (target.Temporary k) e = tt
-  target_outside (target.Cell c) e = word_outside c e
+  target_outside : (d : Target) → writes_beside h d ≡ true → TargetOutside h pool d
+  target_outside (target.Temporary k) e = temporary_outside h pool k e
+  target_outside (target.Cell c) e = word_outside h pool c e
 
-  base_outside : (b : Base) → is_in_statics b ≡ true → BaseOutside f g b
+  base_outside : (b : Base) → begins_beside h b ≡ true → BaseOutside f g b
   base_outside (array_base.Statics o) e = tt
-  base_outside (array_base.Frame o) e = absurd (not_true e)
+  base_outside (array_base.Frame o) e = arrays e
 
-  location_outside : (l : Location) → lies_below base l ≡ true → LocationOutside base pool f g l
+  location_outside : (l : Location) → lies_beside h l ≡ true → LocationOutside h pool f g l
   location_outside (location.Statics o) e = tt
-  location_outside (location.Frame o) e = absurd (not_true e)
+  location_outside (location.Frame o) e = arrays e
   location_outside (location.At x) e = operand_outside x e
-  location_outside (location.Indexed b y size) e = (base_outside b (left_true (is_in_statics b) (reads_below base y) e), operand_outside y (right_true (is_in_statics b) (reads_below base y) e))
+  location_outside (location.Indexed b y size) e = (base_outside b (left_true (begins_beside h b) (reads_beside h y) e), operand_outside y (right_true (begins_beside h b) (reads_beside h y) e))
 
-  pub is_outside : (x : Instruction) → is_fine base start x ≡ true → IsOutside base pool f g x
+  pub is_outside : (x : Instruction) → is_fine h start x ≡ true → IsOutside h pool f g x
   is_outside instruction.Nothing e = tt
-  is_outside (instruction.Move d x) e = (target_outside d (left_true (writes_below base d) (reads_below base x) e), operand_outside x (right_true (writes_below base d) (reads_below base x) e))
+  is_outside (instruction.Move d x) e = (target_outside d (left_true (writes_beside h d) (reads_beside h x) e), operand_outside x (right_true (writes_beside h d) (reads_beside h x) e))
   is_outside (instruction.Compute o d x y) e =
-      let more = right_true (writes_below base d) (reads_below base x && reads_below base y) e in
-      (target_outside d (left_true (writes_below base d) (reads_below base x && reads_below base y) e), operand_outside x (left_true (reads_below base x) (reads_below base y) more), operand_outside y (right_true (reads_below base x) (reads_below base y) more))
-  is_outside (instruction.Convert c d x) e = (target_outside d (left_true (writes_below base d) (reads_below base x) e), operand_outside x (right_true (writes_below base d) (reads_below base x) e))
-  is_outside (instruction.Load w d l) e = (target_outside d (left_true (writes_below base d) (lies_below base l) e), location_outside l (right_true (writes_below base d) (lies_below base l) e))
-  is_outside (instruction.Store w x l) e = (operand_outside x (left_true (reads_below base x) (lies_below base l) e), location_outside l (right_true (reads_below base x) (lies_below base l) e))
-  is_outside (instruction.Address d l) e = (target_outside d (left_true (writes_below base d) (lies_below base l) e), location_outside l (right_true (writes_below base d) (lies_below base l) e))
+      let more = right_true (writes_beside h d) (reads_beside h x && reads_beside h y) e in
+      (target_outside d (left_true (writes_beside h d) (reads_beside h x && reads_beside h y) e), operand_outside x (left_true (reads_beside h x) (reads_beside h y) more), operand_outside y (right_true (reads_beside h x) (reads_beside h y) more))
+  is_outside (instruction.Convert c d x) e = (target_outside d (left_true (writes_beside h d) (reads_beside h x) e), operand_outside x (right_true (writes_beside h d) (reads_beside h x) e))
+  is_outside (instruction.Load w d l) e = (target_outside d (left_true (writes_beside h d) (lies_beside h l) e), location_outside l (right_true (writes_beside h d) (lies_beside h l) e))
+  is_outside (instruction.Store w x l) e = (operand_outside x (left_true (reads_beside h x) (lies_beside h l) e), location_outside l (right_true (reads_beside h x) (lies_beside h l) e))
+  is_outside (instruction.Address d l) e = (target_outside d (left_true (writes_beside h d) (lies_beside h l) e), location_outside l (right_true (writes_beside h d) (lies_beside h l) e))
   is_outside (instruction.Element d x y size) e =
-      let more = right_true (writes_below base d) (reads_below base x && reads_below base y) e in
-      (target_outside d (left_true (writes_below base d) (reads_below base x && reads_below base y) e), operand_outside x (left_true (reads_below base x) (reads_below base y) more), operand_outside y (right_true (reads_below base x) (reads_below base y) more))
+      let more = right_true (writes_beside h d) (reads_beside h x && reads_beside h y) e in
+      (target_outside d (left_true (writes_beside h d) (reads_beside h x && reads_beside h y) e), operand_outside x (left_true (reads_beside h x) (reads_beside h y) more), operand_outside y (right_true (reads_beside h x) (reads_beside h y) more))
   is_outside (instruction.Jump to) e = tt
   is_outside (instruction.Branch t x y to) e =
-      let more = right_true (reads_below base x) (reads_below base y && nat_le start to) e in
-      (operand_outside x (left_true (reads_below base x) (reads_below base y && nat_le start to) e), operand_outside y (left_true (reads_below base y) (nat_le start to) more))
-  is_outside (instruction.Call k) e = tt
-  is_outside instruction.PutByte e = tt
-  is_outside instruction.GetByte e = tt
-  is_outside instruction.Exit e = tt
-  is_outside instruction.Return e = tt
+      let more = right_true (reads_beside h x) (reads_beside h y && nat_le start to) e in
+      (operand_outside x (left_true (reads_beside h x) (reads_beside h y && nat_le start to) e), operand_outside y (left_true (reads_beside h y) (nat_le start to) more))
+  is_outside (instruction.Call k) e = e
+  is_outside instruction.PutByte e = e
+  is_outside instruction.GetByte e = e
+  is_outside instruction.Exit e = temporary_outside h pool 0 e
+  is_outside instruction.Return e = temporary_outside h pool 0 e
 
-  -- jumps lead to where as many constants are in the frame
-  pub leads_alike : (fill : ℕ → ℕ) (n : ℕ) → ((to : ℕ) → start ≤ to → fill to ≡ n) → (x : Instruction) → is_fine base start x ≡ true → LeadsAlike fill n x
+  -- jumps lead to where as many constants are in their places
+  pub leads_alike : (fill : ℕ → ℕ) (n : ℕ) → ((to : ℕ) → start ≤ to → fill to ≡ n) → (x : Instruction) → is_fine h start x ≡ true → LeadsAlike fill n x
   leads_alike fill n each instruction.Nothing e = tt
   leads_alike fill n each (instruction.Move d x) e = tt
   leads_alike fill n each (instruction.Compute o d x y) e = tt
@@ -198,7 +208,7 @@ module _ (base start : ℕ) (pool : List ℕ) (f g : Function) where
   leads_alike fill n each (instruction.Element d x y size) e = tt
   leads_alike fill n each (instruction.Jump to) e = each to (leb-true start to e)
   leads_alike fill n each (instruction.Branch t x y to) e =
-      each to (leb-true start to (right_true (reads_below base y) (nat_le start to) (right_true (reads_below base x) (reads_below base y && nat_le start to) e)))
+      each to (leb-true start to (right_true (reads_beside h y) (nat_le start to) (right_true (reads_beside h x) (reads_beside h y && nat_le start to) e)))
   leads_alike fill n each (instruction.Call k) e = tt
   leads_alike fill n each instruction.PutByte e = tt
   leads_alike fill n each instruction.GetByte e = tt
@@ -222,29 +232,29 @@ leads_nowhere fill n instruction.GetByte e = tt
 leads_nowhere fill n instruction.Exit e = tt
 leads_nowhere fill n instruction.Return e = tt
 
-none_read : (c : ℕ) (x : Operand) → from_pool c [] x ≡ x
-none_read c (operand.Temporary k) = refl
-none_read c (operand.Cell k) = refl
-none_read c (operand.Constant v) = refl
-none_read c (operand.Argument k) = refl
+none_read : (h : Home) (x : Operand) → from_pool h [] x ≡ x
+none_read h (operand.Temporary k) = refl
+none_read h (operand.Cell k) = refl
+none_read h (operand.Constant v) = refl
+none_read h (operand.Argument k) = refl
 
 -- with no constants it stays
-pub no_pool : (c : ℕ) (x : Instruction) → x ≡ with_pool c [] x
-no_pool c instruction.Nothing = refl
-no_pool c (instruction.Move d x) = ap (instruction.Move d) (sym (none_read c x))
-no_pool c (instruction.Compute o d x y) = ap (λ z. instruction.Compute o d z y) (sym (none_read c x)) ∙ ap (instruction.Compute o d (from_pool c [] x)) (sym (none_read c y))
-no_pool c (instruction.Convert k d x) = refl
-no_pool c (instruction.Load w d l) = refl
-no_pool c (instruction.Store w x l) = ap (λ z. instruction.Store w z l) (sym (none_read c x))
-no_pool c (instruction.Address d l) = refl
-no_pool c (instruction.Element d x y size) = refl
-no_pool c (instruction.Jump to) = refl
-no_pool c (instruction.Branch t x y to) = ap (λ z. instruction.Branch t z y to) (sym (none_read c x)) ∙ ap (λ z. instruction.Branch t (from_pool c [] x) z to) (sym (none_read c y))
-no_pool c (instruction.Call f) = refl
-no_pool c instruction.PutByte = refl
-no_pool c instruction.GetByte = refl
-no_pool c instruction.Exit = refl
-no_pool c instruction.Return = refl
+pub no_pool : (h : Home) (x : Instruction) → x ≡ with_pool h [] x
+no_pool h instruction.Nothing = refl
+no_pool h (instruction.Move d x) = ap (instruction.Move d) (sym (none_read h x))
+no_pool h (instruction.Compute o d x y) = ap (λ z. instruction.Compute o d z y) (sym (none_read h x)) ∙ ap (instruction.Compute o d (from_pool h [] x)) (sym (none_read h y))
+no_pool h (instruction.Convert k d x) = refl
+no_pool h (instruction.Load w d l) = refl
+no_pool h (instruction.Store w x l) = ap (λ z. instruction.Store w z l) (sym (none_read h x))
+no_pool h (instruction.Address d l) = refl
+no_pool h (instruction.Element d x y size) = refl
+no_pool h (instruction.Jump to) = refl
+no_pool h (instruction.Branch t x y to) = ap (λ z. instruction.Branch t z y to) (sym (none_read h x)) ∙ ap (λ z. instruction.Branch t (from_pool h [] x) z to) (sym (none_read h y))
+no_pool h (instruction.Call f) = refl
+no_pool h instruction.PutByte = refl
+no_pool h instruction.GetByte = refl
+no_pool h instruction.Exit = refl
+no_pool h instruction.Return = refl
 
 nothing_is : (x : Instruction) → is_nothing x ≡ true → x ≡ instruction.Nothing
 nothing_is instruction.Nothing e = refl
@@ -286,39 +296,46 @@ module _ (f g : Function) (is : IsPooled f g) where
   full_from i le = filled_full m is.start f.code i (i - is.start) (omega (arith, le)) is.ready.full
 
   pub count : length g.code ≡ length f.code
-  count = ap (λ (h : Function). length h.code) is.is ∙ hoisted_length f.cells is.pool is.start 0 0 f.code
+  count = ap (λ (h : Function). length h.code) is.is ∙ hoisted_length is.home is.pool is.start 0 0 f.code
+
+  arrays_spared : (h : Home) (n : ℕ) (code : List Instruction) → spares_arrays h ≡ true → area_home (with_code f h n code) ≡ area_home f
+  arrays_spared (home_of.Words b) n code e = absurd (not_true e)
+  arrays_spared (home_of.Temporaries b) n code e = omega arith
+
+  pub arrays : spares_arrays is.home ≡ true → area_home g ≡ area_home f
+  arrays e = ap area_home is.is ∙ arrays_spared is.home m (hoisted is.home is.pool is.start 0 0 f.code) e
 
   module _ (i : ℕ) (x : Instruction) (e : slice_get f.code i ≡ Some x) where
     abbrev done : Instruction
-    done = hoisted_one f.cells is.pool is.start i (fill i) x
+    done = hoisted_one is.home is.pool is.start i (fill i) x
 
     there : slice_get g.code i ≡ Some done
-    there = ap (λ (h : Function). slice_get h.code i) is.is ∙ hoisted_at f.cells is.pool is.start 0 0 f.code i i x e (omega arith)
+    there = ap (λ (h : Function). slice_get h.code i) is.is ∙ hoisted_at is.home is.pool is.start 0 0 f.code i i x e (omega arith)
 
     one : suc i ≡ i + 1
     one = omega arith
 
-    outside : IsOutside f.cells is.pool f g x
-    outside = is_outside f.cells is.start is.pool f g x (all_at (is_fine f.cells is.start) f.code i x is.ready.fine e)
+    outside : IsOutside is.home is.pool f g x
+    outside = is_outside is.home is.start is.pool f g arrays x (all_at (is_fine is.home is.start) f.code i x is.ready.fine e)
 
     further : fill (i + 1) ≡ next_filled m is.start i (fill i) x
     further = ap fill (sym one) ∙ filled_next m is.start 0 0 f.code i i x e (omega arith)
 
     abbrev By : Instruction → Type 0
-    By y = PutsOne f.cells is.pool fill i x y ⊎ Reads f.cells is.pool fill f g i x y
+    By y = PutsOne is.home is.pool fill i x y ⊎ Reads is.home is.pool fill f g i x y
 
     later : nat_lt i is.start ≡ false → By done
     later past_it =
         let le = ltb-false i is.start past_it in
         let full : fill i ≡ m = full_from i (omega (arith, le)) in
-        let same : done ≡ with_pool f.cells is.pool x = ap (λ b. if b then filled f.cells is.pool (fill i) x else with_pool f.cells is.pool x) past_it in
+        let same : done ≡ with_pool is.home is.pool x = ap (λ b. if b then filled is.home is.pool (fill i) x else with_pool is.home is.pool x) past_it in
         inr (record {
           read = is.pool;
           held = inr (refl, full);
           is = same;
           outside = outside;
           after = further ∙ ap (λ b. if b then more_filled m (fill i) x else fill i) past_it;
-          leads = leads_alike f.cells is.start is.pool f g fill (fill i) (λ to h. full_from to h ∙ sym full) x (all_at (is_fine f.cells is.start) f.code i x is.ready.fine e);
+          leads = leads_alike is.home is.start is.pool f g arrays fill (fill i) (λ to h. full_from to h ∙ sym full) x (all_at (is_fine is.home is.start) f.code i x is.ready.fine e);
           whole = inr full;
         })
 
@@ -329,14 +346,14 @@ module _ (f g : Function) (is : IsPooled f g) where
         inr (record {
           read = [];
           held = inl refl;
-          is = same ∙ no_pool f.cells x;
+          is = same ∙ no_pool is.home x;
           outside = outside;
           after = further ∙ (ap (λ b. if b then more_filled m (fill i) x else fill i) ahead ∙ none);
           leads = leads_nowhere fill (fill i) x straight;
           whole = inl straight;
         })
 
-    puts : nat_lt i is.start ≡ true → x ≡ instruction.Nothing → (o : Option ℕ) → slice_get is.pool (fill i) ≡ o → By (put_word (f.cells + fill i) o)
+    puts : nat_lt i is.start ≡ true → x ≡ instruction.Nothing → (o : Option ℕ) → slice_get is.pool (fill i) ≡ o → By (put_word is.home (fill i) o)
     puts ahead was None h =
         let none : more_filled m (fill i) x ≡ fill i = ap (λ z. more_filled m (fill i) z) was ∙ ap (λ b. if b then fill i + 1 else fill i) (get_none is.pool (fill i) h) in
         stays ahead instruction.Nothing (sym was) none
@@ -354,34 +371,38 @@ module _ (f g : Function) (is : IsPooled f g) where
     before : nat_lt i is.start ≡ true → By done
     before ahead = subst By (sym same) (on (is_nothing x) refl)
       where
-        same : done ≡ filled f.cells is.pool (fill i) x
-        same = ap (λ b. if b then filled f.cells is.pool (fill i) x else with_pool f.cells is.pool x) ahead
+        same : done ≡ filled is.home is.pool (fill i) x
+        same = ap (λ b. if b then filled is.home is.pool (fill i) x else with_pool is.home is.pool x) ahead
 
-        on : (b : Bool) → is_nothing x ≡ b → By (filled f.cells is.pool (fill i) x)
+        on : (b : Bool) → is_nothing x ≡ b → By (filled is.home is.pool (fill i) x)
         on true h =
-            let put : filled f.cells is.pool (fill i) x ≡ put_word (f.cells + fill i) (slice_get is.pool (fill i)) = ap (λ b. if b then put_word (f.cells + fill i) (slice_get is.pool (fill i)) else x) h in
+            let put : filled is.home is.pool (fill i) x ≡ put_word is.home (fill i) (slice_get is.pool (fill i)) = ap (λ b. if b then put_word is.home (fill i) (slice_get is.pool (fill i)) else x) h in
             subst By (sym put) (puts ahead (nothing_is x h) (slice_get is.pool (fill i)) refl)
         on false h =
-            let kept : filled f.cells is.pool (fill i) x ≡ x = ap (λ b. if b then put_word (f.cells + fill i) (slice_get is.pool (fill i)) else x) h in
+            let kept : filled is.home is.pool (fill i) x ≡ x = ap (λ b. if b then put_word is.home (fill i) (slice_get is.pool (fill i)) else x) h in
             let none : more_filled m (fill i) x ≡ fill i = ap (λ b. if b && nat_lt (fill i) m then fill i + 1 else fill i) h in
-            stays ahead (filled f.cells is.pool (fill i) x) kept none
+            stays ahead (filled is.home is.pool (fill i) x) kept none
 
-    pub position : Position f.cells is.pool fill f g i x
+    pub position : Position is.home is.pool fill f g i x
     position = record { done = done; is = there; by = ⊎_elim before later (less_or i is.start) }
 
 -- ---- a function that stays
+
+-- it has no constants in words of its frame
+abbrev pub nowhere : Home
+nowhere = home_of.Words 0
 
 module _ (f : Function) where
   none_outside : (c : ℕ) → Outside 0 [] c
   none_outside c = λ i w e same. no_item i w e
 
-  operand_stays : (x : Operand) → OperandOutside 0 [] x
+  operand_stays : (x : Operand) → OperandOutside nowhere [] x
   operand_stays (operand.Temporary k) = tt
   operand_stays (operand.Cell c) = none_outside c
   operand_stays (operand.Constant v) = tt
   operand_stays (operand.Argument k) = tt
 
-  target_stays : (d : Target) → TargetOutside 0 [] d
+  target_stays : (d : Target) → TargetOutside nowhere [] d
   target_stays (target.Temporary k) = tt
   target_stays (target.Cell c) = none_outside c
 
@@ -389,13 +410,13 @@ module _ (f : Function) where
   base_stays (array_base.Statics o) = tt
   base_stays (array_base.Frame o) = refl
 
-  location_stays : (l : Location) → LocationOutside 0 [] f f l
+  location_stays : (l : Location) → LocationOutside nowhere [] f f l
   location_stays (location.Statics o) = tt
   location_stays (location.Frame o) = refl
   location_stays (location.At x) = operand_stays x
   location_stays (location.Indexed b y size) = (base_stays b, operand_stays y)
 
-  outside_stays : (x : Instruction) → IsOutside 0 [] f f x
+  outside_stays : (x : Instruction) → IsOutside nowhere [] f f x
   outside_stays instruction.Nothing = tt
   outside_stays (instruction.Move d x) = (target_stays d, operand_stays x)
   outside_stays (instruction.Compute o d x y) = (target_stays d, operand_stays x, operand_stays y)
@@ -406,9 +427,9 @@ module _ (f : Function) where
   outside_stays (instruction.Element d x y size) = (target_stays d, operand_stays x, operand_stays y)
   outside_stays (instruction.Jump to) = tt
   outside_stays (instruction.Branch t x y to) = (operand_stays x, operand_stays y)
-  outside_stays (instruction.Call k) = tt
-  outside_stays instruction.PutByte = tt
-  outside_stays instruction.GetByte = tt
+  outside_stays (instruction.Call k) = refl
+  outside_stays instruction.PutByte = refl
+  outside_stays instruction.GetByte = refl
   outside_stays instruction.Exit = tt
   outside_stays instruction.Return = tt
 
@@ -429,9 +450,9 @@ module _ (f : Function) where
   leads_stay instruction.Exit = tt
   leads_stay instruction.Return = tt
 
-  pub same_position : (i : ℕ) (x : Instruction) → slice_get f.code i ≡ Some x → Position 0 [] (λ i. 0) f f i x
+  pub same_position : (i : ℕ) (x : Instruction) → slice_get f.code i ≡ Some x → Position nowhere [] (λ i. 0) f f i x
   same_position i x e = record {
     done = x;
     is = e;
-    by = inr (record { read = []; held = inl refl; is = no_pool 0 x; outside = outside_stays x; after = refl; leads = leads_stay x; whole = inr refl });
+    by = inr (record { read = []; held = inl refl; is = no_pool nowhere x; outside = outside_stays x; after = refl; leads = leads_stay x; whole = inr refl });
   }

@@ -13,16 +13,17 @@ use Rattle.frames_code.specs.Code.{Program}
 use Rattle.frames_code.specs.Costs.{entry_cost, entry_cost_of, cost, cost_if, cost_in, cost_in_if, cost_on, next_of, spent, spent_in, spent_with_entry}
 use Rattle.frames_code.specs.Run.{Value, Values, Bytes, Frame, State, Reference, Progress, running, ended, stuck, word, reference, value, word_at, reference_in, set, unset, next, past, goes_to, place, memory, changed_among, with_frames, with_memory, with_element, element_in, fits, gives, gives_word, operate, converted, loaded, stored, put, got, act, step, run, start, goes_on, active, function_at, name_of, returned, ◌>>=◌}
 use Rattle.frames_opt.specs.Simplified.{DoesTheSame, IsDefined, IsAtCall}
-use Rattle.frames_hoist.specs.layer.Hoisting.{is_straight, with_pool}
-use Rattle.frames_hoist.proofs.Agreeing.{LeadsAlike, PutsOne, Reads, Position, AreAlike, rest_of, under, over, AllAgree, Agree, Match}
-use Rattle.frames_hoist.proofs.Acting.{reads_alike, puts_alike}
+use Rattle.frames_hoist.specs.declared.homes.Home.{Home}
+use Rattle.frames_hoist.specs.layer.Hoisting.{survives_calls, put_in, is_straight, with_pool}
+use Rattle.frames_hoist.proofs.Agreeing.{TemporaryOutside, IsOutside, LeadsAlike, PutsOne, Reads, Position, AreAlike, rest_of, under, over, AllAgree, Agree, Match}
+use Rattle.frames_hoist.proofs.Acting.{reads_alike, puts_alike, none_lost, begins_agree}
 
 functions_under : (fs : List Frame) (ds : List Values) → map (λ (f : Frame). f.function) (under fs ds) ≡ map (λ (f : Frame). f.function) fs
 functions_under [] ds = refl
 functions_under (f ∷ fs) ds = ap (λ (ns : List ℕ). f.function ∷ ns) (functions_under fs (rest_of ds))
 
-active_same : (d : Values) (ds : List Values) (s : State) → active (over d ds s) ≡ active s
-active_same d ds s = ap (λ (ns : List ℕ). s.frame.function ∷ ns) (functions_under s.waiting ds)
+active_same : (d us : Values) (ds : List Values) (s : State) → active (over d us ds s) ≡ active s
+active_same d us ds s = ap (λ (ns : List ℕ). s.frame.function ∷ ns) (functions_under s.waiting ds)
 
 same_running : (s t : State) → running s ≡ running t → s ≡ t
 same_running s t e = cc
@@ -31,39 +32,39 @@ same_some : {A : Type 0} (x y : A) → Some x ≡ Some y → x ≡ y
 same_some x y e = cc
 
 -- no other instruction becomes one of these
-call_stays : (c : ℕ) (pool : List ℕ) (x : Instruction) (g : ℕ) → with_pool c pool x ≡ instruction.Call g → x ≡ instruction.Call g
-call_stays c pool instruction.Nothing g e = absurd (let z : ⊥ = cc in z)
-call_stays c pool (instruction.Move d x) g e = absurd (let z : ⊥ = cc in z)
-call_stays c pool (instruction.Compute o d x y) g e = absurd (let z : ⊥ = cc in z)
-call_stays c pool (instruction.Convert k d x) g e = absurd (let z : ⊥ = cc in z)
-call_stays c pool (instruction.Load w d l) g e = absurd (let z : ⊥ = cc in z)
-call_stays c pool (instruction.Store w x l) g e = absurd (let z : ⊥ = cc in z)
-call_stays c pool (instruction.Address d l) g e = absurd (let z : ⊥ = cc in z)
-call_stays c pool (instruction.Element d x y size) g e = absurd (let z : ⊥ = cc in z)
-call_stays c pool (instruction.Jump to) g e = absurd (let z : ⊥ = cc in z)
-call_stays c pool (instruction.Branch t x y to) g e = absurd (let z : ⊥ = cc in z)
-call_stays c pool (instruction.Call f) g e = e
-call_stays c pool instruction.PutByte g e = absurd (let z : ⊥ = cc in z)
-call_stays c pool instruction.GetByte g e = absurd (let z : ⊥ = cc in z)
-call_stays c pool instruction.Exit g e = absurd (let z : ⊥ = cc in z)
-call_stays c pool instruction.Return g e = absurd (let z : ⊥ = cc in z)
+call_stays : (h : Home) (pool : List ℕ) (x : Instruction) (g : ℕ) → with_pool h pool x ≡ instruction.Call g → x ≡ instruction.Call g
+call_stays h pool instruction.Nothing g e = absurd (let z : ⊥ = cc in z)
+call_stays h pool (instruction.Move d x) g e = absurd (let z : ⊥ = cc in z)
+call_stays h pool (instruction.Compute o d x y) g e = absurd (let z : ⊥ = cc in z)
+call_stays h pool (instruction.Convert k d x) g e = absurd (let z : ⊥ = cc in z)
+call_stays h pool (instruction.Load w d l) g e = absurd (let z : ⊥ = cc in z)
+call_stays h pool (instruction.Store w x l) g e = absurd (let z : ⊥ = cc in z)
+call_stays h pool (instruction.Address d l) g e = absurd (let z : ⊥ = cc in z)
+call_stays h pool (instruction.Element d x y size) g e = absurd (let z : ⊥ = cc in z)
+call_stays h pool (instruction.Jump to) g e = absurd (let z : ⊥ = cc in z)
+call_stays h pool (instruction.Branch t x y to) g e = absurd (let z : ⊥ = cc in z)
+call_stays h pool (instruction.Call f) g e = e
+call_stays h pool instruction.PutByte g e = absurd (let z : ⊥ = cc in z)
+call_stays h pool instruction.GetByte g e = absurd (let z : ⊥ = cc in z)
+call_stays h pool instruction.Exit g e = absurd (let z : ⊥ = cc in z)
+call_stays h pool instruction.Return g e = absurd (let z : ⊥ = cc in z)
 
-return_stays : (c : ℕ) (pool : List ℕ) (x : Instruction) → with_pool c pool x ≡ instruction.Return → x ≡ instruction.Return
-return_stays c pool instruction.Nothing e = absurd (let z : ⊥ = cc in z)
-return_stays c pool (instruction.Move d x) e = absurd (let z : ⊥ = cc in z)
-return_stays c pool (instruction.Compute o d x y) e = absurd (let z : ⊥ = cc in z)
-return_stays c pool (instruction.Convert k d x) e = absurd (let z : ⊥ = cc in z)
-return_stays c pool (instruction.Load w d l) e = absurd (let z : ⊥ = cc in z)
-return_stays c pool (instruction.Store w x l) e = absurd (let z : ⊥ = cc in z)
-return_stays c pool (instruction.Address d l) e = absurd (let z : ⊥ = cc in z)
-return_stays c pool (instruction.Element d x y size) e = absurd (let z : ⊥ = cc in z)
-return_stays c pool (instruction.Jump to) e = absurd (let z : ⊥ = cc in z)
-return_stays c pool (instruction.Branch t x y to) e = absurd (let z : ⊥ = cc in z)
-return_stays c pool (instruction.Call f) e = absurd (let z : ⊥ = cc in z)
-return_stays c pool instruction.PutByte e = absurd (let z : ⊥ = cc in z)
-return_stays c pool instruction.GetByte e = absurd (let z : ⊥ = cc in z)
-return_stays c pool instruction.Exit e = absurd (let z : ⊥ = cc in z)
-return_stays c pool instruction.Return e = refl
+return_stays : (h : Home) (pool : List ℕ) (x : Instruction) → with_pool h pool x ≡ instruction.Return → x ≡ instruction.Return
+return_stays h pool instruction.Nothing e = absurd (let z : ⊥ = cc in z)
+return_stays h pool (instruction.Move d x) e = absurd (let z : ⊥ = cc in z)
+return_stays h pool (instruction.Compute o d x y) e = absurd (let z : ⊥ = cc in z)
+return_stays h pool (instruction.Convert k d x) e = absurd (let z : ⊥ = cc in z)
+return_stays h pool (instruction.Load w d l) e = absurd (let z : ⊥ = cc in z)
+return_stays h pool (instruction.Store w x l) e = absurd (let z : ⊥ = cc in z)
+return_stays h pool (instruction.Address d l) e = absurd (let z : ⊥ = cc in z)
+return_stays h pool (instruction.Element d x y size) e = absurd (let z : ⊥ = cc in z)
+return_stays h pool (instruction.Jump to) e = absurd (let z : ⊥ = cc in z)
+return_stays h pool (instruction.Branch t x y to) e = absurd (let z : ⊥ = cc in z)
+return_stays h pool (instruction.Call f) e = absurd (let z : ⊥ = cc in z)
+return_stays h pool instruction.PutByte e = absurd (let z : ⊥ = cc in z)
+return_stays h pool instruction.GetByte e = absurd (let z : ⊥ = cc in z)
+return_stays h pool instruction.Exit e = absurd (let z : ⊥ = cc in z)
+return_stays h pool instruction.Return e = refl
 
 none_too : (xs ys : List Instruction) (i : ℕ) → length ys ≡ length xs → slice_get xs i ≡ None → slice_get ys i ≡ None
 none_too xs [] i count e = refl
@@ -71,29 +72,29 @@ none_too [] (y ∷ ys) i count e = absurd (omega (arith, count))
 none_too (x ∷ xs) (y ∷ ys) zero count e = absurd (let z : ⊥ = cc in z)
 none_too (x ∷ xs) (y ∷ ys) (suc i) count e = none_too xs ys i (omega (arith, count)) e
 
--- a constant that comes from the frame costs no more
-pool_cost : (p : Program) (c : ℕ) (pool : List ℕ) (x : Instruction) → cost_in p (with_pool c pool x) ≡ cost_in p x
-pool_cost p c pool instruction.Nothing = refl
-pool_cost p c pool (instruction.Move d x) = refl
-pool_cost p c pool (instruction.Compute o d x y) = refl
-pool_cost p c pool (instruction.Convert k d x) = refl
-pool_cost p c pool (instruction.Load w d l) = refl
-pool_cost p c pool (instruction.Store w x l) = refl
-pool_cost p c pool (instruction.Address d l) = refl
-pool_cost p c pool (instruction.Element d x y size) = refl
-pool_cost p c pool (instruction.Jump to) = refl
-pool_cost p c pool (instruction.Branch t x y to) = refl
-pool_cost p c pool (instruction.Call f) = refl
-pool_cost p c pool instruction.PutByte = refl
-pool_cost p c pool instruction.GetByte = refl
-pool_cost p c pool instruction.Exit = refl
-pool_cost p c pool instruction.Return = refl
+-- a constant that comes from its place costs no more
+pool_cost : (p : Program) (h : Home) (pool : List ℕ) (x : Instruction) → cost_in p (with_pool h pool x) ≡ cost_in p x
+pool_cost p h pool instruction.Nothing = refl
+pool_cost p h pool (instruction.Move d x) = refl
+pool_cost p h pool (instruction.Compute o d x y) = refl
+pool_cost p h pool (instruction.Convert k d x) = refl
+pool_cost p h pool (instruction.Load w d l) = refl
+pool_cost p h pool (instruction.Store w x l) = refl
+pool_cost p h pool (instruction.Address d l) = refl
+pool_cost p h pool (instruction.Element d x y size) = refl
+pool_cost p h pool (instruction.Jump to) = refl
+pool_cost p h pool (instruction.Branch t x y to) = refl
+pool_cost p h pool (instruction.Call f) = refl
+pool_cost p h pool instruction.PutByte = refl
+pool_cost p h pool instruction.GetByte = refl
+pool_cost p h pool instruction.Exit = refl
+pool_cost p h pool instruction.Return = refl
 
-module _ (p q : Program) (base : ℕ → ℕ) (pool : ℕ → List ℕ) (fill : ℕ → ℕ → ℕ) (r : AreAlike p q base pool fill) where
+module _ (p q : Program) (home : ℕ → Home) (pool : ℕ → List ℕ) (fill : ℕ → ℕ → ℕ) (r : AreAlike p q home pool fill) where
   abbrev Matches : Progress → Progress → Type 0
-  Matches = Match base pool fill
+  Matches = Match home pool fill
 
-  -- the price of the constants that are still to be put into a frame
+  -- the price of the constants that are still to be put into their places
   abbrev left : (k i : ℕ) → ℕ
   left k i = 6 * (length (pool k) - fill k i)
 
@@ -107,9 +108,9 @@ module _ (p q : Program) (base : ℕ → ℕ) (pool : ℕ → List ℕ) (fill : 
 
   -- ---- one step
 
-  module _ (s : State) (d : Values) (ds : List Values) (agree : Agree base pool fill s d ds) where
+  module _ (s : State) (d us : Values) (ds : List Values) (agree : Agree home pool fill s d us ds) where
     abbrev t : State
-    t = over d ds s
+    t = over d us ds s
 
     abbrev k : ℕ
     k = s.frame.function
@@ -118,15 +119,15 @@ module _ (p q : Program) (base : ℕ → ℕ) (pool : ℕ → List ℕ) (fill : 
     i = s.frame.at
 
     module _ (x : Instruction) (is : slice_get (function_at p k).code i ≡ Some x) where
-      abbrev c : Position (base k) (pool k) (fill k) (function_at p k) (function_at q k) i x
+      abbrev c : Position (home k) (pool k) (fill k) (function_at p k) (function_at q k) i x
       c = r.each k i x is
 
       matches : Matches (act p s x) (act q t c.done)
       matches =
           ⊎_elim
           (λ one. subst (λ w. Matches (act p s w) (act q t c.done)) (sym one.was)
-          (subst (λ w. Matches (act p s instruction.Nothing) (act q t w)) (sym one.is) (puts_alike p q base pool fill r s d ds agree one.constant one.there one.more)))
-          (λ all. subst (λ w. Matches (act p s x) (act q t w)) (sym all.is) (reads_alike p q base pool fill r s d ds agree all.read all.held x all.outside all.after all.leads all.whole))
+          (subst (λ w. Matches (act p s instruction.Nothing) (act q t w)) (sym one.is) (puts_alike p q home pool fill r s d us ds agree one.constant one.there one.more)))
+          (λ all. subst (λ w. Matches (act p s x) (act q t w)) (sym all.is) (reads_alike p q home pool fill r s d us ds agree all.read all.held x all.outside all.after all.leads all.whole))
           c.by
 
       step_first : step p s ≡ act p s x
@@ -150,25 +151,25 @@ module _ (p q : Program) (base : ℕ → ℕ) (pool : ℕ → List ℕ) (fill : 
   -- ---- n steps
 
   abbrev Goal : ℕ → Type 0
-  Goal n = (s : State) (d : Values) (ds : List Values) → Agree base pool fill s d ds → DoesTheSame (run p n s) (run q n (over d ds s))
+  Goal n = (s : State) (d us : Values) (ds : List Values) → Agree home pool fill s d us ds → DoesTheSame (run p n s) (run q n (over d us ds s))
 
   goes_alike : (n : ℕ) (x z : Progress) → Matches x z → Goal n → DoesTheSame (goes_on x (run p n)) (goes_on z (run q n))
-  goes_alike n (running s) z m more = subst (λ w. DoesTheSame (run p n s) (goes_on w (run q n))) (sym m.is) (more s m.words m.others m.agree)
+  goes_alike n (running s) z m more = subst (λ w. DoesTheSame (run p n s) (goes_on w (run q n))) (sym m.is) (more s m.words m.temporaries m.others m.agree)
   goes_alike n (ended status input trace) z m more = subst (λ w. DoesTheSame (ended status input trace) (goes_on w (run q n))) (sym m) refl
   goes_alike n stuck z m more = tt
 
   pub run_alike : (n : ℕ) → Goal n
-  run_alike zero s d ds agree = (refl, refl, active_same d ds s)
-  run_alike (suc n) s d ds agree = on (run_alike n) (slice_get (function_at p s.frame.function).code s.frame.at) refl
+  run_alike zero s d us ds agree = (refl, refl, active_same d us ds s)
+  run_alike (suc n) s d us ds agree = on (run_alike n) (slice_get (function_at p s.frame.function).code s.frame.at) refl
     where
-      on : Goal n → (o : Option Instruction) → slice_get (function_at p s.frame.function).code s.frame.at ≡ o → DoesTheSame (goes_on (step p s) (run p n)) (goes_on (step q (over d ds s)) (run q n))
-      on later None e = subst (λ w. DoesTheSame (goes_on w (run p n)) (goes_on (step q (over d ds s)) (run q n))) (sym (none_first s d ds agree e)) tt
+      on : Goal n → (o : Option Instruction) → slice_get (function_at p s.frame.function).code s.frame.at ≡ o → DoesTheSame (goes_on (step p s) (run p n)) (goes_on (step q (over d us ds s)) (run q n))
+      on later None e = subst (λ w. DoesTheSame (goes_on w (run p n)) (goes_on (step q (over d us ds s)) (run q n))) (sym (none_first s d us ds agree e)) tt
       on later (Some x) e =
           let z = (r.each s.frame.function s.frame.at x e).done in
-          let here = goes_alike n (act p s x) (act q (over d ds s) z) (matches s d ds agree x e) later in
-          let second : DoesTheSame (goes_on (act p s x) (run p n)) (goes_on (step q (over d ds s)) (run q n)) =
-          subst (λ w. DoesTheSame (goes_on (act p s x) (run p n)) (goes_on w (run q n))) (sym (step_second s d ds agree x e)) here in
-          subst (λ w. DoesTheSame (goes_on w (run p n)) (goes_on (step q (over d ds s)) (run q n))) (sym (step_first s d ds agree x e)) second
+          let here = goes_alike n (act p s x) (act q (over d us ds s) z) (matches s d us ds agree x e) later in
+          let second : DoesTheSame (goes_on (act p s x) (run p n)) (goes_on (step q (over d us ds s)) (run q n)) =
+          subst (λ w. DoesTheSame (goes_on (act p s x) (run p n)) (goes_on w (run q n))) (sym (step_second s d us ds agree x e)) here in
+          subst (λ w. DoesTheSame (goes_on w (run p n)) (goes_on (step q (over d us ds s)) (run q n))) (sym (step_first s d us ds agree x e)) second
 
   -- ---- costs
 
@@ -241,14 +242,14 @@ module _ (p q : Program) (base : ℕ → ℕ) (pool : ℕ → List ℕ) (fill : 
     left_straight instruction.Exit e = absurd (let z : ⊥ = cc in z)
     left_straight instruction.Return e = absurd (let z : ⊥ = cc in z)
 
-    module _ (d : Values) (ds : List Values) (agree : Agree base pool fill s d ds) where
+    module _ (d us : Values) (ds : List Values) (agree : Agree home pool fill s d us ds) where
       abbrev k2 : ℕ
       k2 = s.frame.function
 
       abbrev i2 : ℕ
       i2 = s.frame.at
 
-      left_returned : (ws : List Frame) (vs : List Values) → AllAgree base pool fill ws vs → left_in (returned s ws) ≤ 0
+      left_returned : (ws : List Frame) (vs : List Values) → AllAgree home pool fill ws vs → left_in (returned s ws) ≤ 0
       left_returned [] vs h = left_bind (word_at s (operand.Temporary 0)) (λ v. ended (v % 2 ^ 8) s.input s.trace) 0 (λ v. omega arith)
       left_returned (f ∷ fs) vs h = let e = h.1 in omega (arith, e)
 
@@ -287,7 +288,7 @@ module _ (p q : Program) (base : ℕ → ℕ) (pool : ℕ → List ℕ) (fill : 
           omega (arith, h)
       reads_paid instruction.Return e leads = let h = left_returned s.waiting ds agree.waiting in omega (arith, h)
 
-      paid_for : (x done : Instruction) → PutsOne (base k2) (pool k2) (fill k2) i2 x done ⊎ Reads (base k2) (pool k2) (fill k2) (function_at p k2) (function_at q k2) i2 x done
+      paid_for : (x done : Instruction) → PutsOne (home k2) (pool k2) (fill k2) i2 x done ⊎ Reads (home k2) (pool k2) (fill k2) (function_at p k2) (function_at q k2) i2 x done
           → cost_in q done + left_in (act p s x) ≤ cost x + left_of s
       paid_for x done (inl one) =
           let a : cost_in q done ≡ 6 = ap (cost_in q) one.is in
@@ -298,72 +299,73 @@ module _ (p q : Program) (base : ℕ → ℕ) (pool : ℕ → List ℕ) (fill : 
           let lt : n < length (pool k2) = slice_get_within (pool k2) n one.constant one.there in
           omega (arith, a, b, c, g, lt)
       paid_for x done (inr all) =
-          let a : cost_in q done ≡ cost_in q x = ap (cost_in q) all.is ∙ pool_cost q (base k2) all.read x in
+          let a : cost_in q done ≡ cost_in q x = ap (cost_in q) all.is ∙ pool_cost q (home k2) all.read x in
           let b = reads_paid x all.after all.leads in
           omega (arith, a, b)
 
   abbrev Less : ℕ → Type 0
-  Less n = (s : State) (d : Values) (ds : List Values) → Agree base pool fill s d ds → IsDefined (run p n s) → spent_in q n (over d ds s) ≤ spent p n s + left_of s
+  Less n = (s : State) (d us : Values) (ds : List Values) → Agree home pool fill s d us ds → IsDefined (run p n s) → spent_in q n (over d us ds s) ≤ spent p n s + left_of s
 
   goes_less : (n : ℕ) (x z : Progress) → Matches x z → Less n → IsDefined (goes_on x (run p n)) → cost_on z (spent_in q n) ≤ cost_on x (spent p n) + left_in x
-  goes_less n (running s) z m more defined = subst (λ w. cost_on w (spent_in q n) ≤ spent p n s + left_of s) (sym m.is) (more s m.words m.others m.agree defined)
+  goes_less n (running s) z m more defined = subst (λ w. cost_on w (spent_in q n) ≤ spent p n s + left_of s) (sym m.is) (more s m.words m.temporaries m.others m.agree defined)
   goes_less n (ended status input trace) z m more defined = subst (λ w. cost_on w (spent_in q n) ≤ 0 + 0) (sym m) (let le : 0 ≤ 0 + 0 = omega arith in le)
   goes_less n stuck z m more defined = absurd defined
 
   pub spent_less : (n : ℕ) → Less n
-  spent_less zero s d ds agree defined = omega arith
-  spent_less (suc n) s d ds agree defined = on (spent_less n) (slice_get (function_at p s.frame.function).code s.frame.at) refl
+  spent_less zero s d us ds agree defined = omega arith
+  spent_less (suc n) s d us ds agree defined = on (spent_less n) (slice_get (function_at p s.frame.function).code s.frame.at) refl
     where
       on : Less n → (o : Option Instruction) → slice_get (function_at p s.frame.function).code s.frame.at ≡ o
-          → cost_in_if q (next_of q (over d ds s)) + cost_on (step q (over d ds s)) (spent_in q n) ≤ cost_if (next_of p s) + cost_on (step p s) (spent p n) + left_of s
-      on later None e = absurd (subst (λ w. IsDefined (goes_on w (run p n))) (none_first s d ds agree e) defined)
+          → cost_in_if q (next_of q (over d us ds s)) + cost_on (step q (over d us ds s)) (spent_in q n) ≤ cost_if (next_of p s) + cost_on (step p s) (spent p n) + left_of s
+      on later None e = absurd (subst (λ w. IsDefined (goes_on w (run p n))) (none_first s d us ds agree e) defined)
       on later (Some x) e =
           let c = r.each s.frame.function s.frame.at x e in
-          let first = step_first s d ds agree x e in
-          let second = step_second s d ds agree x e in
-          let more : cost_on (act q (over d ds s) c.done) (spent_in q n) ≤ cost_on (act p s x) (spent p n) + left_in (act p s x) =
-          goes_less n (act p s x) (act q (over d ds s) c.done) (matches s d ds agree x e) later (subst (λ w. IsDefined (goes_on w (run p n))) first defined) in
+          let first = step_first s d us ds agree x e in
+          let second = step_second s d us ds agree x e in
+          let more : cost_on (act q (over d us ds s) c.done) (spent_in q n) ≤ cost_on (act p s x) (spent p n) + left_in (act p s x) =
+          goes_less n (act p s x) (act q (over d us ds s) c.done) (matches s d us ds agree x e) later (subst (λ w. IsDefined (goes_on w (run p n))) first defined) in
           let one : cost_on (step p s) (spent p n) ≡ cost_on (act p s x) (spent p n) = ap (λ w. cost_on w (spent p n)) first in
-          let two : cost_on (step q (over d ds s)) (spent_in q n) ≡ cost_on (act q (over d ds s) c.done) (spent_in q n) = ap (λ w. cost_on w (spent_in q n)) second in
-          let three = first_cost s d ds agree x e in
-          let four = second_cost s d ds agree x e in
-          let five = paid_for s d ds agree x c.done c.by in
+          let two : cost_on (step q (over d us ds s)) (spent_in q n) ≡ cost_on (act q (over d us ds s) c.done) (spent_in q n) = ap (λ w. cost_on w (spent_in q n)) second in
+          let three = first_cost s d us ds agree x e in
+          let four = second_cost s d us ds agree x e in
+          let five = paid_for s d us ds agree x c.done c.by in
           omega (arith, more, one, two, three, four, five)
 
   -- ---- the states that the two runs have come to
 
   pub record Reached (s : State) (z : Progress) : Type 0 where
     pub words : Values
+    pub temporaries : Values
     pub others : List Values
-    pub is : z ≡ running (over words others s)
-    pub agree : Agree base pool fill s words others
+    pub is : z ≡ running (over words temporaries others s)
+    pub agree : Agree home pool fill s words temporaries others
 
   abbrev Reach : ℕ → Type 0
-  Reach n = (s : State) (d : Values) (ds : List Values) → Agree base pool fill s d ds → (s2 : State) → run p n s ≡ running s2 → Reached s2 (run q n (over d ds s))
+  Reach n = (s : State) (d us : Values) (ds : List Values) → Agree home pool fill s d us ds → (s2 : State) → run p n s ≡ running s2 → Reached s2 (run q n (over d us ds s))
 
   goes_to_it : (n : ℕ) (x z : Progress) → Matches x z → Reach n → (s2 : State) → goes_on x (run p n) ≡ running s2 → Reached s2 (goes_on z (run q n))
-  goes_to_it n (running s) z m more s2 e = subst (λ w. Reached s2 (goes_on w (run q n))) (sym m.is) (more s m.words m.others m.agree s2 e)
+  goes_to_it n (running s) z m more s2 e = subst (λ w. Reached s2 (goes_on w (run q n))) (sym m.is) (more s m.words m.temporaries m.others m.agree s2 e)
   goes_to_it n (ended status input trace) z m more s2 e = absurd (let no : ⊥ = cc in no)
   goes_to_it n stuck z m more s2 e = absurd (let no : ⊥ = cc in no)
 
   pub reach : (n : ℕ) → Reach n
-  reach zero s d ds agree s2 e = subst (λ v. Reached v (running (over d ds s))) (same_running s s2 e) (record { words = d; others = ds; is = refl; agree = agree })
-  reach (suc n) s d ds agree s2 e = on (reach n) (slice_get (function_at p s.frame.function).code s.frame.at) refl
+  reach zero s d us ds agree s2 e = subst (λ v. Reached v (running (over d us ds s))) (same_running s s2 e) (record { words = d; temporaries = us; others = ds; is = refl; agree = agree })
+  reach (suc n) s d us ds agree s2 e = on (reach n) (slice_get (function_at p s.frame.function).code s.frame.at) refl
     where
-      on : Reach n → (o : Option Instruction) → slice_get (function_at p s.frame.function).code s.frame.at ≡ o → Reached s2 (goes_on (step q (over d ds s)) (run q n))
+      on : Reach n → (o : Option Instruction) → slice_get (function_at p s.frame.function).code s.frame.at ≡ o → Reached s2 (goes_on (step q (over d us ds s)) (run q n))
       on later None h =
-          let no : stuck ≡ running s2 = sym (ap (λ w. goes_on w (run p n)) (none_first s d ds agree h)) ∙ e in
+          let no : stuck ≡ running s2 = sym (ap (λ w. goes_on w (run p n)) (none_first s d us ds agree h)) ∙ e in
           absurd (let z : ⊥ = cc in z)
       on later (Some x) h =
           let z = (r.each s.frame.function s.frame.at x h).done in
-          let first : goes_on (act p s x) (run p n) ≡ running s2 = sym (ap (λ w. goes_on w (run p n)) (step_first s d ds agree x h)) ∙ e in
-          let here = goes_to_it n (act p s x) (act q (over d ds s) z) (matches s d ds agree x h) later s2 first in
-          subst (λ w. Reached s2 (goes_on w (run q n))) (sym (step_second s d ds agree x h)) here
+          let first : goes_on (act p s x) (run p n) ≡ running s2 = sym (ap (λ w. goes_on w (run p n)) (step_first s d us ds agree x h)) ∙ e in
+          let here = goes_to_it n (act p s x) (act q (over d us ds s) z) (matches s d us ds agree x h) later s2 first in
+          subst (λ w. Reached s2 (goes_on w (run q n))) (sym (step_second s d us ds agree x h)) here
 
   -- ---- calls and returns
 
-  module _ (s : State) (d : Values) (ds : List Values) (agree : Agree base pool fill s d ds) where
-    call_met : (g : ℕ) (o : Option Instruction) → slice_get (function_at p s.frame.function).code s.frame.at ≡ o → next_of q (over d ds s) ≡ Some (instruction.Call g) → next_of p s ≡ Some (instruction.Call g)
+  module _ (s : State) (d us : Values) (ds : List Values) (agree : Agree home pool fill s d us ds) where
+    call_met : (g : ℕ) (o : Option Instruction) → slice_get (function_at p s.frame.function).code s.frame.at ≡ o → next_of q (over d us ds s) ≡ Some (instruction.Call g) → next_of p s ≡ Some (instruction.Call g)
     call_met g None e h =
         let none : slice_get (function_at q s.frame.function).code s.frame.at ≡ None = none_too (function_at p s.frame.function).code (function_at q s.frame.function).code s.frame.at (r.count s.frame.function) e in
         let no : None ≡ Some (instruction.Call g) = sym none ∙ h in
@@ -372,10 +374,10 @@ module _ (p q : Program) (base : ℕ → ℕ) (pool : ℕ → List ℕ) (fill : 
         let c = r.each s.frame.function s.frame.at x e in
         let same : c.done ≡ instruction.Call g = same_some c.done (instruction.Call g) (sym c.is ∙ h) in
         e ∙ ap Some (⊎_elim
-        (λ one. absurd (let no : instruction.Move (target.Cell (base s.frame.function + fill s.frame.function s.frame.at)) (operand.Constant one.constant) ≡ instruction.Call g = sym one.is ∙ same in let z : ⊥ = cc in z))
-        (λ all. call_stays (base s.frame.function) all.read x g (sym all.is ∙ same)) c.by)
+        (λ one. absurd (let no : instruction.Move (put_in (home s.frame.function) (fill s.frame.function s.frame.at)) (operand.Constant one.constant) ≡ instruction.Call g = sym one.is ∙ same in let z : ⊥ = cc in z))
+        (λ all. call_stays (home s.frame.function) all.read x g (sym all.is ∙ same)) c.by)
 
-    return_met : (o : Option Instruction) → slice_get (function_at p s.frame.function).code s.frame.at ≡ o → next_of q (over d ds s) ≡ Some instruction.Return → next_of p s ≡ Some instruction.Return
+    return_met : (o : Option Instruction) → slice_get (function_at p s.frame.function).code s.frame.at ≡ o → next_of q (over d us ds s) ≡ Some instruction.Return → next_of p s ≡ Some instruction.Return
     return_met None e h =
         let none : slice_get (function_at q s.frame.function).code s.frame.at ≡ None = none_too (function_at p s.frame.function).code (function_at q s.frame.function).code s.frame.at (r.count s.frame.function) e in
         let no : None ≡ Some instruction.Return = sym none ∙ h in
@@ -384,13 +386,26 @@ module _ (p q : Program) (base : ℕ → ℕ) (pool : ℕ → List ℕ) (fill : 
         let c = r.each s.frame.function s.frame.at x e in
         let same : c.done ≡ instruction.Return = same_some c.done instruction.Return (sym c.is ∙ h) in
         e ∙ ap Some (⊎_elim
-        (λ one. absurd (let no : instruction.Move (target.Cell (base s.frame.function + fill s.frame.function s.frame.at)) (operand.Constant one.constant) ≡ instruction.Return = sym one.is ∙ same in let z : ⊥ = cc in z))
-        (λ all. return_stays (base s.frame.function) all.read x (sym all.is ∙ same)) c.by)
+        (λ one. absurd (let no : instruction.Move (put_in (home s.frame.function) (fill s.frame.function s.frame.at)) (operand.Constant one.constant) ≡ instruction.Return = sym one.is ∙ same in let z : ⊥ = cc in z))
+        (λ all. return_stays (home s.frame.function) all.read x (sym all.is ∙ same)) c.by)
 
-    at_call : IsAtCall p q s (over d ds s)
+    -- what is asked of the instruction that is next
+    asked : (x : Instruction) → next_of p s ≡ Some x → (x ≡ instruction.Nothing → ⊥) → IsOutside (home s.frame.function) (pool s.frame.function) (function_at p s.frame.function) (function_at q s.frame.function) x
+    asked x e some = ⊎_elim (λ one. absurd (some one.was)) (λ all. all.outside) (r.each s.frame.function s.frame.at x e).by
+
+    temporary_kept : (k : ℕ) (v : Value) → TemporaryOutside (home s.frame.function) (pool s.frame.function) k → s.temporaries k ≡ Some v → us k ≡ Some v
+    temporary_kept k v out e = agree.frame.temporaries k out ∙ e
+
+    at_call : IsAtCall p q s (over d us ds s)
     at_call = record {
-      calls = λ g e. (call_met g (slice_get (function_at p s.frame.function).code s.frame.at) refl e, λ k v h. h);
-      returns = λ e. (return_met (slice_get (function_at p s.frame.function).code s.frame.at) refl e, λ v h. h);
+      calls = λ g e.
+          let first = call_met g (slice_get (function_at p s.frame.function).code s.frame.at) refl e in
+          let kept : survives_calls (home s.frame.function) ≡ true = asked (instruction.Call g) first (λ no. let z : ⊥ = cc in z) in
+          (first, λ k v h. temporary_kept k v (none_lost (home s.frame.function) (pool s.frame.function) kept k) h);
+      returns = λ e.
+          let first = return_met (slice_get (function_at p s.frame.function).code s.frame.at) refl e in
+          let out : TemporaryOutside (home s.frame.function) (pool s.frame.function) 0 = asked instruction.Return first (λ no. let z : ⊥ = cc in z) in
+          (first, λ v h. temporary_kept 0 v out h);
     }
 
   -- ---- from the beginning
@@ -406,22 +421,19 @@ module _ (p q : Program) (base : ℕ → ℕ) (pool : ℕ → List ℕ) (fill : 
     trace = [];
   }
 
-  start_same : (input : List ℕ) → start q input ≡ over unset [] (start p input)
+  start_same : (input : List ℕ) → start q input ≡ over unset unset [] (start p input)
   start_same input = ap (λ m. started m q.statics input) r.main ∙ ap (λ (xs : List ℕ). started p.main xs input) r.statics
 
-  start_agrees : (input : List ℕ) → Agree base pool fill (start p input) unset []
-  start_agrees input = record {
-    frame = record { same = λ j out. refl; words = λ j w lt h. absurd (let z = r.starts p.main in omega (arith, z, lt)) };
-    waiting = tt;
-  }
+  start_agrees : (input : List ℕ) → Agree home pool fill (start p input) unset unset []
+  start_agrees input = record { frame = begins_agree (home p.main) (pool p.main) (fill p.main 0) unset unset (r.starts p.main) (λ j. refl); waiting = tt }
 
   pub runs : (n : ℕ) (input : List ℕ) → DoesTheSame (run p n (start p input)) (run q n (start q input))
-  runs n input = subst (λ s. DoesTheSame (run p n (start p input)) (run q n s)) (sym (start_same input)) (run_alike n (start p input) unset [] (start_agrees input))
+  runs n input = subst (λ s. DoesTheSame (run p n (start p input)) (run q n s)) (sym (start_same input)) (run_alike n (start p input) unset unset [] (start_agrees input))
 
   pub costs : (n : ℕ) (input : List ℕ) → IsDefined (run p n (start p input)) → spent_with_entry q n (start q input) ≤ entry_cost + spent p n (start p input)
   costs n input defined =
       let a : spent_in q n (start q input) ≤ spent p n (start p input) + left p.main 0 =
-      subst (λ s. spent_in q n s ≤ spent p n (start p input) + left p.main 0) (sym (start_same input)) (spent_less n (start p input) unset [] (start_agrees input) defined) in
+      subst (λ s. spent_in q n s ≤ spent p n (start p input) + left p.main 0) (sym (start_same input)) (spent_less n (start p input) unset unset [] (start_agrees input) defined) in
       let b : entry_cost_of (function_at q q.main) ≡ entry_cost_of (function_at q p.main) = ap (λ m. entry_cost_of (function_at q m)) r.main in
       let c = r.paid p.main in
       let z : left p.main 0 ≡ 6 * (length (pool p.main) - 0) = ap (λ n. 6 * (length (pool p.main) - n)) (r.starts p.main) in
@@ -429,5 +441,5 @@ module _ (p q : Program) (base : ℕ → ℕ) (pool : ℕ → List ℕ) (fill : 
 
   pub at_calls : (n : ℕ) (input : List ℕ) (s t : State) → run p n (start p input) ≡ running s → run q n (start q input) ≡ running t → IsAtCall p q s t
   at_calls n input s t e h =
-      let reached : Reached s (run q n (start q input)) = subst (λ u. Reached s (run q n u)) (sym (start_same input)) (reach n (start p input) unset [] (start_agrees input) s e) in
-      subst (IsAtCall p q s) (same_running (over reached.words reached.others s) t (sym reached.is ∙ h)) (at_call s reached.words reached.others reached.agree)
+      let reached : Reached s (run q n (start q input)) = subst (λ u. Reached s (run q n u)) (sym (start_same input)) (reach n (start p input) unset unset [] (start_agrees input) s e) in
+      subst (IsAtCall p q s) (same_running (over reached.words reached.temporaries reached.others s) t (sym reached.is ∙ h)) (at_call s reached.words reached.temporaries reached.others reached.agree)

@@ -1,4 +1,4 @@
-//! What is saved where a constant comes from the frame. No contract depends on it.
+//! What is saved where a constant comes from a register. No contract depends on it.
 
 use frames_code::{Instruction, Operand, Operation};
 use rv32::RegisterOp;

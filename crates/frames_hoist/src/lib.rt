@@ -1,10 +1,12 @@
-//! Constant hoisting: constants that loops use are put into words of the frame once, at a function's beginning, and are read there.
+//! Constant hoisting: constants that loops use are put into words of the frame, or into temporaries, once, at a function's beginning, and are read there.
 #![tactic(auto)]
 
 mod choosing;
 mod functions;
 mod gains;
+mod homes;
 mod laws;
+mod leaves;
 mod loops;
 mod rewriting;
 mod tests;

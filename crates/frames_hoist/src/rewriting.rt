@@ -1,47 +1,48 @@
-//! Code that reads constants from words of the frame.
+//! Code that reads constants from their places.
 
 ghost use Rattle.std.specs.Prelude.{◌≡◌, ◌≤◌, ◌+◌, length, zero, IfOk};
 ghost use Rattle.frames_hoist.specs.layer.Hoisting as hoisting;
 
+use crate::homes::{Home, held_in, put_in};
 use crate::tests::is_nothing;
-use frames_code::{Instruction, Operand, Target};
+use frames_code::{Instruction, Operand};
 use std::alloc::{AllocError, Global};
 
-/// The word of the frame that holds a constant, if one of those from `first` on does.
-fn word_for(first: usize, pool: &[u32], value: u32) -> Operand
-    requires { first + length pool.now ≤ 16 }
-    ensures { result ≡ hoisting.word_for first pool.now value }
+/// The place that holds a constant, if one does.
+fn word_for(home: Home, pool: &[u32], value: u32) -> Operand
+    requires { hoisting.first_of home + length pool.now ≤ 16 }
+    ensures { result ≡ hoisting.word_for home zero pool.now value }
 {
     for number in 0..pool.len() {
         if pool[number] == value {
-            return Operand::Cell(first + number);
+            return held_in(home, number);
         }
     }
     Operand::Constant(value)
 }
 
-fn from_pool(first: usize, pool: &[u32], operand: Operand) -> Operand
-    requires { first + length pool.now ≤ 16 }
-    ensures { result ≡ hoisting.from_pool first pool.now operand }
+fn from_pool(home: Home, pool: &[u32], operand: Operand) -> Operand
+    requires { hoisting.first_of home + length pool.now ≤ 16 }
+    ensures { result ≡ hoisting.from_pool home pool.now operand }
 {
     match operand {
         Operand::Temporary(number) => Operand::Temporary(number),
         Operand::Cell(number) => Operand::Cell(number),
-        Operand::Constant(value) => word_for(first, pool, value),
+        Operand::Constant(value) => word_for(home, pool, value),
         Operand::Argument(number) => Operand::Argument(number),
     }
 }
 
-/// An instruction with the constants of the pool read from the frame.
-fn with_pool(first: usize, pool: &[u32], instruction: Instruction) -> Instruction
-    requires { first + length pool.now ≤ 16 }
-    ensures { result ≡ hoisting.with_pool first pool.now instruction }
+/// An instruction with the constants of the pool read from their places.
+fn with_pool(home: Home, pool: &[u32], instruction: Instruction) -> Instruction
+    requires { hoisting.first_of home + length pool.now ≤ 16 }
+    ensures { result ≡ hoisting.with_pool home pool.now instruction }
 {
     match instruction {
         Instruction::Nothing => Instruction::Nothing,
         Instruction::Move { target, source } => Instruction::Move {
             target,
-            source: from_pool(first, pool, source),
+            source: from_pool(home, pool, source),
         },
         Instruction::Compute {
             operation,
@@ -51,8 +52,8 @@ fn with_pool(first: usize, pool: &[u32], instruction: Instruction) -> Instructio
         } => Instruction::Compute {
             operation,
             target,
-            left: from_pool(first, pool, left),
-            right: from_pool(first, pool, right),
+            left: from_pool(home, pool, left),
+            right: from_pool(home, pool, right),
         },
         Instruction::Convert {
             conversion,
@@ -74,7 +75,7 @@ fn with_pool(first: usize, pool: &[u32], instruction: Instruction) -> Instructio
         },
         Instruction::Store { width, source, to } => Instruction::Store {
             width,
-            source: from_pool(first, pool, source),
+            source: from_pool(home, pool, source),
             to,
         },
         Instruction::Address { target, of } => Instruction::Address { target, of },
@@ -97,8 +98,8 @@ fn with_pool(first: usize, pool: &[u32], instruction: Instruction) -> Instructio
             to,
         } => Instruction::Branch {
             test,
-            left: from_pool(first, pool, left),
-            right: from_pool(first, pool, right),
+            left: from_pool(home, pool, left),
+            right: from_pool(home, pool, right),
             to,
         },
         Instruction::Call(function) => Instruction::Call(function),
@@ -109,15 +110,15 @@ fn with_pool(first: usize, pool: &[u32], instruction: Instruction) -> Instructio
     }
 }
 
-/// An instruction at the beginning: where it does nothing, the next constant is put into the frame.
-fn filled(first: usize, pool: &[u32], count: usize, instruction: Instruction) -> Instruction
-    requires { first + length pool.now ≤ 16 }
-    ensures { result ≡ hoisting.filled first pool.now count instruction }
+/// An instruction at the beginning: where it does nothing, the next constant is put into its place.
+fn filled(home: Home, pool: &[u32], count: usize, instruction: Instruction) -> Instruction
+    requires { hoisting.first_of home + length pool.now ≤ 16 }
+    ensures { result ≡ hoisting.filled home pool.now count instruction }
 {
     if is_nothing(instruction) {
         if count < pool.len() {
             Instruction::Move {
-                target: Target::Cell(first + count),
+                target: put_in(home, count),
                 source: Operand::Constant(pool[count]),
             }
         } else {
@@ -128,26 +129,26 @@ fn filled(first: usize, pool: &[u32], count: usize, instruction: Instruction) ->
     }
 }
 
-/// Instruction `number` of the code, with `count` constants in the frame before it.
+/// Instruction `number` of the code, with `count` constants in their places before it.
 fn hoisted_one(
-    first: usize,
+    home: Home,
     pool: &[u32],
     start: usize,
     number: usize,
     count: usize,
     instruction: Instruction,
 ) -> Instruction
-    requires { first + length pool.now ≤ 16 }
-    ensures { result ≡ hoisting.hoisted_one first pool.now start number count instruction }
+    requires { hoisting.first_of home + length pool.now ≤ 16 }
+    ensures { result ≡ hoisting.hoisted_one home pool.now start number count instruction }
 {
     if number < start {
-        filled(first, pool, count, instruction)
+        filled(home, pool, count, instruction)
     } else {
-        with_pool(first, pool, instruction)
+        with_pool(home, pool, instruction)
     }
 }
 
-/// How many of `most` constants are in the frame after instruction `number`.
+/// How many of `most` constants are in their places after instruction `number`.
 pub fn next_filled(
     most: usize,
     start: usize,
@@ -170,22 +171,22 @@ pub fn next_filled(
     }
 }
 
-/// The code whose first instructions, up to `start`, put the constants into the words of the frame from `first` on.
+/// The code whose first instructions, up to `start`, put the constants into their places.
 pub fn hoisted(
     alloc: Global,
-    first: usize,
+    home: Home,
     pool: &[u32],
     start: usize,
     code: &[Instruction],
 ) -> Result<Vec<Instruction>, AllocError>
-    requires { first + length pool.now ≤ 16 }
-    ensures { IfOk result (λ made. made.items ≡ hoisting.hoisted first pool.now start zero zero code.now) }
+    requires { hoisting.first_of home + length pool.now ≤ 16 }
+    ensures { IfOk result (λ made. made.items ≡ hoisting.hoisted home pool.now start zero zero code.now) }
 {
     let mut made = Vec::with_capacity(alloc, code.len())?;
     let mut count = 0;
     for number in 0..code.len() {
         let instruction = code[number];
-        made.push(hoisted_one(first, pool, start, number, count, instruction))?;
+        made.push(hoisted_one(home, pool, start, number, count, instruction))?;
         count = next_filled(pool.len(), start, number, count, instruction);
     }
     Ok(made)

@@ -4,56 +4,59 @@ ghost use Rattle.std.specs.Prelude.{◌≡◌, zero};
 ghost use Rattle.std.specs.List.{list_all};
 ghost use Rattle.frames_hoist.specs.layer.Hoisting as hoisting;
 
+use crate::homes::{Home, spares_arrays, spares_temporary, spares_word, survives_calls};
 use frames_code::{Base, Instruction, Location, Operand, Target};
 
-fn reads_below(number: usize, operand: Operand) -> bool
-    ensures { result ≡ hoisting.reads_below number operand }
+fn reads_beside(home: Home, operand: Operand) -> bool
+    ensures { result ≡ hoisting.reads_beside home operand }
 {
     match operand {
-        Operand::Temporary(_) => true,
-        Operand::Cell(cell) => cell < number,
+        Operand::Temporary(number) => spares_temporary(home, number),
+        Operand::Cell(number) => spares_word(home, number),
         Operand::Constant(_) => true,
         Operand::Argument(_) => true,
     }
 }
 
-fn writes_below(number: usize, target: Target) -> bool
-    ensures { result ≡ hoisting.writes_below number target }
+fn writes_beside(home: Home, target: Target) -> bool
+    ensures { result ≡ hoisting.writes_beside home target }
 {
     match target {
-        Target::Temporary(_) => true,
-        Target::Cell(cell) => cell < number,
+        Target::Temporary(number) => spares_temporary(home, number),
+        Target::Cell(number) => spares_word(home, number),
     }
 }
 
-fn is_in_statics(base: Base) -> bool
-    ensures { result ≡ hoisting.is_in_statics base }
+fn begins_beside(home: Home, base: Base) -> bool
+    ensures { result ≡ hoisting.begins_beside home base }
 {
     match base {
         Base::Statics(_) => true,
-        Base::Frame(_) => false,
+        Base::Frame(_) => spares_arrays(home),
     }
 }
 
-fn lies_below(number: usize, location: Location) -> bool
-    ensures { result ≡ hoisting.lies_below number location }
+fn lies_beside(home: Home, location: Location) -> bool
+    ensures { result ≡ hoisting.lies_beside home location }
 {
     match location {
         Location::Statics(_) => true,
-        Location::Frame(_) => false,
-        Location::At(operand) => reads_below(number, operand),
-        Location::Indexed { base, index, .. } => is_in_statics(base) && reads_below(number, index),
+        Location::Frame(_) => spares_arrays(home),
+        Location::At(operand) => reads_beside(home, operand),
+        Location::Indexed { base, index, .. } => {
+            begins_beside(home, base) && reads_beside(home, index)
+        }
     }
 }
 
-/// Whether an instruction names only words of the frame below a number, no array of the frame, and no instruction before `start`.
-fn is_fine(number: usize, start: usize, instruction: Instruction) -> bool
-    ensures { result ≡ hoisting.is_fine number start instruction }
+/// Whether an instruction names and loses no place of a constant, moves no array, and jumps to no instruction before `start`.
+fn is_fine(home: Home, start: usize, instruction: Instruction) -> bool
+    ensures { result ≡ hoisting.is_fine home start instruction }
 {
     match instruction {
         Instruction::Nothing => true,
         Instruction::Move { target, source } => {
-            writes_below(number, target) && reads_below(number, source)
+            writes_beside(home, target) && reads_beside(home, source)
         }
         Instruction::Compute {
             target,
@@ -61,20 +64,19 @@ fn is_fine(number: usize, start: usize, instruction: Instruction) -> bool
             right,
             ..
         } => {
-            writes_below(number, target)
-                && (reads_below(number, left) && reads_below(number, right))
+            writes_beside(home, target) && (reads_beside(home, left) && reads_beside(home, right))
         }
         Instruction::Convert { target, source, .. } => {
-            writes_below(number, target) && reads_below(number, source)
+            writes_beside(home, target) && reads_beside(home, source)
         }
         Instruction::Load { target, from, .. } => {
-            writes_below(number, target) && lies_below(number, from)
+            writes_beside(home, target) && lies_beside(home, from)
         }
         Instruction::Store { source, to, .. } => {
-            reads_below(number, source) && lies_below(number, to)
+            reads_beside(home, source) && lies_beside(home, to)
         }
         Instruction::Address { target, of } => {
-            writes_below(number, target) && lies_below(number, of)
+            writes_beside(home, target) && lies_beside(home, of)
         }
         Instruction::Element {
             target,
@@ -82,8 +84,7 @@ fn is_fine(number: usize, start: usize, instruction: Instruction) -> bool
             index,
             ..
         } => {
-            writes_below(number, target)
-                && (reads_below(number, array) && reads_below(number, index))
+            writes_beside(home, target) && (reads_beside(home, array) && reads_beside(home, index))
         }
         Instruction::Jump(to) => start <= to,
         Instruction::Branch {
@@ -91,21 +92,21 @@ fn is_fine(number: usize, start: usize, instruction: Instruction) -> bool
             right,
             to,
             ..
-        } => reads_below(number, left) && (reads_below(number, right) && start <= to),
-        Instruction::Call(_) => true,
-        Instruction::PutByte => true,
-        Instruction::GetByte => true,
-        Instruction::Exit => true,
-        Instruction::Return => true,
+        } => reads_beside(home, left) && (reads_beside(home, right) && start <= to),
+        Instruction::Call(_) => survives_calls(home),
+        Instruction::PutByte => survives_calls(home),
+        Instruction::GetByte => survives_calls(home),
+        Instruction::Exit => spares_temporary(home, 0),
+        Instruction::Return => spares_temporary(home, 0),
     }
 }
 
 /// Whether all instructions are fine.
-pub fn all_fine(number: usize, start: usize, code: &[Instruction]) -> bool
-    ensures { result ≡ list_all (hoisting.is_fine number start) code.now }
+pub fn all_fine(home: Home, start: usize, code: &[Instruction]) -> bool
+    ensures { result ≡ list_all (hoisting.is_fine home start) code.now }
 {
     for instruction in code {
-        if !is_fine(number, start, *instruction) {
+        if !is_fine(home, start, *instruction) {
             return false;
         }
     }
