@@ -114,7 +114,7 @@ fn is_word(word: usize, operand: Operand) -> bool {
     }
 }
 
-/// The first temporary behind all that the code names, and behind the one that has the result; 8 or more where the function calls.
+/// The first temporary behind all that a function's code names, and behind the one that has the result; 8 or more where it calls, or puts or gets a byte.
 pub fn first_free(code: &[Instruction]) -> usize {
     let mut least = 1;
     for instruction in code {

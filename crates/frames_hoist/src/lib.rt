@@ -13,3 +13,4 @@ mod tests;
 
 pub use functions::hoist_function;
 pub use laws::{functions_are_hoisted, optimised_in_turn};
+pub use leaves::first_free;

@@ -7,9 +7,10 @@ ghost use Rattle.frames_code.specs.Code.{function_of};
 ghost use Rattle.frames_leaf.specs.layer.Moving.{is_leaf};
 ghost use Rattle.frames_leaf.specs.layer.Functions.{IsMoved, IsLeafAllocated};
 
-use crate::choosing::{chosen, first_free};
+use crate::choosing::chosen;
 use crate::instructions::{all_moved, are_leaf, home_of};
 use frames_code::Function;
+use frames_hoist::first_free;
 use std::alloc::{AllocError, Global};
 
 /// Words of a frame that live in temporaries, the first one in temporary `first`.
