@@ -1,5 +1,5 @@
 -- The typed program that a value of the code holds, level by level.
-use Rattle.std.proofs.Common.{◌≡◌, map, rules, ap, ◌∙◌, Global}
+use Rattle.std.proofs.Common.{◌≡◌, ℕ, map, rules, ap, ◌∙◌, Global}
 use Rattle.std.specs.Prelude.{Option, Some, None, Box, Vec, Bool}
 use Rattle.srcset.specs.declared.refusal.Pos.{Pos}
 use Rattle.ctypes.specs.declared.types.IntType.{IntType}
@@ -10,7 +10,9 @@ use Rattle.typed_ast.specs.declared.expressions.Argument.{Argument}
 use Rattle.typed_ast.specs.declared.expressions.Argument as A
 use Rattle.typed_ast.specs.declared.expressions.Value.{Value, the_lemmas}
 use Rattle.typed_ast.specs.declared.expressions.Value as V
-use Rattle.typed_ast.specs.View.{value_of, place_of, argument_of, number_given, array_given}
+use Rattle.typed_ast.specs.declared.statements.Statement.{Statement, the_lemmas as statement_lemmas}
+use Rattle.typed_ast.specs.declared.statements.Statement as S
+use Rattle.typed_ast.specs.View.{value_of, place_of, argument_of, number_given, array_given, statement_of, statements_of}
 use Rattle.typing_spec.specs.Program as typed
 
 number_is : (t : IntType) (e : Value) → argument_of (A.Number t e) ≡ number_given t (value_of e)
@@ -72,3 +74,35 @@ discarded_is e = search (rules, the_lemmas)
 
 pub sees_discarded : (x : Value) (e : Box Value Global) → x ≡ V.Discarded e → value_of x ≡ typed.discarded (value_of e.value)
 sees_discarded x e h = ap value_of h ∙ discarded_is e
+
+-- ---- statements
+
+evaluate_is : (at : Pos) (e : Value) → statement_of (S.Evaluate at e) ≡ typed.evaluate (value_of e)
+evaluate_is at e = search (rules, statement_lemmas)
+
+pub sees_evaluate : (x : Statement) (at : Pos) (e : Value) → x ≡ S.Evaluate at e → statement_of x ≡ typed.evaluate (value_of e)
+sees_evaluate x at e h = ap statement_of h ∙ evaluate_is at e
+
+return_is : (at : Pos) (t : IntType) (e : Value) → statement_of (S.ReturnValue at t e) ≡ typed.return_value t (value_of e)
+return_is at t e = search (rules, statement_lemmas)
+
+pub sees_return : (x : Statement) (at : Pos) (t : IntType) (e : Value) → x ≡ S.ReturnValue at t e → statement_of x ≡ typed.return_value t (value_of e)
+sees_return x at t e h = ap statement_of h ∙ return_is at t e
+
+if_is : (at : Pos) (e : Value) (a : Box Statement Global) → statement_of (S.If at e a) ≡ typed.branch (value_of e) (statement_of a.value)
+if_is at e a = search (rules, statement_lemmas)
+
+pub sees_if : (x : Statement) (at : Pos) (e : Value) (a : Box Statement Global) → x ≡ S.If at e a → statement_of x ≡ typed.branch (value_of e) (statement_of a.value)
+sees_if x at e a h = ap statement_of h ∙ if_is at e a
+
+if_else_is : (at : Pos) (e : Value) (a b : Box Statement Global) → statement_of (S.IfElse at e a b) ≡ typed.branches (value_of e) (statement_of a.value) (statement_of b.value)
+if_else_is at e a b = search (rules, statement_lemmas)
+
+pub sees_if_else : (x : Statement) (at : Pos) (e : Value) (a b : Box Statement Global) → x ≡ S.IfElse at e a b → statement_of x ≡ typed.branches (value_of e) (statement_of a.value) (statement_of b.value)
+sees_if_else x at e a b h = ap statement_of h ∙ if_else_is at e a b
+
+block_is : (at : Pos) (first count : ℕ) (all : Vec Statement Global) → statement_of (S.Block at first count all) ≡ typed.block first count (statements_of (map statement_of all.items))
+block_is at first count all = search (rules, statement_lemmas)
+
+pub sees_block : (x : Statement) (at : Pos) (first count : ℕ) (all : Vec Statement Global) → x ≡ S.Block at first count all → statement_of x ≡ typed.block first count (statements_of (map statement_of all.items))
+sees_block x at first count all h = ap statement_of h ∙ block_is at first count all

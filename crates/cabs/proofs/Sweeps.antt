@@ -286,7 +286,7 @@ started_head c p k fs scene objects xs x more e h =
 
 pub counted_less : (p : typed.Program) (k : ℕ) (late : on.Late) (s : State) → 0 < k → counted p k late s ≡ moves [] (enters (on.ticking (k - 1) late)) s
 counted_less p zero late s e = absurd (omega (arith, e))
-counted_less p (suc k) late s e = refl
+counted_less p (suc k) late s e = let same : k ≡ suc k - 1 = omega arith in ap (λ k. moves [] (enters (on.ticking k late)) s) same
 
 module _ (c : Course) (p : typed.Program) where
   pub ticked_if : (k k2 : ℕ) (fs : List on.Frame) (scene : Scene) (x : on.Node) (b : Bool) → OnTrue b (k2 ≡ k + 1) → After c p k fs scene (steps_to (enters x)) → OnTrue b (After c p k2 fs scene (λ s. entered p x s))
