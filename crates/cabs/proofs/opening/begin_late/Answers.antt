@@ -13,8 +13,8 @@ returns-then-not-spend_ticks-clause-does c = λ run h.
     let p = program_of m.program.now in
     on_false _ c.spend_ticks.result c.if-not-spend_ticks.true (c.spend_ticks.ensures.stopped run p (frames_of m) m.scene (late_of c.args.late) h)
 
-pub returns-in-EntersBody-clause-does : goal.returns-in-EntersBody-clause-does
-returns-in-EntersBody-clause-does c = λ run h.
+pub returns-else-not-spend_ticks-clause-does : goal.returns-else-not-spend_ticks-clause-does
+returns-else-not-spend_ticks-clause-does c = λ run h.
     let m = c.args.machine.now in
     let p = program_of m.program.now in
     let i = c.in-EntersBody in

@@ -111,4 +111,3 @@ pub returns-in-ReturnNothing-clause-does : goal.returns-in-ReturnNothing-clause-
 returns-in-ReturnNothing-clause-does c = λ run h.
     let m = c.args.machine.now in
     c.enter_slowly-in-ReturnNothing.ensures.does c.args.limit run (ticked run (program_of m.program.now) c.args.clock.now.spent c.tick.new.self.spent (frames_of m) m.scene (on.statement (map object_type_of c.args.objects.now) (statement_of c.args.a.now)) c.tick.result c.if-not-tick.false c.tick.ensures.taken h)
-

@@ -80,13 +80,13 @@ loop-a-preserved c = record {
   program = c.statement_here.ensures.program ∙ c.loop-a.invariant.program;
   spends = (omega (arith, c.loop-a.invariant.spends.0, c.statement_here.ensures.spends.0), c.statement_here.ensures.spends.1);
   does = λ run h.
-    let p = program_of c.args.machine.now.program.now in
-    let l = c.loop-a in
-    let objects = map object_type_of c.args.objects.now in
-    let new = c.statement_here.new.machine in
-    let x = on.statement objects (statement_of c.in-Some.a.now) in
-    let f = on.rest objects (statements_of (map statement_of c.in-Some.more.now)) in
-    found_some (λ a. on.a_flow (flow_of a)) run p f c.args.limit c.statement_here.result flow.Normal c.statement_here.new.clock new (c.in-Some-Normal.is ∙ ap Some c.in-Some-Normal.field-0-is)
-    (finds_with on.a_flow flow_of c.args.limit x run p l.machine new l.clock c.statement_here.new.clock c.statement_here.result (ap (λ (b : Bor unit.Program). program_of b.now) l.invariant.program) c.statement_here.ensures.does f
-    (started_head run p l.clock.spent (frames_of l.machine) l.machine.scene objects l.rest.now c.in-Some.a.now c.in-Some.more.now c.in-Some.ensures.cases.0 (l.invariant.does run h)));
+      let p = program_of c.args.machine.now.program.now in
+      let l = c.loop-a in
+      let objects = map object_type_of c.args.objects.now in
+      let new = c.statement_here.new.machine in
+      let x = on.statement objects (statement_of c.in-Some.a.now) in
+      let f = on.rest objects (statements_of (map statement_of c.in-Some.more.now)) in
+      found_some (λ a. on.a_flow (flow_of a)) run p f c.args.limit c.statement_here.result flow.Normal c.statement_here.new.clock new (c.in-Some-Normal.is ∙ ap Some c.in-Some-Normal.field-0-is)
+      (finds_with on.a_flow flow_of c.args.limit x run p l.machine new l.clock c.statement_here.new.clock c.statement_here.result (ap (λ (b : Bor unit.Program). program_of b.now) l.invariant.program) c.statement_here.ensures.does f
+      (started_head run p l.clock.spent (frames_of l.machine) l.machine.scene objects l.rest.now c.in-Some.a.now c.in-Some.more.now c.in-Some.ensures.cases.0 (l.invariant.does run h)));
 }
