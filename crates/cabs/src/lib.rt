@@ -3,6 +3,7 @@
 
 mod acting;
 mod first_objects;
+mod leaving;
 mod observing;
 mod opening;
 mod outcome;
