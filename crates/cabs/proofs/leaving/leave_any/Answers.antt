@@ -1,4 +1,4 @@
-use Rattle.std.proofs.Common.{sym, subst}
+use Rattle.std.proofs.Common.{subst}
 use Rattle.interp_store.specs.layer.Frames as on
 use Rattle.interp_store.specs.layer.Steps.{left}
 use Rattle.interp_store.specs.layer.Views.{found_of}

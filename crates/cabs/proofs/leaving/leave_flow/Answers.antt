@@ -1,4 +1,4 @@
-use Rattle.std.proofs.Common.{◌≡◌, ◌∙◌, ap, sym}
+use Rattle.std.proofs.Common.{◌∙◌, ap, sym}
 use Rattle.interp_store.specs.layer.Steps.{left_by_flow}
 use Rattle.interp_store.specs.layer.Views.{flow_of, kept_of}
 use Rattle.interp_store.specs.declared.kept.Kept.TheVariants as kept

@@ -1,11 +1,8 @@
 use Rattle.std.proofs.Common.{rules, ◌≡◌, ◌∙◌, ap, sym, to_z, of_z, w64}
 use Rattle.std.proofs.Math.Facts.{to_z-of_z}
-use Rattle.std.specs.Prelude.{Some}
 use Rattle.interp_store.specs.layer.Frames as on
 use Rattle.interp_store.specs.layer.Steps.{left_by_value}
-use Rattle.interp_store.specs.layer.Views.{control_frame, kept_of, operand_frame}
-use Rattle.interp_store.specs.declared.frames.ControlFrame.TheVariants as controls
-use Rattle.interp_store.specs.declared.frames.OperandFrame.TheVariants as operands
+use Rattle.interp_store.specs.layer.Views.{kept_of}
 use Rattle.interp_transitions.proofs.Left.{found_as, takes_acts, value_as}
 use Rattle.cabs.proofs.leaving.leave_value.Goals as goal
 
