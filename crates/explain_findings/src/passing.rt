@@ -152,16 +152,75 @@ fn outer_token(words: &Words<'_>, number: usize) -> Option<usize> {
     None
 }
 
-/// The first token of the statement whose token this is.
+/// The first token of the statement whose token this is, after its labels and after the heads of the statements around it.
 fn statement_front(words: &Words<'_>, number: usize) -> usize {
+    let mut first = run_front(words, number);
+    for _ in 0..number {
+        match past_prefix(words, first) {
+            Some(past) if past <= number => first = past,
+            _ => break,
+        }
+    }
+    first
+}
+
+/// The token after the last `;`, `{` or `}` before a token. A `;` in parentheses, as in the head of a `for`, does not count.
+fn run_front(words: &Words<'_>, number: usize) -> usize {
+    let mut depth: usize = 0;
     let mut first = number;
     for place in (0..number).rev() {
-        if matches!(words.at(place), b";" | b"{" | b"}") {
+        let token = words.at(place);
+        if matches!(token, b"{" | b"}") || depth == 0 && matches!(token, b";") {
             break;
         }
+        depth = depth_before(token, depth);
         first = place;
     }
     first
+}
+
+/// How many parentheses are closed behind a token and open before it, where so many are after it.
+fn depth_before(token: &[u8], depth: usize) -> usize {
+    match token {
+        b")" => depth.saturating_add(1),
+        b"(" => depth.saturating_sub(1),
+        _ => depth,
+    }
+}
+
+/// The token after the label or the head of a statement that begins with this token; `None` where none begins there.
+fn past_prefix(words: &Words<'_>, first: usize) -> Option<usize> {
+    let next = first.saturating_add(1);
+    match words.at(first) {
+        b"else" | b"do" => Some(next),
+        b"if" | b"while" | b"for" | b"switch" => past_head(words, next),
+        b"case" | b"default" => past_colon(words, next),
+        _ => None,
+    }
+}
+
+/// The token after the parentheses that open here.
+fn past_head(words: &Words<'_>, open: usize) -> Option<usize> {
+    if matches!(words.at(open), b"(") {
+        Some(close_behind(words, open)?.saturating_add(1))
+    } else {
+        None
+    }
+}
+
+/// The token after the `:` of the label whose expression begins here.
+fn past_colon(words: &Words<'_>, first: usize) -> Option<usize> {
+    let mut asked: usize = 0;
+    for place in first..words.list.len() {
+        match words.at(place) {
+            b"?" => asked = asked.saturating_add(1),
+            b":" if asked == 0 => return Some(place.saturating_add(1)),
+            b":" => asked = asked.saturating_sub(1),
+            b";" | b"{" | b"}" => return None,
+            _ => {}
+        }
+    }
+    None
 }
 
 /// The `;` that ends the statement, where no block precedes it.

@@ -82,6 +82,12 @@ FURTHER = [
     ('outside of functions', ['main.c:1:5: 518'], 'int a[0];\nint main(void) { return b; }\n'),
     ('in an included file and behind it', ['util.h:1:22: 528', 'main.c:2:25: 528'], {'main.c': '#include "util.h"\nint main(void) { return c; }\n', 'util.h': 'int f(void) { return b; }\n'}),
     ('twenty at most', ['main.c:%d:24: 528' % (n + 1) for n in range(20)], ''.join('int f%02d(void) { return a; }\n' % n for n in range(22)) + 'int main(void) { return 0; }\n'),
+    ('the body of a for without braces', ['main.c:4:13: 528', 'main.c:5:16: 528'], 'int main(void) {\n    int a = 0;\n    for (int i = 0; i < 3; i++)\n        a = b;\n    return a + g;\n}\n'),
+    ('a constant in the body of a for without braces', ['main.c:4:11: 533', 'main.c:5:12: 528'], 'int main(void) {\n    const int a = 0;\n    for (int i = 0; i < 3; i++)\n        a = 1;\n    return g;\n}\n'),
+    ('the statement of an if and of its else', ['main.c:4:13: 528', 'main.c:6:13: 528', 'main.c:7:16: 528'], 'int main(void) {\n    int a = 0;\n    if (a)\n        a = b;\n    else\n        a = c;\n    return a + g;\n}\n'),
+    ('the statement of a do', ['main.c:4:13: 528', 'main.c:6:16: 528'], 'int main(void) {\n    int a = 0;\n    do\n        a = b;\n    while (a);\n    return a + g;\n}\n'),
+    ('a statement with labels', ['main.c:6:17: 528', 'main.c:8:16: 528'], 'int main(void) {\n    int a = 0;\n    switch (a) {\n    case 1 ? 2 : 3:\n    default:\n        a = a ? b : 4;\n    }\n    return a + g;\n}\n'),
+    ('the head of a for', ['main.c:3:25: 528'], 'int main(void) {\n    int a = 0;\n    for (int i = 0; i < b; i++)\n        a = c;\n    return a + g;\n}\n'),
     ('a syntax error goes before', ['main.c:2:25: 401', 'main.c:1:22: 528'], 'int f(void) { return a; }\nint main(void) { return ; return ; }\n'.replace('return ; return ;', 'return )'  + ';')),
 ]
 
