@@ -5,7 +5,7 @@ use crate::asking::{Asking, Compiler};
 use crate::finding::{Noted, Place, Topic, point_at};
 use crate::hints::hint;
 use crate::includes::Includes;
-use crate::macro_notes::put_macro_note;
+use crate::macro_notes::{find_macro, put_macro_note};
 use crate::near::{nearest_directive, nearest_file};
 use crate::related::put_related;
 use crate::sources::Sources;
@@ -13,6 +13,9 @@ use crate::undeclared::put_undeclared;
 use explain_places::{Spot, Tokens};
 use srcset::Fault;
 use std::alloc::{AllocError, Global};
+
+/// How an `#include` names a header.
+const HEADER_FORM: &str = "a header is named as in #include \"NAME\" or #include <NAME>";
 
 /// The notes of a fault: the macro of its token, the includes that lead to it, what was expected or meant, the other place that is involved,
 /// a hint, and the files that nothing includes, where the fault may come from that.
@@ -97,39 +100,72 @@ fn put_directive_notes(
         return Ok(());
     };
     if matches!(token, b"include") {
-        return put_behind_header(alloc, sources.name(place.file), text, &tokens, place, noted);
+        return put_header_notes(alloc, sources, &tokens, place, noted);
     }
     let meant = nearest_directive(alloc, token)?;
     put_suggestion(alloc, meant, noted)
 }
 
-/// Puts the tokens after the header of an `#include`.
-fn put_behind_header(
+/// Puts how an `#include` names a header, where it does not, or else the token after the header.
+fn put_header_notes(
     alloc: Global,
-    file: &str,
-    text: &[u8],
+    sources: &Sources,
     tokens: &Tokens<'_>,
     place: Place,
     noted: &mut Noted,
 ) -> Result<(), AllocError> {
-    let Some(spot) = token_behind(tokens, place.start) else {
-        return Ok(());
+    let header = match token_behind(tokens, place.start, 1) {
+        Some(spot) => spelled(sources.text(place.file), spot),
+        None => b"".as_slice(),
     };
+    if !names_header(header) {
+        return match find_macro(alloc, sources, header)? {
+            Some(_) => Ok(()),
+            None => noted.put_text(alloc, Topic::Hint, HEADER_FORM),
+        };
+    }
+    match token_behind(tokens, place.start, 2) {
+        Some(spot) => put_superfluous(alloc, sources, place.file, spot, noted),
+        None => Ok(()),
+    }
+}
+
+/// Puts a token after the header of an `#include`.
+fn put_superfluous(
+    alloc: Global,
+    sources: &Sources,
+    file: usize,
+    spot: Spot,
+    noted: &mut Noted,
+) -> Result<(), AllocError> {
+    let text = sources.text(file);
     let (start, end) = (point_at(text, spot.start), point_at(text, spot.end));
     noted.put_at(
         alloc,
         Topic::Expected,
-        file,
+        sources.name(file),
         start,
         "nothing stands behind the header's name",
     )?;
     noted.put_fix(alloc, start, end, "")
 }
 
-/// The second token after the one that begins there, where it is of the same directive.
-fn token_behind(tokens: &Tokens<'_>, start: usize) -> Option<Spot> {
+/// A token as it is written.
+fn spelled(text: &[u8], spot: Spot) -> &[u8] {
+    text.get(spot.start..spot.end).unwrap_or_default()
+}
+
+/// Whether a token is a header's name in its quotes or brackets.
+fn names_header(token: &[u8]) -> bool {
+    token.len() > 2
+        && (token.starts_with(b"\"") && token.ends_with(b"\"")
+            || token.starts_with(b"<") && token.ends_with(b">"))
+}
+
+/// The token that is so many tokens after the one that begins there, where it is of the same directive.
+fn token_behind(tokens: &Tokens<'_>, start: usize, count: usize) -> Option<Spot> {
     let number = tokens.spots.iter().position(|spot| spot.start == start)?;
-    let spot = tokens.spot(number.saturating_add(2))?;
+    let spot = tokens.spot(number.saturating_add(count))?;
     if spot.in_directive && !spot.is_first {
         Some(spot)
     } else {

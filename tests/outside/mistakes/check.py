@@ -186,6 +186,13 @@ def others():
     check('--errors', run(many, ['explain', 'build', 'main.c', '--errors', '3'])[2].count(' 528 ') == 3)
     mended = json.loads(run({'main.c': 'int main(void) {\n    return 0\n}\n'}, ['explain', 'build', '--json', 'main.c'])[1])['fix']
     check('a fix', mended == dict(line=2, column=13, end_line=2, end=13, text=';'), mended)
+    for source in ('#include <rvio.h\n', '#include "a\n', '#include rvio.h\n', '#include\n', '#define H <rvio.h>\n#include H\n'):
+        said = json.loads(run({'main.c': source}, ['explain', 'build', '--json', 'main.c'])[1])
+        check('no fix: ' + source, said['code'] == '233' and 'fix' not in said, said)
+    said = run({'main.c': '#define H <rvio.h>\n#include H\n'}, ['explain', 'build', 'main.c'])[2]
+    check('a header that a macro makes', '<NAME>' not in said, said)
+    mended = json.loads(run({'main.c': '#include <rvio.h>;\n'}, ['explain', 'build', '--json', 'main.c'])[1])['fix']
+    check('a fix behind a header', mended == dict(line=1, column=18, end_line=1, end=19, text=''), mended)
     line = "main.c:1: 528 undeclared name\r\n"
     shown = on_terminal(bare, {'NO_COLOR': '1'}, ['build', 'main.c', '-o', 'out'])
     check('build on a terminal', shown == line + '    1 | int main(void) { return x; }\r\n      |                         ^\r\n', shown)
