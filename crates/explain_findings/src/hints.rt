@@ -35,6 +35,7 @@ fn whole_hint(code: u16, token: &[u8]) -> &'static str {
         214 => "write the comma before the variable arguments also where there are none: F(1,)",
         231 => "each #if, #ifdef and #ifndef has its #endif in the same file",
         232 => include_hint(token),
+        233 => directive_hint(token),
         551 => "the program has no function `int main(void)` with a body",
         552 =>
             "a function that is called has its body in the one unit: FILES of the command are not compiled by themselves, they are what MAIN may include",
@@ -51,6 +52,17 @@ fn include_hint(token: &[u8]) -> &'static str {
             "there is no such header: char has 8 bits, short 16, int and long 32",
         _ =>
             "what is included is one of FILES in the command, by the path as it stands there, or a built-in header: rvio.h, limits.h, stdbool.h, iso646.h",
+    }
+}
+
+/// The hint where this directive is known, and what follows it is wrong, or where it is one of a later standard.
+fn directive_hint(token: &[u8]) -> &'static str {
+    match token {
+        b"ifdef" | b"ifndef" | b"undef" => "one name follows it, that of a macro, and nothing else",
+        b"else" | b"endif" => "nothing follows it: write what it belongs to in a comment",
+        b"elifdef" => "C11 has no such directive: write `#elif defined NAME`",
+        b"elifndef" => "C11 has no such directive: write `#elif !defined NAME`",
+        _ => "",
     }
 }
 

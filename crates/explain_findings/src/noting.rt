@@ -102,6 +102,9 @@ fn put_directive_notes(
     if matches!(token, b"include") {
         return put_header_notes(alloc, sources, &tokens, place, noted);
     }
+    if !hint(code, token).is_empty() {
+        return Ok(());
+    }
     let meant = nearest_directive(alloc, token)?;
     put_suggestion(alloc, meant, noted)
 }

@@ -193,6 +193,9 @@ def others():
     check('a header that a macro makes', '<NAME>' not in said, said)
     mended = json.loads(run({'main.c': '#include <rvio.h>;\n'}, ['explain', 'build', '--json', 'main.c'])[1])['fix']
     check('a fix behind a header', mended == dict(line=1, column=18, end_line=1, end=19, text=''), mended)
+    for name in ('ifdef', 'ifndef', 'undef'):
+        said = run({'main.c': '#%s\n#endif\n' % name}, ['explain', 'build', 'main.c'])[2]
+        check('no other directive: ' + name, ' 233 ' in said and 'did you mean' not in said, said)
     line = "main.c:1: 528 undeclared name\r\n"
     shown = on_terminal(bare, {'NO_COLOR': '1'}, ['build', 'main.c', '-o', 'out'])
     check('build on a terminal', shown == line + '    1 | int main(void) { return x; }\r\n      |                         ^\r\n', shown)
