@@ -178,7 +178,8 @@ fn best<C: Compiler>(
     let mut best = list.len();
     let mut furthest = 0;
     for (number, candidate) in list.iter().enumerate() {
-        let is_apt = !is_macro || candidate.start == candidate.end;
+        let is_apt = (!is_macro || candidate.start == candidate.end)
+            && !closes_open(words, site.number, candidate.expected);
         if is_apt && furthest != TO_THE_END {
             let reached = reached(alloc, asking, site, words, *candidate)?;
             if reached > furthest {
@@ -188,6 +189,29 @@ fn best<C: Compiler>(
         }
     }
     Ok(list.get(best).copied())
+}
+
+/// Whether a token that would be superfluous, as nothing is open that it closes, closes what is open.
+fn closes_open(words: &Words<'_>, number: usize, expected: Expected) -> bool {
+    if !matches!(expected, Expected::Unmatched) {
+        return false;
+    }
+    let mut place = number;
+    for _ in 0..words.list.len() {
+        let Some(open) = open_before(words, place) else {
+            return false;
+        };
+        if is_pair(words.at(open), words.at(number)) {
+            return true;
+        }
+        place = open;
+    }
+    false
+}
+
+/// Whether one token opens what the other closes.
+fn is_pair(open: &[u8], close: &[u8]) -> bool {
+    matches!((open, close), (b"(", b")") | (b"[", b"]") | (b"{", b"}"))
 }
 
 /// The line up to which the source is read with a change; 0 where it does not help.

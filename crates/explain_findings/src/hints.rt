@@ -71,11 +71,24 @@ fn literal_hint(code: u16, token: &[u8]) -> &'static str {
     match (code, token) {
         (301, b"\"") => "no `\"` closes this string literal in its line",
         (301, b"'") => "no `'` closes this character constant in its line",
-        (301, [b'0', ..]) => "digits that begin with 0 are octal: 0 to 7 alone",
+        (301, [b'0', digits @ ..]) => number_hint(digits),
         (301, [first, ..]) if *first >= 0x80 =>
             "a name has the letters A to Z and a to z, digits and `_`",
         (607, [b'\'', ..]) =>
             "a character constant has one character: write the bytes, each as a constant of its own",
+        _ => "",
+    }
+}
+
+/// The hint for a number that is none, by what follows its leading 0.
+fn number_hint(digits: &[u8]) -> &'static str {
+    let Some(place) = digits.iter().position(|byte| !matches!(*byte, b'0'..=b'7')) else {
+        return "";
+    };
+    match digits.get(place).copied() {
+        Some(b'8' | b'9') => "digits that begin with 0 are octal: 0 to 7 alone",
+        Some(b'b' | b'B') if place == 0 =>
+            "C11 has no binary constants: write it in hexadecimal, as 0x5",
         _ => "",
     }
 }

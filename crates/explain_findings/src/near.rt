@@ -79,6 +79,14 @@ pub fn nearest_visible(
     Ok(best.found())
 }
 
+/// A name as it is written; empty where it has a splice or a trigraph in it.
+fn plain_name(written: &[u8]) -> &str {
+    if written.iter().any(|byte| matches!(*byte, b'\\' | b'?')) {
+        return "";
+    }
+    str::from_utf8(written).unwrap_or_default()
+}
+
 /// Tries the names that are visible at a token.
 fn try_visible(
     alloc: Global,
@@ -90,8 +98,7 @@ fn try_visible(
 ) -> Result<(), AllocError> {
     for declared in &visible(alloc, words, number)? {
         if declared.is_function == is_call {
-            let other = str::from_utf8(words.at(declared.name)).unwrap_or_default();
-            try_name(alloc, name, other, best)?;
+            try_name(alloc, name, plain_name(words.at(declared.name)), best)?;
         }
     }
     Ok(())

@@ -187,7 +187,7 @@ def others():
     mended = json.loads(run({'main.c': 'int main(void) {\n    return 0\n}\n'}, ['explain', 'build', '--json', 'main.c'])[1])['fix']
     check('a fix', mended == dict(line=2, column=13, end_line=2, end=13, text=';'), mended)
     for source in ('#include <rvio.h\n', '#include "a\n', '#include rvio.h\n', '#include\n', '#define H <rvio.h>\n#include H\n'):
-        said = json.loads(run({'main.c': source}, ['explain', 'build', '--json', 'main.c'])[1])
+        said = json.loads(run({'main.c': source}, ['explain', 'build', '--json', 'main.c'])[1].split('\n')[0])
         check('no fix: ' + source, said['code'] == '233' and 'fix' not in said, said)
     said = run({'main.c': '#define H <rvio.h>\n#include H\n'}, ['explain', 'build', 'main.c'])[2]
     check('a header that a macro makes', '<NAME>' not in said, said)
@@ -196,6 +196,12 @@ def others():
     for name in ('ifdef', 'ifndef', 'undef'):
         said = run({'main.c': '#%s\n#endif\n' % name}, ['explain', 'build', 'main.c'])[2]
         check('no other directive: ' + name, ' 233 ' in said and 'did you mean' not in said, said)
+    for source, code in (('int main(void) { int n = 3; for (int i = n); i < 3; i++) n++; return n; }\n', '401'),
+                         ('int a[2];\nint main(void) { return (a[) + 1; }\n', '401'), ('int main(void) { return 0xg; }\n', '301'),
+                         ('int main(void) { int alphab\\\netical = 0; return alphabeticol; }\n', '528')):
+        said = json.loads(run({'main.c': source}, ['explain', 'build', '--json', 'main.c'])[1].split('\n')[0])
+        check('nothing that is not sure: ' + source, said['code'] == code and not any(word in note['text'] for note in said['notes']
+              for word in ('nothing is open', 'octal', 'did you mean')), said)
     line = "main.c:1: 528 undeclared name\r\n"
     shown = on_terminal(bare, {'NO_COLOR': '1'}, ['build', 'main.c', '-o', 'out'])
     check('build on a terminal', shown == line + '    1 | int main(void) { return x; }\r\n      |                         ^\r\n', shown)
