@@ -13,6 +13,10 @@ enum Act {
     Write(&'static str),
     /// It is replaced by this word, whose value is the rest of the word after its matched beginning, or else the next word.
     WriteValue(&'static str),
+    /// It is replaced by this word where the command is `check`, and else is left out.
+    WriteInCheck(&'static str),
+    /// It names the language of the sources by the next word; both are left out.
+    Language,
     /// It can't be done, for this reason.
     Refuse(&'static str),
 }
@@ -36,6 +40,22 @@ const OTHER_LANGUAGE: &str = "the language is a part of C11: leave the word out,
 
 const NO_SANITIZER: &str =
     "there are no sanitizers: zkc interp MAIN tells each undefined act at its line";
+
+const NO_TRAP: &str =
+    "an overflow does not stop a program: zkc interp MAIN tells each undefined act at its line";
+
+const ONLY_WITH_M: &str =
+    "the code has the instructions of RV32M, so it is for a core that has them: write -march=rv32im";
+
+const LITTLE_ENDIAN: &str = "the code is for a little-endian machine: leave the word out";
+
+const UNSIGNED_CHAR: &str =
+    "a char has no sign: write signed char where one is needed, and leave the word out";
+
+const OTHER_ENUMS: &str = "an enumeration is an int: leave the word out";
+
+const OTHER_CHARSET: &str =
+    "a source is read as ASCII or UTF-8: convert it, and leave the word out";
 
 const NO_RULE_ALONE: &str = "write zkc build MAIN -I DIR -o OUT -MD -MF FILE";
 
@@ -210,6 +230,11 @@ const HABITS: &[Habit] = &[
     },
     Habit {
         text: "-x",
+        is_whole: true,
+        act: Act::Language,
+    },
+    Habit {
+        text: "-x",
         is_whole: false,
         act: Act::Refuse(OTHER_LANGUAGE),
     },
@@ -219,9 +244,84 @@ const HABITS: &[Habit] = &[
         act: Act::Refuse(NO_SANITIZER),
     },
     Habit {
-        text: "-march=rv32i",
+        text: "-ftrapv",
+        is_whole: true,
+        act: Act::Refuse(NO_TRAP),
+    },
+    Habit {
+        text: "-fsigned-char",
+        is_whole: true,
+        act: Act::Refuse(UNSIGNED_CHAR),
+    },
+    Habit {
+        text: "-fno-unsigned-char",
+        is_whole: true,
+        act: Act::Refuse(UNSIGNED_CHAR),
+    },
+    Habit {
+        text: "-fshort-enums",
+        is_whole: true,
+        act: Act::Refuse(OTHER_ENUMS),
+    },
+    Habit {
+        text: "-finput-charset=UTF-8",
+        is_whole: true,
+        act: Act::Leave,
+    },
+    Habit {
+        text: "-finput-charset=utf-8",
+        is_whole: true,
+        act: Act::Leave,
+    },
+    Habit {
+        text: "-finput-charset=UTF8",
+        is_whole: true,
+        act: Act::Leave,
+    },
+    Habit {
+        text: "-finput-charset=utf8",
+        is_whole: true,
+        act: Act::Leave,
+    },
+    Habit {
+        text: "-finput-charset=ASCII",
+        is_whole: true,
+        act: Act::Leave,
+    },
+    Habit {
+        text: "-finput-charset=ascii",
+        is_whole: true,
+        act: Act::Leave,
+    },
+    Habit {
+        text: "-finput-charset=US-ASCII",
+        is_whole: true,
+        act: Act::Leave,
+    },
+    Habit {
+        text: "-finput-charset=us-ascii",
+        is_whole: true,
+        act: Act::Leave,
+    },
+    Habit {
+        text: "-finput-charset",
+        is_whole: false,
+        act: Act::Refuse(OTHER_CHARSET),
+    },
+    Habit {
+        text: "-march=rv32im",
         is_whole: false,
         act: Act::Leave,
+    },
+    Habit {
+        text: "-march=rv32g",
+        is_whole: false,
+        act: Act::Leave,
+    },
+    Habit {
+        text: "-march=rv32i",
+        is_whole: false,
+        act: Act::Refuse(ONLY_WITH_M),
     },
     Habit {
         text: "-march=",
@@ -242,6 +342,16 @@ const HABITS: &[Habit] = &[
         text: "-m64",
         is_whole: true,
         act: Act::Refuse(OTHER_MACHINE),
+    },
+    Habit {
+        text: "-mno-div",
+        is_whole: true,
+        act: Act::Refuse(ONLY_WITH_M),
+    },
+    Habit {
+        text: "-mbig-endian",
+        is_whole: true,
+        act: Act::Refuse(LITTLE_ENDIAN),
     },
     Habit {
         text: "-Wl,",
@@ -287,6 +397,11 @@ const HABITS: &[Habit] = &[
         text: "-c",
         is_whole: true,
         act: Act::Refuse(NO_OBJECTS),
+    },
+    Habit {
+        text: "-Werror",
+        is_whole: true,
+        act: Act::WriteInCheck("--werror"),
     },
     Habit {
         text: "-W",
@@ -447,31 +562,55 @@ enum Turn {
     Word,
     /// The value of the word before.
     Value,
+    /// The name of a language.
+    Language,
     /// After `--`, where all stay.
     Rest,
 }
 
 /// Appends the words of a command that reads sources.
 fn put_words<'a>(words: &'a [String], plain: &mut Vec<&'a str>) -> Result<(), Refused> {
+    let is_check = is_check(words);
     let mut turn = Turn::Word;
     for word in words {
         turn = match turn {
-            Turn::Word => put_word(word.as_str(), plain)?,
+            Turn::Word => put_word(word.as_str(), is_check, plain)?,
             Turn::Value => {
                 put(word.as_str(), plain)?;
                 Turn::Word
             }
+            Turn::Language => language(word.as_str())?,
             Turn::Rest => {
                 put(word.as_str(), plain)?;
                 Turn::Rest
             }
         };
     }
-    Ok(())
+    match turn {
+        Turn::Language => Err(Refused::Told(OTHER_LANGUAGE)),
+        Turn::Word | Turn::Value | Turn::Rest => Ok(()),
+    }
+}
+
+/// Whether the words are those of the command `check`.
+fn is_check(words: &[String]) -> bool {
+    match words.first() {
+        Some(word) => word.as_str() == "check",
+        None => false,
+    }
+}
+
+/// The word after `-x`; returns the kind of the next word.
+fn language(word: &str) -> Result<Turn, Refused> {
+    if word == "c" {
+        Ok(Turn::Word)
+    } else {
+        Err(Refused::Told(OTHER_LANGUAGE))
+    }
 }
 
 /// Appends the replacement of a word; returns the kind of the next word.
-fn put_word<'a>(word: &'a str, plain: &mut Vec<&'a str>) -> Result<Turn, Refused> {
+fn put_word<'a>(word: &'a str, is_check: bool, plain: &mut Vec<&'a str>) -> Result<Turn, Refused> {
     let Some((act, behind)) = act_of(word) else {
         put(word, plain)?;
         return Ok(if word == "--" { Turn::Rest } else { Turn::Word });
@@ -494,6 +633,13 @@ fn put_word<'a>(word: &'a str, plain: &mut Vec<&'a str>) -> Result<Turn, Refused
             put(behind, plain)?;
             Ok(Turn::Word)
         }
+        Act::WriteInCheck(other) => {
+            if is_check {
+                put(other, plain)?;
+            }
+            Ok(Turn::Word)
+        }
+        Act::Language => Ok(Turn::Language),
         Act::Refuse(why) => Err(Refused::Told(why)),
     }
 }

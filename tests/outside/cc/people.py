@@ -24,6 +24,9 @@ MAIN = 'int main(void) { return 3; }\n'
 NO_OBJECTS = 'error: there are no object files: a program is one unit; write zkc build MAIN -I DIR -o OUT, and in MAIN #include of the others\n'
 NO_LINKER = 'error: nothing is linked: leave the word out\n'
 OTHER_MACHINE = 'error: the code is for RV32IM with the calling convention ILP32: leave the word out\n'
+ONLY_WITH_M = 'error: the code has the instructions of RV32M, so it is for a core that has them: write -march=rv32im\n'
+UNSIGNED_CHAR = 'error: a char has no sign: write signed char where one is needed, and leave the word out\n'
+OTHER_CHARSET = 'error: a source is read as ASCII or UTF-8: convert it, and leave the word out\n'
 OTHER_LANGUAGE = 'error: the language is a part of C11: leave the word out, or write -std=c11\n'
 
 
@@ -57,7 +60,8 @@ def habits():
     works = [
         ('main.c -o out', 3), ('-o out main.c', 3), ('-oout main.c', 3), ('build -o out main.c', 3),
         ('-O2 -Wall -Wextra -Werror -pedantic -std=c11 -g main.c -o out', 3), ('build -O0 -g3 main.c -o out', 3), ('build main.c -o out -Os -std=gnu17', 3),
-        ('build -march=rv32im -mabi=ilp32 main.c -o out', 3), ('build -ffreestanding -nostdlib -static -fno-common main.c -o out', 3),
+        ('build -march=rv32im -mabi=ilp32 main.c -o out', 3), ('build -march=rv32imac_zicsr main.c -o out', 3), ('-march=rv32gc main.c -o out', 3),
+        ('-x c main.c -o out', 3), ('-xc main.c -o out', 3), ('-funsigned-char -finput-charset=UTF-8 -mlittle-endian main.c -o out', 3), ('build -ffreestanding -nostdlib -static -fno-common main.c -o out', 3),
         ('build -pipe -w -v main.c -o out', 3), ('-DN=4 n.c -o out', 4), ('build n.c -D N=5 -o out', 5), ('build n.c -DN -o out', 1), ('build n.c -o out -UM', 9),
         ('build n.c -DN=6 -UN -o out', 9), ('build n.c -UN -DN=6 -o out', 9), ('build twice.c -DTWICE(x)=((x)+(x)) -o out', 8),
         ('build -I. in.c -o out', 7), ('build -I . in.c -o out', 7), ('build -Iinclude far.c -o out', 11), ('build -isystem include far.c -o out', 11),
@@ -69,8 +73,13 @@ def habits():
         ('-shared main.c -o out', NO_LINKER), ('build -Wl,-Map=m main.c -o out', NO_LINKER), ('build -T link.ld main.c -o out', NO_LINKER),
         ('-M main.c', 'error: write zkc build MAIN -I DIR -o OUT -MD -MF FILE\n'), ('-MM main.c', 'error: write zkc build MAIN -I DIR -o OUT -MD -MF FILE\n'),
         ('-fsanitize=undefined main.c -o out', 'error: there are no sanitizers: zkc interp MAIN tells each undefined act at its line\n'),
-        ('-std=c89 main.c -o out', OTHER_LANGUAGE), ('-ansi main.c -o out', OTHER_LANGUAGE), ('-x c++ main.c -o out', OTHER_LANGUAGE),
+        ('-std=c89 main.c -o out', OTHER_LANGUAGE), ('-ansi main.c -o out', OTHER_LANGUAGE), ('-x c++ main.c -o out', OTHER_LANGUAGE), ('main.c -o out -x', OTHER_LANGUAGE),
         ('-m64 main.c -o out', OTHER_MACHINE), ('-march=native main.c -o out', OTHER_MACHINE), ('build -mabi=lp64 main.c -o out', OTHER_MACHINE),
+        ('-march=rv32i main.c -o out', ONLY_WITH_M), ('-march=rv32ic main.c -o out', ONLY_WITH_M), ('-march=rv32e main.c -o out', OTHER_MACHINE), ('-mno-div main.c -o out', ONLY_WITH_M),
+        ('-mbig-endian main.c -o out', 'error: the code is for a little-endian machine: leave the word out\n'), ('-fsigned-char main.c -o out', UNSIGNED_CHAR),
+        ('-fno-unsigned-char main.c -o out', UNSIGNED_CHAR), ('-fshort-enums main.c -o out', 'error: an enumeration is an int: leave the word out\n'),
+        ('-ftrapv main.c -o out', 'error: an overflow does not stop a program: zkc interp MAIN tells each undefined act at its line\n'),
+        ('-finput-charset=utf-16 main.c -o out', OTHER_CHARSET),
         ('-include near.h main.c -o out', 'error: write the #include in MAIN\n'), ('main.c', 'error: the file to write is missing: -o OUT\n'),
         ('build main.c --stack 5000 -o out', 'error: the bytes of the stack are no multiple of 4096 from 4096 to 16777216, as 65536, 64K or 1M\n'),
         ('build main.c --stack 32M -o out', 'error: the bytes of the stack are no multiple of 4096 from 4096 to 16777216, as 65536, 64K or 1M\n'),
@@ -91,6 +100,9 @@ def habits():
             counted.expect(words, zkc(work, *words.split()), (2, '', line))
         counted.expect('nothing more is written', sorted(os.listdir(work)), before)
         version = zkc(work, '--version')
+        put(work, idle_c='int f(int a) { return 1; }\nint main(void) { return f(2); }\n')
+        for word, status in (('-Werror', 1), ('--werror', 1), ('-Wall', 0)):
+            counted.expect('check ' + word, zkc(work, 'check', word, 'idle.c')[0], status)
         counted.expect('--version', (version[0], version[2], version[1][:4]), (0, '', 'zkc '))
         counted.expect('-v', zkc(work, '-v'), version)
         counted.expect('help', zkc(work, 'help'), zkc(work, '--help'))
