@@ -158,7 +158,8 @@ fn has_macros(inner: &ArgMatches<'_>) -> bool {
     true
 }
 
-/// Whether a text is a name, with parameters or without, followed by `=` and a value or not, on one line.
+/// Whether a text is a name, with parameters or without, followed by `=` and a value or not, on one line. A backslash at its end, as `??/` means one, would
+/// join the next line to it (5.1.1.2p1).
 fn is_definition(text: &str) -> bool {
     let name = macro_name(text);
     let behind = text.get(name.len()..).unwrap_or_default();
@@ -166,6 +167,8 @@ fn is_definition(text: &str) -> bool {
         && (behind.is_empty() || behind.starts_with("=") || behind.starts_with("("))
         && !text.contains('\n')
         && !text.contains('\r')
+        && !text.ends_with("\\")
+        && !text.ends_with("??/")
 }
 
 /// The name at the beginning of a macro.

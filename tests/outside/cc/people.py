@@ -84,6 +84,8 @@ def habits():
         ('build main.c --stack 5000 -o out', 'error: the bytes of the stack are no multiple of 4096 from 4096 to 16777216, as 65536, 64K or 1M\n'),
         ('build main.c --stack 32M -o out', 'error: the bytes of the stack are no multiple of 4096 from 4096 to 16777216, as 65536, 64K or 1M\n'),
         ('build main.c -D +=2 -o out', 'error: a macro is written -D NAME, -D NAME=VALUE or -U NAME, on one line\n'),
+        ('build main.c -D A=\\ -o out', 'error: a macro is written -D NAME, -D NAME=VALUE or -U NAME, on one line\n'),
+        ('build main.c -D A=2??/ -o out', 'error: a macro is written -D NAME, -D NAME=VALUE or -U NAME, on one line\n'),
         ('build main.c -U A=2 -o out', 'error: a macro is written -D NAME, -D NAME=VALUE or -U NAME, on one line\n'),
         ('run out -I include', 'error: --stack, -I, -D and -U are for --map here\n'),
     ]
