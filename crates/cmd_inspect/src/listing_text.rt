@@ -258,12 +258,16 @@ fn called<'m>(row: Row<'_>, before: Option<Row<'_>>, map: &'m SymbolTable) -> Op
     function_at(map, before.address.wrapping_add(upper).wrapping_add(lower))
 }
 
-/// Appends an instruction, with the names that registers have in calls where the form has them.
+/// Appends an instruction, with the names that registers have in calls where the form has them. The name of an operation, as `xor`, has none.
 fn put_code(code: &str, form: ListForm, text: &mut String) -> Result<(), AllocError> {
     if !form.has_abi_names {
         return text.push_str(code);
     }
-    let mut rest = code;
+    let Some((operation, operands)) = code.split_once(' ') else {
+        return text.push_str(code);
+    };
+    put_all(&[operation, " "], text)?;
+    let mut rest = operands;
     for _ in 0..code.len() {
         let Some((plain, name, behind)) = register(rest) else {
             break;
@@ -275,7 +279,7 @@ fn put_code(code: &str, form: ListForm, text: &mut String) -> Result<(), AllocEr
     text.push_str(rest)
 }
 
-/// The first register of a text: the text before it, its name, and the text after it.
+/// The first register of operands: the text before it, its name, and the text after it.
 fn register(text: &str) -> Option<(&str, &'static str, &str)> {
     let at = text.find(|c: char| c == 'x')?;
     let digits = text.get(at.checked_add(1)?..)?;

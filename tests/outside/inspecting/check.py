@@ -118,7 +118,7 @@ def distance(word):
 
 def labels():
     """Labels and names of registers, held against the plain listing."""
-    source = CHAIN.replace('return a[x & 7];', 'while (x > 3) { if (x == 9) break; x = x - 2; } return a[x & 7];')
+    source = CHAIN.replace('return a[x & 7];', 'while (x > 3) { if (x == 9) break; x = (x - 2) ^ x; } return a[x & 7];')
     with tempfile.TemporaryDirectory() as work:
         put(work, 'a.c', source)
         rows = listing(work, 'a.c')
