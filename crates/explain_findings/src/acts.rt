@@ -38,7 +38,7 @@ pub fn wants_memory(line: &[u8]) -> bool {
 pub fn act_help(act: u32) -> &'static str {
     match act {
         1 =>
-            "6.5p5: the value of a signed operation is not representable in its type: compute with unsigned ints, or test before",
+            "6.5p5, 6.5.5p6: the value of a signed operation, or the quotient of / or %, is not representable in its type: compute with unsigned ints, or test before",
         2 => "6.5.5p5: the second operand of / or % is zero",
         3 =>
             "6.5.7p3: a shift by a negative number, or by the width of the promoted left operand or more",

@@ -27,7 +27,7 @@ pub(crate) fn values_text(
     }
 }
 
-/// The result of an operation where that is out of range for a signed one (6.5p5); `None` where it is not.
+/// The result of an operation where that is out of range for a signed one (6.5p5), of `%` the quotient (6.5.5p6); `None` where it is not.
 fn out_of_range(op: BinOp, left: i64, right: i64) -> Option<i64> {
     let value = match op {
         BinOp::Add => left.checked_add(right)?,
@@ -91,13 +91,24 @@ fn operands_text(
     }
 }
 
+/// The words between an operation and the number that is out of range: its result, or the quotient.
+fn result_words(op: BinOp) -> &'static str {
+    match op {
+        BinOp::Rem => ": the quotient is",
+        _ => " is",
+    }
+}
+
 /// The reason why a result out of range is undefined.
 fn range_text(alloc: Global, operands: Operands) -> Result<Option<String>, AllocError> {
     let (a, b, sign) = (operands.left, operands.right, shown(operands.op));
     match out_of_range(operands.op, a, b) {
-        Some(value) => Ok(Some(format!(in alloc;
-            "{a} {sign} {b} is {value}, and an int holds {LEAST} to {GREATEST}"
-        )?)),
+        Some(value) => {
+            let words = result_words(operands.op);
+            Ok(Some(format!(in alloc;
+                "{a} {sign} {b}{words} {value}, and an int holds {LEAST} to {GREATEST}"
+            )?))
+        }
         None => Ok(None),
     }
 }

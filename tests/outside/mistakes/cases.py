@@ -113,6 +113,7 @@ UNDEFINED = [
     ('difference out of range', 1, 'int main(void) { int i = -2147483647; int j = 2; return i «-» j - 1; }\n', b'', '', '-2147483647 - 2 is -2147483649' + INT),
     ('product of sums out of range', 1, 'int f(int x) { return x; }\nint main(void) { int i = 65535; return 1 + (i + 1) «*» f(i + 2) % 3; }\n', b'', '', '65536 * 65537 is 4295032832' + INT),
     ('quotient out of range', 1, 'int main(void) { int i = -2147483647 - 1; return i «/» -1; }\n', b'', '', '-2147483648 / -1 is 2147483648' + INT),
+    ('remainder whose quotient is out of range', 1, 'int main(void) { int i = -2147483647 - 1; return i «%» -1; }\n', b'', '', '-2147483648 % -1: the quotient is 2147483648' + INT),
     ('negation out of range', 1, 'int main(void) { int i = -2147483647 - 1; return «-»i; }\n', b'', '', '-(-2147483648) is 2147483648' + INT),
     ('step out of range', 1, 'int a[2];\nint main(void) { a[1] = 2147483647; int i = 1; return a[i]«++»; }\n', b'', '', '2147483647 + 1 is 2147483648' + INT),
     ('step down out of range', 1, 'int main(void) { int i = -2147483647; for (;;) «--»i; }\n', b'', '', '-2147483648 - 1 is -2147483649' + INT),
