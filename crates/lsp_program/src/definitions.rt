@@ -6,7 +6,8 @@ use std::alloc::{AllocError, Global};
 /// The name of the file that defines them and includes the main file.
 pub(crate) const MADE_FILE: &str = "options";
 
-/// Whether a text is a name, with parameters or without, and a value after `=` or none, on one line.
+/// Whether a text is a name, with parameters or without, and a value after `=` or none, on one line. A backslash at its end, as `??/` means one, would join the
+/// next line to it.
 pub(crate) fn is_definition(text: &str) -> bool {
     let name = macro_name(text);
     let behind = text.get(name.len()..).unwrap_or_default();
@@ -14,6 +15,8 @@ pub(crate) fn is_definition(text: &str) -> bool {
         && (behind.is_empty() || behind.starts_with("=") || behind.starts_with("("))
         && !text.contains('\n')
         && !text.contains('\r')
+        && !text.ends_with("\\")
+        && !text.ends_with("??/")
 }
 
 /// Whether a text is the name of a macro.
