@@ -33,8 +33,6 @@ pub(crate) struct Walker {
     pub(crate) has_effect: bool,
     /// The same of the functions before it.
     pub(crate) effects: Vec<bool>,
-    /// The names of the functions whose ends no path reaches.
-    pub(crate) endless: Vec<usize>,
 }
 
 impl Walker {
@@ -53,7 +51,6 @@ impl Walker {
             told: Vec::new(alloc),
             has_effect: false,
             effects: Vec::new(alloc),
-            endless: Vec::new(alloc),
         })
     }
 
