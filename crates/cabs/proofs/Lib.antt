@@ -8,6 +8,4 @@ pub mod Told
 pub mod Acts
 pub mod Ticking
 pub mod AtOnce
-pub mod Sweeps
-pub mod Seen
 pub mod Showing
