@@ -28,5 +28,6 @@ zsh zsh
 fish fish
 nvim neovim
 man man-db
+chromium chromium
 END
 exit $lacking
