@@ -45,6 +45,12 @@ class Tab {
     });
   }
 
+  // The seconds of processor time that the pages have taken.
+  async cpu() {
+    const { processInfo } = await this.send('SystemInfo.getProcessInfo', {}, true);
+    return processInfo.filter(one => one.type === 'renderer').reduce((sum, one) => sum + one.cpuTime, 0);
+  }
+
   // Opens an address in a new tab, where `first` runs before the page's scripts; whether the page became ready.
   async visit(address, first = '') {
     this.#session = undefined;

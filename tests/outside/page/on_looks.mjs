@@ -1,4 +1,6 @@
 // Point 7: how it looks, for whom, and how fast it is there.
+import path from 'path';
+import { spawnSync } from 'child_process';
 
 const TABS = ['tokens', 'forms', 'listing', 'machine', 'variables', 'frames', 'both'];
 const FIRST_BUILD = 1000;      // ms, of which the issue speaks
@@ -214,4 +216,36 @@ async function first(reader) {
   reader.check('the first build is under a second', Math.min(...times) < FIRST_BUILD, times.join());
 }
 
-export const parts = { tabKeys, access, focus, planted, narrow, first, names };
+const LOOP = 'int main(void) {\n    unsigned s = 0;\n    for (unsigned i = 0; i < 3000000u; i++)\n        s = s * 3u + i;\n    return (int)(s & 127u);\n}\n';
+const LIBRARY = `
+import sys, time
+sys.path.insert(0, sys.argv[1] + '/bindings/python')
+import zikorape
+zk = zikorape.Library(sys.argv[1] + '/release/libzikorape.so')
+with zk.machine(zk.build({'main.c': sys.argv[2]}, 'main.c').check().output) as machine:
+    begun = time.process_time()
+    while machine.run(1000000) == 0:
+        pass
+    print(machine.steps / (time.process_time() - begun))
+`;
+
+// Instructions a second of processor time, of the machine that is kept: on the page, and in the library of this tree; of each the best of three turns, taken in
+// turn, since other work on the machine slows one turn and not the next.
+async function speed(reader) {
+  const { page } = reader, root = path.join(import.meta.dirname, '..', '..', '..');
+  const native = () => Number(spawnSync('python3', ['-c', LIBRARY, root, LOOP], { encoding: 'utf8' }).stdout || NaN);
+  if (!native()) return reader.leaveOut('the speed beside that of the library: release/libzikorape.so is not to be had');
+  const run = `(() => { const m = zk.machine(file); while (m.run(1e6) === 0); const n = m.steps(); m.free(); return n; })()`;
+  await reader.at(`(async () => { const { open } = await import('./zikorape.js'); globalThis.zk = open(await WebAssembly.compile(await (await fetch('zikorape.wasm')).arrayBuffer())); globalThis.file = zk.build([['main.c', ${JSON.stringify(LOOP)}]], 'main.c').output; })()`);
+  await page.run(run);
+  let own = 0, library = 0;
+  for (let turn = 0; turn < 3; turn++) {
+    const begun = await page.cpu(), steps = await page.run(run);
+    own = Math.max(own, steps / (await page.cpu() - begun));
+    library = Math.max(library, native());
+  }
+  console.log(`instructions a second: ${(own / 1e6).toFixed(1)} million on the page, ${(library / 1e6).toFixed(1)} million in the library`);
+  reader.check('a run takes less than twice as long as in the library', own * 2 > library, own / library);
+}
+
+export const parts = { tabKeys, access, focus, planted, narrow, first, speed, names };
