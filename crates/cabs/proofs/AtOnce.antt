@@ -36,7 +36,7 @@ use Rattle.cabs.proofs.Ticking.{bytes_now}
 abbrev pub goes_to : typed.Program → List on.Frame → on.Found → State → machine.Run on.Found
 goes_to p fs x s = resume p (call_in p) fs (Goes x s)
 
-then_resumed : (p : typed.Program) (fs : List on.Frame) (r : machine.Run on.Found) → then_do r (goes_to p fs) ≡ resume p (call_in p) fs r
+pub then_resumed : (p : typed.Program) (fs : List on.Frame) (r : machine.Run on.Found) → then_do r (goes_to p fs) ≡ resume p (call_in p) fs r
 then_resumed p fs (Goes x s) = refl
 then_resumed p fs (Stops e s) = sym (resume_stops p (call_in p) fs e s)
 

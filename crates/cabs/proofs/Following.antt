@@ -21,7 +21,7 @@ pub resume_stops : (p : Program) (call : Calling) (fs : List Frame) (e : Ending)
 resume_stops p call [] e s = refl
 resume_stops p call (f ∷ fs) e s = ap (λ r. then_do r (after p call f)) (resume_stops p call fs e s)
 
-onto_resumed : (p : Program) (call : Calling) (fs : List Frame) (m : Moved) → resumed p call (onto fs m) ≡ resume p call fs (resumed p call m)
+pub onto_resumed : (p : Program) (call : Calling) (fs : List Frame) (m : Moved) → resumed p call (onto fs m) ≡ resume p call fs (resumed p call m)
 onto_resumed p call fs (moves pushed step s) = resume_more p call fs pushed (present p call step s)
 onto_resumed p call fs (halts e s) = sym (resume_stops p call fs e s)
 

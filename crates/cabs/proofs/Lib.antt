@@ -8,4 +8,6 @@ pub mod Told
 pub mod Acts
 pub mod Ticking
 pub mod AtOnce
+pub mod Sweeps
+pub mod Seen
 pub mod Showing

@@ -15,6 +15,7 @@ ghost use Rattle.interp_store.specs.layer.Views.{found_of, passed_of, step_of};
 ghost use Rattle.cabs.specs.Interpreting.{Blames, Counts};
 ghost use Rattle.cabs.specs.inside.Standing.{ActMeets, BlamesUntil, CountsUntil, IsLeft, Knows, Nears, NearsFrom, Outset, Stands, StoppedBy, StoppingBy, Whole};
 
+use crate::leaving::{leave_kept, pop};
 use crate::observing::Observer;
 use crate::outcome::Run;
 use crate::state::Interpreter;
@@ -54,6 +55,33 @@ pub fn finish<P: Port, O: Observer>(
     }
 }
 
+/// Passes a result to the innermost frame, and reports nothing but the end of a call.
+///
+/// Errors: how the run stops.
+fn act_unseen<'p, P: Port, O: Observer>(
+    interpreter: &mut Interpreter<'p>,
+    port: &mut P,
+    observer: &mut O,
+    found: Found,
+) -> Result<Step<'p>, Run>
+    ensures meets { (b : Bool) (p : typed.Program) (whole : Whole) (o : Outset) (sent : List ℕ) →
+        Stands (Knows b (O.told observer.old)) p whole o sent interpreter.old (on.leaves (found_of found)) (P.seen port.old) → ActMeets (Knows b (O.told observer.new)) p whole o sent result interpreter.new (P.seen port.new) }
+    ensures nears { Nears (frames_of interpreter.old.machine) (on.leaves (found_of found)) result (frames_of interpreter.new.machine) }
+    ensures counts { CountsUntil result (P.seen port.old).failures (P.seen port.new).failures }
+    ensures fault { BlamesUntil (P.refused_with port.new) result }
+    ensures shown { (l : List Store) → O.shown observer.old l → O.shown observer.new l }
+    ensures always { O.always observer.old → O.always observer.new }
+{
+    let Some(kept) = pop(&mut interpreter.machine) else {
+        return Err(Run::TicksUsed);
+    };
+    interpreter.end_call(observer, &kept, &found);
+    match leave_kept(&mut interpreter.machine, kept, found) {
+        Ok(step) => Ok(step),
+        Err(stop) => Err(finish(interpreter, port, observer, stop)),
+    }
+}
+
 /// Passes a result to the innermost frame.
 ///
 /// Errors: how the run stops. If no frame waits, the ticks pass; the run of a program never reaches that state.
@@ -71,6 +99,9 @@ fn act_found<'p, P: Port, O: Observer>(
     ensures shown { (l : List Store) → O.shown observer.old l → O.shown observer.new l }
     ensures always { O.always observer.old → O.always observer.new }
 {
+    if !observer.wants_ticks() {
+        return act_unseen(interpreter, port, observer, found);
+    }
     let Some(frame) = interpreter.machine.pop() else {
         return Err(Run::TicksUsed);
     };

@@ -3,12 +3,15 @@
 
 mod acting;
 mod first_objects;
+mod leaving;
 mod observing;
+mod opening;
 mod outcome;
 mod quick_parts;
 mod resting;
 mod running;
 mod state;
+mod sweeping;
 
 pub use observing::{Observer, Unobserved};
 pub use outcome::{Interpreted, Run};

@@ -26,8 +26,8 @@ pub trait Observer {
     // That from here on it asks for all ticks. By default that is not known.
     ghost always: { Self → Type 0 } = { λ _. ⊥ };
 
-    /// Whether all ticks are reported to it. If not, parts of the program without calls are evaluated as a whole, and nothing inside
-    /// them is reported.
+    /// Whether all ticks are reported to it. If not, what calls nothing is evaluated as a whole, and neither ticks nor results need be
+    /// reported: only calls, their ends and bytes always are.
     fn wants_ticks(&self) -> bool
         ensures { always self.now → result ≡ true };
 

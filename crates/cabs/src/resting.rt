@@ -59,7 +59,7 @@ fn hold_loop(all: &[Statement]) -> bool {
 
 /// Whether a statement contains a loop.
 #[cycle(holding)]
-fn holds_loop(a: &Statement) -> bool {
+pub fn holds_loop(a: &Statement) -> bool {
     match a {
         Statement::Empty(_) => false,
         Statement::Evaluate(_, _) => false,

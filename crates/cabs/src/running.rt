@@ -17,6 +17,7 @@ ghost use Rattle.cabs.specs.inside.Standing.{BlamesUntil, CountsUntil, Fresh, Kn
 
 use crate::acting::{act, finish};
 use crate::observing::{Observer, Unobserved};
+use crate::opening::sweep;
 use crate::outcome::{Interpreted, Run};
 use crate::quick_parts::at_once;
 use crate::resting::{PERIOD, rest_at, rest_before};
@@ -137,6 +138,9 @@ fn tick<'p, P: Port, O: Observer>(
     if is_whole(observer, &node) {
         rest_before(port, &node);
         return at_once(interpreter, &node, spent, limit);
+    }
+    if !observer.wants_ticks() {
+        return sweep(interpreter, node, spent, limit);
     }
     *spent += 1;
     match take_tick(interpreter, observer, node) {

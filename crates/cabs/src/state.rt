@@ -9,14 +9,16 @@ ghost use Rattle.csem.specs.Store.{Store, first_store};
 ghost use Rattle.csem.specs.Expressions.{Passed};
 ghost use Rattle.interp_store.specs.declared.stop.Stop.TheVariants.{Memory};
 ghost use Rattle.interp_store.specs.layer.Agrees.{Outside, frames_of, state_in};
-ghost use Rattle.interp_store.specs.layer.Views.{flow_frame, found_of, frame_of};
+ghost use Rattle.interp_store.specs.layer.Views.{flow_frame, found_of, frame_of, kept_of};
 ghost use Rattle.interp_transitions.specs.Tallied.{Tells};
 ghost use Rattle.io_ports.specs.Port.{Rises};
 ghost use Rattle.cabs.specs.inside.Standing.{history_called, history_left, is_flow, is_return, waiting};
 
 use crate::first_objects::first_store;
+use crate::leaving::is_call;
 use crate::observing::Observer;
 use interp_store::frames::{FlowFrame, Found, Frame};
+use interp_store::kept::Kept;
 use interp_store::machine::Machine;
 use interp_store::scene::Scene;
 use interp_store::stop::Stop;
@@ -108,6 +110,22 @@ impl<'p> Interpreter<'p> {
         }
     }
 
+    /// The same, of a frame as the stack stores it.
+    #[inline(always)]
+    pub fn end_call<O: Observer>(&mut self, observer: &mut O, kept: &Kept<'p>, found: &Found)
+        ensures tells { (p : typed.Program) (h : List Entry) → Tells p h self.old.tally → Tells p (history_left (kept_of kept.now) (found_of found.now) h) self.new.tally }
+        ensures told { (h : List Entry) → O.told observer.old h → O.told observer.new (history_left (kept_of kept.now) (found_of found.now) h) }
+        ensures shown { (l : List Store) → O.shown observer.old l → O.shown observer.new l }
+        ensures always { O.always observer.old → O.always observer.new }
+        ensures machine { self.new.machine ≡ self.old.machine }
+        ensures kept { self.new.kept ≡ self.old.kept }
+    {
+        if is_flow(found) && is_call(kept) {
+            self.tally.end();
+            observer.ends();
+        }
+    }
+
     /// Begins the call of a function that has a definition.
     ///
     /// Errors: memory ran out.
@@ -182,7 +200,7 @@ impl<'p> Interpreter<'p> {
 
 /// Whether a frame waits for a call's body.
 #[inline(always)]
-fn is_return(frame: &Frame<'_>) -> bool
+pub fn is_return(frame: &Frame<'_>) -> bool
     ensures { result ≡ is_return (frame_of frame.now) }
 {
     match frame {

@@ -16,6 +16,7 @@ use typed_ast::Value;
 /// A statement that waits for the value of an expression.
 ///
 /// Errors: memory ran out.
+#[inline(always)]
 pub fn control<'p>(
     machine: &mut Machine<'p>,
     frame: ControlFrame<'p>,

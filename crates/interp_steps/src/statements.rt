@@ -21,6 +21,7 @@ use interp_store::stop::Stop;
 use typed_ast::{Initialiser, ObjectType, Statement, Value};
 
 /// A statement is left in this way, without further steps.
+#[inline(always)]
 pub fn left<'p>(flow: Flow) -> Result<Step<'p>, Stop>
     ensures { result ≡ Ok (step.Leaves (found.Flow flow)) }
 {

@@ -87,6 +87,7 @@ pub fn ask<'p>(machine: &mut Machine<'p>, asked: Asked<'p>) -> Result<Step<'p>, 
 }
 
 /// An expression that waits for the value of a part.
+#[inline(always)]
 pub fn operand<'p>(
     machine: &mut Machine<'p>,
     frame: OperandFrame<'p>,
@@ -99,6 +100,7 @@ pub fn operand<'p>(
 }
 
 /// An expression that waits for a place.
+#[inline(always)]
 fn assignment<'p>(
     machine: &mut Machine<'p>,
     frame: PlaceFrame<'p>,

@@ -85,6 +85,7 @@ const _: () = prove!(size_of::<Kept<'static>>() == 48);
 /// A frame in an allocation of its own.
 ///
 /// Errors: memory ran out.
+#[inline(never)]
 fn apart<'p>(alloc: Global, frame: Frame<'p>) -> Result<Kept<'p>, Stop>
     ensures ok { IfOk result (λ kept. kept_of kept ≡ frame_of frame.entry) }
     ensures err { IfErr result (λ e. e ≡ Memory) }
@@ -95,6 +96,7 @@ fn apart<'p>(alloc: Global, frame: Frame<'p>) -> Result<Kept<'p>, Stop>
     }
 }
 
+#[inline(always)]
 fn keep_place<'p>(alloc: Global, frame: PlaceFrame<'p>) -> Result<Kept<'p>, Stop>
     ensures ok { IfOk result (λ kept. kept_of kept ≡ place_frame frame.entry) }
     ensures err { IfErr result (λ e. e ≡ Memory) }
@@ -113,6 +115,7 @@ fn keep_place<'p>(alloc: Global, frame: PlaceFrame<'p>) -> Result<Kept<'p>, Stop
 }
 
 /// The subscript of the part at a reference.
+#[inline(always)]
 fn keep_subscript<'p>(alloc: Global, at: Pos, r: Reference) -> Result<Kept<'p>, Stop>
     ensures ok { IfOk result (λ kept. kept_of kept ≡ operand_frame (operands.IndexOf at r)) }
     ensures err { IfErr result (λ e. e ≡ Memory) }
@@ -124,6 +127,7 @@ fn keep_subscript<'p>(alloc: Global, at: Pos, r: Reference) -> Result<Kept<'p>, 
 }
 
 /// A store at a reference.
+#[inline(always)]
 fn keep_store<'p>(alloc: Global, at: Pos, ty: IntType, r: Reference) -> Result<Kept<'p>, Stop>
     ensures ok { IfOk result (λ kept. kept_of kept ≡ operand_frame (operands.Stores at ty r)) }
     ensures err { IfErr result (λ e. e ≡ Memory) }
@@ -134,6 +138,7 @@ fn keep_store<'p>(alloc: Global, at: Pos, ty: IntType, r: Reference) -> Result<K
     apart(alloc, Frame::Operand(OperandFrame::Stores(at, ty, r)))
 }
 
+#[inline(always)]
 fn keep_operand<'p>(alloc: Global, frame: OperandFrame<'p>) -> Result<Kept<'p>, Stop>
     ensures ok { IfOk result (λ kept. kept_of kept ≡ operand_frame frame.entry) }
     ensures err { IfErr result (λ e. e ≡ Memory) }
@@ -159,6 +164,7 @@ fn keep_operand<'p>(alloc: Global, frame: OperandFrame<'p>) -> Result<Kept<'p>, 
 }
 
 /// The frame of a loop's test. A loop without a test waits for none; its frame is stored apart.
+#[inline(always)]
 fn keep_test<'p>(alloc: Global, l: Loop<'p>) -> Result<Kept<'p>, Stop>
     ensures ok { IfOk result (λ kept. kept_of kept ≡ control_frame (controls.Tests l.entry)) }
     ensures err { IfErr result (λ e. e ≡ Memory) }
@@ -173,6 +179,7 @@ fn keep_test<'p>(alloc: Global, l: Loop<'p>) -> Result<Kept<'p>, Stop>
 }
 
 /// The frame of a loop's step. A loop without a step waits for none; its frame is stored apart.
+#[inline(always)]
 fn keep_step<'p>(alloc: Global, l: Loop<'p>) -> Result<Kept<'p>, Stop>
     ensures ok { IfOk result (λ kept. kept_of kept ≡ control_frame (controls.Loops l.entry)) }
     ensures err { IfErr result (λ e. e ≡ Memory) }
@@ -187,6 +194,7 @@ fn keep_step<'p>(alloc: Global, l: Loop<'p>) -> Result<Kept<'p>, Stop>
 }
 
 /// The body of a loop.
+#[inline(always)]
 fn keep_turn<'p>(l: Loop<'p>) -> Kept<'p>
     ensures { kept_of result ≡ flow_frame (flows.Turn l.entry) }
 {
@@ -202,6 +210,7 @@ fn keep_turn<'p>(l: Loop<'p>) -> Kept<'p>
     }
 }
 
+#[inline(always)]
 fn keep_control<'p>(alloc: Global, frame: ControlFrame<'p>) -> Result<Kept<'p>, Stop>
     ensures ok { IfOk result (λ kept. kept_of kept ≡ control_frame frame.entry) }
     ensures err { IfErr result (λ e. e ≡ Memory) }
@@ -222,6 +231,7 @@ fn keep_control<'p>(alloc: Global, frame: ControlFrame<'p>) -> Result<Kept<'p>, 
 }
 
 /// A call.
+#[inline(always)]
 fn keep_return<'p>(alloc: Global, r: Return) -> Result<Kept<'p>, Stop>
     ensures ok { IfOk result (λ kept. kept_of kept ≡ flow_frame (flows.Returns r)) }
     ensures err { IfErr result (λ e. e ≡ Memory) }
@@ -242,6 +252,7 @@ fn keep_return<'p>(alloc: Global, r: Return) -> Result<Kept<'p>, Stop>
     }))
 }
 
+#[inline(always)]
 fn keep_flow<'p>(alloc: Global, frame: FlowFrame<'p>) -> Result<Kept<'p>, Stop>
     ensures ok { IfOk result (λ kept. kept_of kept ≡ flow_frame frame.entry) }
     ensures err { IfErr result (λ e. e ≡ Memory) }
@@ -255,6 +266,7 @@ fn keep_flow<'p>(alloc: Global, frame: FlowFrame<'p>) -> Result<Kept<'p>, Stop>
     }
 }
 
+#[inline(always)]
 fn keep_initialiser<'p>(alloc: Global, frame: InitialiserFrame<'p>) -> Result<Kept<'p>, Stop>
     ensures ok { IfOk result (λ kept. kept_of kept ≡ initialiser_frame frame.entry) }
     ensures err { IfErr result (λ e. e ≡ Memory) }
@@ -271,6 +283,7 @@ fn keep_initialiser<'p>(alloc: Global, frame: InitialiserFrame<'p>) -> Result<Ke
 /// A frame in the form in which the stack stores it.
 ///
 /// Errors: memory ran out.
+#[inline(always)]
 pub fn keep<'p>(alloc: Global, frame: Frame<'p>) -> Result<Kept<'p>, Stop>
     ensures ok { IfOk result (λ kept. kept_of kept ≡ frame_of frame.entry) }
     ensures err { IfErr result (λ e. e ≡ Memory) }

@@ -5,7 +5,7 @@ mod element_tree;
 pub mod expressions;
 pub mod frames;
 mod grid;
-mod kept;
+pub mod kept;
 pub mod laws;
 pub mod machine;
 pub mod operands;

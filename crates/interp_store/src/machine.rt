@@ -80,6 +80,7 @@ impl<'p> Machine<'p> {
 /// A value that is given at once.
 ///
 /// Errors: why there is none.
+#[inline(always)]
 pub fn gives_value<'p>(value: Result<i64, Stop>) -> Result<Step<'p>, Stop>
     ensures { (run : Run ℤ) (s : State) (fs : List on.Frame) → Runs number run value s → Agrees (onto fs (at_once on.a_value run)) result fs s }
 {
@@ -92,6 +93,7 @@ pub fn gives_value<'p>(value: Result<i64, Stop>) -> Result<Step<'p>, Stop>
 /// A place that is given at once.
 ///
 /// Errors: why there is none.
+#[inline(always)]
 pub fn gives_place<'p>(place: Result<Reference, Stop>) -> Result<Step<'p>, Stop>
     ensures { (run : Run store.Reference) (s : State) (fs : List on.Frame) → Runs reference_of run place s →
         Agrees (onto fs (at_once on.a_place run)) result fs s }

@@ -59,3 +59,9 @@ returns-in-Err-clause-meets g c b p whole o sent s =
     c.finish.ensures.meets b p whole o sent (frame_stopping (Knows b T) (Knows b U) p whole o sent old _ mid f (found_of c.args.found) _ popped
     (ap (λ (m : Machine). m.scene) c.count_end.ensures.machine ∙ c.in-Some.ensures.scene) (ap (λ (m : Machine). m.program) c.count_end.ensures.machine ∙ c.in-Some.ensures.program)
     (λ h. c.count_end.ensures.tells p h) (known b T U (history_left f x) ended) c.count_end.ensures.kept s c.in-Err.stop c.in-Err.ensures.acts)
+
+pub returns-then-not-wants_ticks-clause-meets : goal.returns-then-not-wants_ticks-clause-meets
+returns-then-not-wants_ticks-clause-meets g c b p whole o sent s = c.act_unseen.ensures.meets b p whole o sent s
+
+pub returns-then-not-wants_ticks-clause-nears : goal.returns-then-not-wants_ticks-clause-nears
+returns-then-not-wants_ticks-clause-nears g c = c.act_unseen.ensures.nears

@@ -83,3 +83,12 @@ returns-in-Err-take_tick-clause-shows g c b p all o r a s =
     let shows = tick_shown T S U p all o k met.0 c.settle.new.interpreter (node_of c.in-Ok.node) _ met.1.0 (λ l h. c.finish.ensures.shown _ (c.in-Err-take_tick.ensures.shown l (c.in-Ok.ensures.shown l h))) s in
     shown_until U all (k + 1) c.args.limit le shows V p o met.0 _ _ _
     (c.finish.ensures.meets b p (λ n. all (n + (k + 1))) o met.0 (tick_stopping (Knows b Behind) p all o k met.0 c.settle.new.interpreter (node_of c.in-Ok.node) _ here met.1.1 r.grows c.take_tick.new.interpreter c.in-Err-take_tick.stop c.in-Err-take_tick.ensures.tally c.in-Err-take_tick.ensures.kept c.in-Err-take_tick.ensures.takes))
+
+pub returns-then-not-wants_ticks-clause-meets : goal.returns-then-not-wants_ticks-clause-meets
+returns-then-not-wants_ticks-clause-meets g c b p all o r =
+    let k = c.args.spent.now in
+    let met = c.in-Ok.ensures.meets b p (λ n. all (n + k)) o r.sent r.stands in
+    let T = Knows b (g.O.Observer.told c.settle.new.observer) in
+    let here = met.1.0 in
+    let h = here.history in
+    meets_at_told (λ g. g ≡ h) T (same_history T h here.told) p o all _ _ _ _ _ (c.sweep.ensures.meets h p all o met.0 _ r.grows (exactly T p (λ n. all (n + k)) o met.0 _ _ _ here) met.1.1)

@@ -1,0 +1,173 @@
+use Rattle.std.proofs.Common.{rules, ◌≡◌, ◌∙◌, [], List, Bor, ap, map, sym, to_z, of_z, w64}
+use Rattle.std.proofs.Math.Facts.{to_z-of_z}
+use Rattle.std.specs.Prelude.{Some, None}
+use Rattle.typing_spec.specs.Program as typed
+use Rattle.typed_ast.specs.declared.units.Program as unit
+use Rattle.typed_ast.specs.declared.expressions.Argument.{Argument}
+use Rattle.csem.specs.Machine.{State}
+use Rattle.interp_store.specs.declared.frames.Passed.{Passed}
+use Rattle.interp_store.specs.layer.Frames.{Moved}
+use Rattle.typed_ast.specs.View.{argument_of, arguments_of, callee_of, program_of, value_of}
+use Rattle.interp_store.proofs.Held.{sees_call}
+use Rattle.interp_store.specs.layer.Agrees.{frames_of}
+use Rattle.interp_store.specs.layer.Frames as on
+use Rattle.interp_store.specs.layer.Steps.{asked_for, waits}
+use Rattle.interp_store.specs.layer.Views.{frame_of, passed_of, step_of}
+use Rattle.cabs.specs.inside.Sweeping.{steps_to}
+use Rattle.cabs.proofs.Seen.{sees_binary, sees_both, sees_cast, sees_chosen, sees_discarded, sees_one, sees_sequence, sees_unary}
+use Rattle.cabs.proofs.Sweeps.{after_as, found_none, on_stack, on_true, on_with, ticked, ticked_as, unticked}
+use Rattle.cabs.proofs.sweeping.+descending.Goals as goal
+
+pub binary-returns-in_default-clause-does : goal.binary-returns-in_default-clause-does
+binary-returns-in_default-clause-does t c = λ run h.
+    let m = c.args.machine.now in
+    let o = c.args.operation in
+    let f = on.right o.at o.op o.ty (value_of c.args.b.now) in
+    found_none on.a_value run (program_of m.program.now) f c.args.limit c.value_here.result c.value_here.new.clock c.value_here.new.machine c.in_default.is (c.value_here.ensures.does run f h)
+
+pub binary-returns-clause-does : goal.binary-returns-clause-does
+binary-returns-clause-does t c = λ run h.
+    let m = c.args.machine.now in
+    let new = c.value_here.new.machine in
+    let p = program_of m.program.now in
+    let o = c.args.operation in
+    let b = on.value (value_of c.args.b.now) in
+    let v = c.in-Some.v in
+    let same : to_z w64 (of_z w64 v) ≡ v = search (rules, to_z-of_z) in
+    on_with (λ x. steps_to (step_of x)) c.args.limit (λ p s. waits (on.applies o.at o.op o.ty (to_z w64 (of_z w64 v))) b s) run p new c.later-2.new.machine c.value_here.new.clock c.later-2.new.clock c.later-2.result
+    (ap (λ (b : Bor unit.Program). program_of b.now) c.value_here.ensures.program) c.later-2.ensures.does
+    (after_as run p c.value_here.new.clock.spent (frames_of new) new.scene (λ s. waits (on.applies o.at o.op o.ty v) b s) (λ s. waits (on.applies o.at o.op o.ty (to_z w64 (of_z w64 v))) b s)
+    (λ s. ap (λ v. waits (on.applies o.at o.op o.ty v) b s) (sym same)) (c.in-Some.ensures.does run (on.right o.at o.op o.ty (value_of c.args.b.now)) h))
+
+pub descend-returns-then-not-tick-clause-does : goal.descend-returns-then-not-tick-clause-does
+descend-returns-then-not-tick-clause-does t c = λ run h.
+    let m = c.args.machine.now in
+    unticked run (program_of m.program.now) c.args.limit c.args.clock.now.spent c.tick.new.self (frames_of m) m.scene (on.value (value_of c.args.e.now)) c.tick.result c.if-not-tick.true c.tick.ensures.idle c.tick.ensures.same h
+
+pub descend-returns-in-Constant-clause-does : goal.descend-returns-in-Constant-clause-does
+descend-returns-in-Constant-clause-does t c = λ run h.
+    let m = c.args.machine.now in
+    c.enter_slowly.ensures.does c.args.limit run (ticked run (program_of m.program.now) c.args.clock.now.spent c.tick.new.self.spent (frames_of m) m.scene (on.value (value_of c.args.e.now)) c.tick.result c.if-not-tick.false c.tick.ensures.taken h)
+
+pub descend-returns-in-Read-clause-does : goal.descend-returns-in-Read-clause-does
+descend-returns-in-Read-clause-does t c = λ run h.
+    let m = c.args.machine.now in
+    c.enter_slowly-in-Read.ensures.does c.args.limit run (ticked run (program_of m.program.now) c.args.clock.now.spent c.tick.new.self.spent (frames_of m) m.scene (on.value (value_of c.args.e.now)) c.tick.result c.if-not-tick.false c.tick.ensures.taken h)
+
+pub descend-returns-in-Assigned-clause-does : goal.descend-returns-in-Assigned-clause-does
+descend-returns-in-Assigned-clause-does t c = λ run h.
+    let m = c.args.machine.now in
+    c.enter_slowly-in-Assigned.ensures.does c.args.limit run (ticked run (program_of m.program.now) c.args.clock.now.spent c.tick.new.self.spent (frames_of m) m.scene (on.value (value_of c.args.e.now)) c.tick.result c.if-not-tick.false c.tick.ensures.taken h)
+
+pub descend-returns-in-Compound-clause-does : goal.descend-returns-in-Compound-clause-does
+descend-returns-in-Compound-clause-does t c = λ run h.
+    let m = c.args.machine.now in
+    c.enter_slowly-in-Compound.ensures.does c.args.limit run (ticked run (program_of m.program.now) c.args.clock.now.spent c.tick.new.self.spent (frames_of m) m.scene (on.value (value_of c.args.e.now)) c.tick.result c.if-not-tick.false c.tick.ensures.taken h)
+
+pub descend-returns-in-Stepped-clause-does : goal.descend-returns-in-Stepped-clause-does
+descend-returns-in-Stepped-clause-does t c = λ run h.
+    let m = c.args.machine.now in
+    c.enter_slowly-in-Stepped.ensures.does c.args.limit run (ticked run (program_of m.program.now) c.args.clock.now.spent c.tick.new.self.spent (frames_of m) m.scene (on.value (value_of c.args.e.now)) c.tick.result c.if-not-tick.false c.tick.ensures.taken h)
+
+pub descend-returns-in-Unary-clause-does : goal.descend-returns-in-Unary-clause-does
+descend-returns-in-Unary-clause-does t c = λ run h.
+    let m = c.args.machine.now in
+    let i = c.in-Unary in
+    c.later.ensures.does run (ticked_as run (program_of m.program.now) c.args.clock.now.spent c.tick.new.self.spent (frames_of m) m.scene (on.value (value_of c.args.e.now))
+    (on.value (typed.unary i.at i.op i.ty (value_of c.deref.result.now))) c.tick.result
+    (ap on.value (sees_unary c.args.e.now i.at i.op i.ty i.e i.is ∙ ap (λ x. typed.unary i.at i.op i.ty (value_of x)) (sym c.deref.ensures)))
+    c.if-not-tick.false c.tick.ensures.taken h)
+
+pub descend-returns-in-Binary-clause-does : goal.descend-returns-in-Binary-clause-does
+descend-returns-in-Binary-clause-does t c = λ run h.
+    let m = c.args.machine.now in
+    let i = c.in-Binary in
+    c.binary.ensures.does run (ticked_as run (program_of m.program.now) c.args.clock.now.spent c.tick.new.self.spent (frames_of m) m.scene (on.value (value_of c.args.e.now))
+    (on.value (typed.binary i.at i.op i.ty (value_of c.deref-in-Binary.result.now) (value_of c.deref-in-Binary-2.result.now))) c.tick.result
+    (ap on.value (sees_binary c.args.e.now i.at i.op i.ty i.a i.b i.is ∙ ap (λ x. typed.binary i.at i.op i.ty (value_of x) (value_of i.b.value)) (sym c.deref-in-Binary.ensures) ∙ ap (λ x. typed.binary i.at i.op i.ty (value_of c.deref-in-Binary.result.now) (value_of x)) (sym c.deref-in-Binary-2.ensures)))
+    c.if-not-tick.false c.tick.ensures.taken h)
+
+pub descend-returns-in-BothTrue-clause-does : goal.descend-returns-in-BothTrue-clause-does
+descend-returns-in-BothTrue-clause-does t c = λ run h.
+    let m = c.args.machine.now in
+    let i = c.in-BothTrue in
+    c.later-in-BothTrue.ensures.does run (ticked_as run (program_of m.program.now) c.args.clock.now.spent c.tick.new.self.spent (frames_of m) m.scene (on.value (value_of c.args.e.now))
+    (on.value (typed.both_true (value_of c.deref-in-BothTrue-2.result.now) (value_of c.deref-in-BothTrue.result.now))) c.tick.result
+    (ap on.value (sees_both c.args.e.now i.a i.b i.is ∙ ap (λ x. typed.both_true (value_of i.a.value) (value_of x)) (sym c.deref-in-BothTrue.ensures) ∙ ap (λ x. typed.both_true (value_of x) (value_of c.deref-in-BothTrue.result.now)) (sym c.deref-in-BothTrue-2.ensures)))
+    c.if-not-tick.false c.tick.ensures.taken h)
+
+pub descend-returns-in-OneTrue-clause-does : goal.descend-returns-in-OneTrue-clause-does
+descend-returns-in-OneTrue-clause-does t c = λ run h.
+    let m = c.args.machine.now in
+    let i = c.in-OneTrue in
+    c.later-in-OneTrue.ensures.does run (ticked_as run (program_of m.program.now) c.args.clock.now.spent c.tick.new.self.spent (frames_of m) m.scene (on.value (value_of c.args.e.now))
+    (on.value (typed.one_true (value_of c.deref-in-OneTrue-2.result.now) (value_of c.deref-in-OneTrue.result.now))) c.tick.result
+    (ap on.value (sees_one c.args.e.now i.a i.b i.is ∙ ap (λ x. typed.one_true (value_of i.a.value) (value_of x)) (sym c.deref-in-OneTrue.ensures) ∙ ap (λ x. typed.one_true (value_of x) (value_of c.deref-in-OneTrue.result.now)) (sym c.deref-in-OneTrue-2.ensures)))
+    c.if-not-tick.false c.tick.ensures.taken h)
+
+pub descend-returns-in-Chosen-clause-does : goal.descend-returns-in-Chosen-clause-does
+descend-returns-in-Chosen-clause-does t c = λ run h.
+    let m = c.args.machine.now in
+    let i = c.in-Chosen in
+    c.later-in-Chosen.ensures.does run (ticked_as run (program_of m.program.now) c.args.clock.now.spent c.tick.new.self.spent (frames_of m) m.scene (on.value (value_of c.args.e.now))
+    (on.value (typed.chosen i.ty (value_of c.deref-in-Chosen-3.result.now) (value_of c.deref-in-Chosen.result.now) (value_of c.deref-in-Chosen-2.result.now))) c.tick.result
+    (ap on.value (sees_chosen c.args.e.now i.ty i.c i.a i.b i.is ∙ ap (λ x. typed.chosen i.ty (value_of i.c.value) (value_of x) (value_of i.b.value)) (sym c.deref-in-Chosen.ensures) ∙ ap (λ x. typed.chosen i.ty (value_of i.c.value) (value_of c.deref-in-Chosen.result.now) (value_of x)) (sym c.deref-in-Chosen-2.ensures) ∙ ap (λ x. typed.chosen i.ty (value_of x) (value_of c.deref-in-Chosen.result.now) (value_of c.deref-in-Chosen-2.result.now)) (sym c.deref-in-Chosen-3.ensures)))
+    c.if-not-tick.false c.tick.ensures.taken h)
+
+pub descend-returns-in-Sequence-clause-does : goal.descend-returns-in-Sequence-clause-does
+descend-returns-in-Sequence-clause-does t c = λ run h.
+    let m = c.args.machine.now in
+    let i = c.in-Sequence in
+    c.later-in-Sequence.ensures.does run (ticked_as run (program_of m.program.now) c.args.clock.now.spent c.tick.new.self.spent (frames_of m) m.scene (on.value (value_of c.args.e.now))
+    (on.value (typed.sequence (value_of c.deref-in-Sequence-2.result.now) (value_of c.deref-in-Sequence.result.now))) c.tick.result
+    (ap on.value (sees_sequence c.args.e.now i.a i.b i.is ∙ ap (λ x. typed.sequence (value_of i.a.value) (value_of x)) (sym c.deref-in-Sequence.ensures) ∙ ap (λ x. typed.sequence (value_of x) (value_of c.deref-in-Sequence.result.now)) (sym c.deref-in-Sequence-2.ensures)))
+    c.if-not-tick.false c.tick.ensures.taken h)
+
+pub descend-returns-in-Cast-clause-does : goal.descend-returns-in-Cast-clause-does
+descend-returns-in-Cast-clause-does t c = λ run h.
+    let m = c.args.machine.now in
+    let i = c.in-Cast in
+    c.later-in-Cast.ensures.does run (ticked_as run (program_of m.program.now) c.args.clock.now.spent c.tick.new.self.spent (frames_of m) m.scene (on.value (value_of c.args.e.now))
+    (on.value (typed.cast i.ty (value_of c.deref-in-Cast.result.now))) c.tick.result
+    (ap on.value (sees_cast c.args.e.now i.ty i.e i.is ∙ ap (λ x. typed.cast i.ty (value_of x)) (sym c.deref-in-Cast.ensures)))
+    c.if-not-tick.false c.tick.ensures.taken h)
+
+pub descend-returns-in-Discarded-clause-does : goal.descend-returns-in-Discarded-clause-does
+descend-returns-in-Discarded-clause-does t c = λ run h.
+    let m = c.args.machine.now in
+    let i = c.in-Discarded in
+    c.later-in-Discarded.ensures.does run (ticked_as run (program_of m.program.now) c.args.clock.now.spent c.tick.new.self.spent (frames_of m) m.scene (on.value (value_of c.args.e.now))
+    (on.value (typed.discarded (value_of c.deref-in-Discarded.result.now))) c.tick.result
+    (ap on.value (sees_discarded c.args.e.now i.e i.is ∙ ap (λ x. typed.discarded (value_of x)) (sym c.deref-in-Discarded.ensures)))
+    c.if-not-tick.false c.tick.ensures.taken h)
+
+pub descend-returns-in-Call-clause-does : goal.descend-returns-in-Call-clause-does
+descend-returns-in-Call-clause-does t c = λ run h.
+    let m = c.args.machine.now in
+    let i = c.in-Call in
+    let p = program_of m.program.now in
+    let asks : List Argument → List Passed → State → Moved = λ more before s. asked_for i.at (callee_of i.callee) i.used (arguments_of (map argument_of more)) (map passed_of before) s in
+    c.call.ensures.does run (after_as run p c.tick.new.self.spent (frames_of m) m.scene (asks i.arguments.items []) (asks c.as_slice.result.now c.new-before.result.items)
+    (λ s. ap (λ before. asks i.arguments.items before s) (sym c.new-before.ensures.items) ∙ ap (λ more. asks more c.new-before.result.items s) (sym c.as_slice.ensures.value))
+    (ticked_as run p c.args.clock.now.spent c.tick.new.self.spent (frames_of m) m.scene (on.value (value_of c.args.e.now))
+    (on.value (typed.call i.at (callee_of i.callee) i.field-2 i.used (arguments_of (map argument_of i.arguments.items)))) c.tick.result
+    (ap on.value (sees_call c.args.e.now i.at i.callee i.field-2 i.used i.arguments i.is))
+    c.if-not-tick.false c.tick.ensures.taken h))
+
+pub later-returns-clause-does : goal.later-returns-clause-does
+later-returns-clause-does t c = λ run h.
+    let m = c.args.machine.now in
+    let new = c.wait_in.new.machine in
+    let p = program_of m.program.now in
+    let x = on.value (value_of c.args.e.now) in
+    on_with (λ x. steps_to (step_of x)) c.args.limit (λ p s. steps_to (on.enters x) s) run p new c.descend.new.machine c.wait_in.new.clock c.descend.new.clock c.descend.result
+    (ap (λ (b : Bor unit.Program). program_of b.now) c.wait_in.ensures.program) c.descend.ensures.does
+    (on_stack run p c.args.clock.now.spent c.wait_in.new.clock.spent (frames_of m) (frames_of new) m.scene new.scene (frame_of c.args.frame) x c.wait_in.ensures.spent
+    (on_true _ c.wait_in.result c.if-not-wait_in.false c.wait_in.ensures.stacked) c.wait_in.ensures.scene h)
+
+pub later-returns-then-is_quick-clause-does : goal.later-returns-then-is_quick-clause-does
+later-returns-then-is_quick-clause-does t c = λ run h.
+    let m = c.args.machine.now in
+    let new = c.wait_in.new.machine in
+    on_stack run (program_of m.program.now) c.args.clock.now.spent c.wait_in.new.clock.spent (frames_of m) (frames_of new) m.scene new.scene (frame_of c.args.frame) (on.value (value_of c.args.e.now)) c.wait_in.ensures.spent
+    (on_true _ c.wait_in.result c.if-not-wait_in.false c.wait_in.ensures.stacked) c.wait_in.ensures.scene h

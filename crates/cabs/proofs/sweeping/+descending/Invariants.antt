@@ -1,0 +1,13 @@
+use Rattle.std.proofs.Common.{◌+◌}
+use Rattle.typed_ast.specs.View.{value_of}
+use Rattle.interp_eval.proofs.Work.{work}
+use Rattle.cabs.proofs.sweeping.+descending.Given as goal
+
+abbrev pub decreases-descend : goal.decreases-descend
+decreases-descend l = work (value_of l.e.now)
+
+abbrev pub decreases-later : goal.decreases-later
+decreases-later l = work (value_of l.e.now) + 1
+
+abbrev pub decreases-binary : goal.decreases-binary
+decreases-binary l = work (value_of l.a.now) + work (value_of l.b.now) + 2
