@@ -1,5 +1,5 @@
 -- The rest of a run revokes nothing that was done.
-use Rattle.std.proofs.Common.{◌≡◌, ◌≤◌, ◌<◌, ◌⊎◌, inl, inr, ℕ, zero, suc, ◌+◌, ◌*◌, List, [], ◌∷◌, ◌++◌, length, Option, Some, None, Bool, true, false, pos, negsuc, refl, sym, ap, ◌∙◌, subst, arith, append_assoc, length-append}
+use Rattle.std.proofs.Common.{◌≡◌, ◌≤◌, ◌⊎◌, inl, inr, ℕ, zero, suc, ◌+◌, ◌*◌, List, [], ◌∷◌, ◌++◌, length, Option, Some, None, Bool, true, false, pos, negsuc, refl, sym, ap, ◌∙◌, arith, append_assoc, length-append}
 use Rattle.std.specs.Prelude.{slice_get}
 use Rattle.srcset.specs.declared.refusal.Pos.{Pos}
 use Rattle.csem_events.specs.Events.{Event, Got, GotEnd, Put}
@@ -7,7 +7,7 @@ use Rattle.ctypes.specs.Types.{modulo}
 use Rattle.typing_spec.specs.Program as typed
 use Rattle.typing_spec.specs.Program.{Callee, Program}
 use Rattle.csem.specs.History.{Entry, Did, trace_of}
-use Rattle.csem.specs.Machine.{State, Ending, Run, Goes, Stops, TicksUsed, tick_of}
+use Rattle.csem.specs.Machine.{State, Run, Goes, Stops, TicksUsed, tick_of}
 use Rattle.csem.specs.Expressions.{Passed, first_number, get_byte}
 use Rattle.csem.specs.Meaning.{last_of}
 use Rattle.interp_store.specs.declared.scene.Scene.{Scene}
@@ -17,10 +17,10 @@ use Rattle.interp_store.specs.layer.Steps.{entered, left, called}
 use Rattle.interp_store.specs.layer.Agrees.{Outside, state_in, onto}
 use Rattle.interp_store.proofs.Resumes.{node_enters, frame_leaves, call_acts, resume_more}
 use Rattle.interp_store.proofs.Adequate.{real}
-use Rattle.interp_transitions.specs.Acts.{outside_of, outside_behind}
+use Rattle.interp_transitions.specs.Acts.{outside_behind}
 use Rattle.interp_transitions.specs.Calls.{IsInside}
-use Rattle.cabs.specs.inside.Standing.{left_of, left_where, entered_where, history_left, history_called, is_flow, is_return, result_left, distance, Adds}
-use Rattle.cabs.proofs.Calm.{Calm, calm_outside, calm_near, steady_near, left_calm, called_calm}
+use Rattle.cabs.specs.inside.Standing.{left_of, left_where, entered_where, history_called, is_flow, is_return, result_left, distance, Adds}
+use Rattle.cabs.proofs.Calm.{calm_outside, calm_near, steady_near, left_calm, called_calm}
 use Rattle.cabs.proofs.Following.{resume_stops, outside}
 
 -- ---- calls read and write nothing

@@ -9,5 +9,6 @@ pub mod Acts
 pub mod Ticking
 pub mod AtOnce
 pub mod Sweeps
+pub mod Moving
 pub mod Seen
 pub mod Showing

@@ -1,6 +1,6 @@
 -- The typed program that a value of the code holds, level by level.
 use Rattle.std.proofs.Common.{◌≡◌, ℕ, map, rules, ap, ◌∙◌, Global}
-use Rattle.std.specs.Prelude.{Option, Some, None, Box, Vec, Bool}
+use Rattle.std.specs.Prelude.{Option, Box, Vec}
 use Rattle.srcset.specs.declared.refusal.Pos.{Pos}
 use Rattle.ctypes.specs.declared.types.IntType.{IntType}
 use Rattle.ctypes.specs.declared.operators.BinOp.{BinOp}

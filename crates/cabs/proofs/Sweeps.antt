@@ -1,6 +1,7 @@
 -- What the machine does in several ticks, and the parts that are evaluated on the spot.
 use Rattle.std.proofs.Common.{◌≡◌, ◌<◌, ℕ, zero, suc, ◌+◌, ◌-◌, List, [], ◌∷◌, ◌++◌, length, map, Option, Some, None, refl, sym, ap, ◌∙◌, subst, arith, Bor}
-use Rattle.std.specs.Prelude.{Bool, Ok, Err, true, false, IfSome}
+use Rattle.std.specs.Prelude.{Bool, Result, Ok, Err, true, false, ⊤}
+use Rattle.ctypes.specs.declared.operators.Undef.{Undef}
 use Rattle.std.specs.Bool.{OnTrue, OnFalse}
 use Rattle.typing_spec.specs.Program as typed
 use Rattle.typed_ast.specs.declared.units.Program as unit
@@ -22,10 +23,10 @@ use Rattle.interp_store.specs.declared.stop.Stop.{Stop}
 use Rattle.interp_store.specs.declared.stop.Stop.TheVariants as stop
 use Rattle.interp_store.specs.layer.Frames as on
 use Rattle.interp_store.specs.layer.Frames.{Moved, moves, halts, enters, leaves}
-use Rattle.interp_store.specs.layer.Presents.{given, after, present, presented, resume, resumed, call_in}
+use Rattle.interp_store.specs.layer.Presents.{given, after, presented, resume, resumed, call_in}
 use Rattle.interp_store.specs.layer.Steps.{asked_for, counted, entered, left, started, waits}
 use Rattle.interp_store.specs.layer.Views.{passed_of, step_of}
-use Rattle.interp_store.specs.layer.Agrees.{Outside, state_in, onto, Agrees, Takes, frames_of}
+use Rattle.interp_store.specs.layer.Agrees.{Outside, state_in, onto, Takes, frames_of}
 use Rattle.interp_store.proofs.Resumes.{node_enters, frame_leaves, resume_more}
 use Rattle.interp_store.proofs.Adequate.{real}
 use Rattle.interp_eval.specs.declared.clock.Clock.{Clock}
@@ -35,7 +36,7 @@ use Rattle.interp_eval.specs.layer.Comes.{Course, state_at, Leads, Comes, StopsB
 use Rattle.interp_eval.proofs.Comings.{no_tick}
 use Rattle.cabs.specs.declared.state.Interpreter.{Interpreter}
 use Rattle.cabs.specs.inside.Standing.{Grows, Outset, Runs, Stands, Whole, left_of, waiting}
-use Rattle.cabs.specs.inside.Sweeping.{After, AskedOn, AsksOn, ComesTo, FindsHere, FoundFor, Sweeps, steps_to, why_of}
+use Rattle.cabs.specs.inside.Sweeping.{After, AskedOn, AsksOn, ComesTo, FindsHere, FoundFor, Sweeps, steps_to}
 use Rattle.cabs.proofs.Begun.{done_kept}
 use Rattle.cabs.proofs.Telling.{tells_as}
 use Rattle.cabs.proofs.Ticking.{bytes_now}
@@ -50,6 +51,32 @@ on_false P b e h = let Q : Bool → Type 0 = λ b. OnFalse b P in subst Q e h
 
 abbrev outside_at : Course → ℕ → Outside
 outside_at c n = record { clock = n; input = c.input; history = c.history }
+
+-- ---- a step before a call stops for want of memory alone
+
+abbrev pub Moves : Moved → Type 0
+Moves (moves pushed step s) = ⊤
+Moves (halts e s) = ⊥
+
+no_halt : (fs : List on.Frame) (m : Moved) (e : machine.Ending) (s : State) → Moves m → onto fs m ≡ halts e s → ⊥
+no_halt fs (moves pushed step now) e s k same = absurd (cc same)
+no_halt fs (halts other now) e s k same = k
+
+nowhere : Outside
+nowhere = record { clock = 0; input = []; history = [] }
+
+pub never_ends : (step : typed.Program → State → Moved) → ((p : typed.Program) (s : State) → Moves (step p s)) → (old new : Machine) (r : Result Step Stop) (n : ℕ) → r ≡ Err (stop.Ended n) → Takes step old r new → ⊥
+never_ends step k old new r n e takes =
+    let P : Result Step Stop → Type 0 = λ r. Takes step old r new in
+    let p = program_of old.program.now in
+    no_halt (frames_of old) (step p (state_in old.scene nowhere)) (machine.Ended n) (state_in new.scene nowhere) (k p (state_in old.scene nowhere)) (subst P e takes nowhere)
+
+pub never_undefined : (step : typed.Program → State → Moved) → ((p : typed.Program) (s : State) → Moves (step p s)) → (old new : Machine) (r : Result Step Stop) (act : Undef) (at : Pos) →
+    r ≡ Err (stop.Undefined act at) → Takes step old r new → ⊥
+never_undefined step k old new r act at e takes =
+    let P : Result Step Stop → Type 0 = λ r. Takes step old r new in
+    let p = program_of old.program.now in
+    no_halt (frames_of old) (step p (state_in old.scene nowhere)) (machine.Undefined act at) (state_in new.scene nowhere) (k p (state_in old.scene nowhere)) (subst P e takes nowhere)
 
 module _ (c : Course) (p : typed.Program) where
   -- ---- a tick
@@ -158,14 +185,6 @@ module _ (c : Course) (p : typed.Program) where
         let is : P p = subst P same takes in
         record { is_left = λ n. sym (ap (resumed p (call_in p)) (is (outside_at c n))) ∙ here n }
 
-    pub took_none : (limit : ℕ) (e : Stop) → Takes next old (Err e) new → StopsBy c limit (why_of e) k new.scene
-    took_none limit stop.Memory takes = tt
-    took_none limit (stop.Ended n) takes = tt
-    took_none limit (stop.Undefined act at) takes =
-        let P : typed.Program → Type 0 = λ p. (o : Outside) → onto (frames_of old) (next p (state_in old.scene o)) ≡ halts (machine.Undefined act at) (state_in new.scene o) in
-        let is : P p = subst P same takes in
-        λ n. sym (here n) ∙ ap (resumed p (call_in p)) (is (outside_at c n))
-
 -- ---- the run
 
 module _ (T : List Entry → Type 0) (p : typed.Program) (all : Whole) (o : Outset) (limit k : ℕ) (now : List ℕ) (mid : Interpreter) (x : on.Node) (port : PortView)
@@ -178,7 +197,7 @@ module _ (T : List Entry → Type 0) (p : typed.Program) (all : Whole) (o : Outs
   swept_from = record { is_left = λ n. s.follows n }
 
   pub swept_here : (r t : Option Step) (new : Clock) (later : Machine) → r ≡ t →
-      Sweeps (λ x. steps_to (step_of x)) limit (λ p s. steps_to (enters x) s) (record { spent = k; why = why.Memory }) mid.machine r new later →
+      Sweeps (λ x. steps_to (step_of x)) limit (λ p s. steps_to (enters x) s) (record { spent = k; why = why.Ticks }) mid.machine r new later →
       ComesTo (λ x. steps_to (step_of x)) run_course p limit t new later
   swept_here r t new later e does =
       let P : typed.Program → Type 0 = λ q. After run_course q k (frames_of mid.machine) mid.machine.scene (steps_to (enters x)) → ComesTo (λ x. steps_to (step_of x)) run_course q limit r new later in

@@ -1,7 +1,7 @@
 //! Statements that call, up to the next call, and the beginnings of functions.
 
 ghost use Rattle.std.specs.Bool.{OnFalse, OnTrue};
-ghost use Rattle.std.specs.Prelude.{◌≡◌, ◌≢◌, ◌<◌, ◌≤◌, ◌+◌, IfSome, ℕ, List, Option, None, map};
+ghost use Rattle.std.specs.Prelude.{◌≡◌, ◌≢◌, ◌<◌, ◌≤◌, ◌+◌, IfSome, ℕ, List, Option, None, false, map, true};
 ghost use Rattle.typing_spec.specs.Program as typed;
 ghost use Rattle.typed_ast.specs.View.{object_type_of, statement_of, statements_of, value_of};
 ghost use Rattle.csem.specs.History.{Entry};
@@ -10,13 +10,16 @@ ghost use Rattle.interp_store.specs.layer.Frames as on;
 ghost use Rattle.interp_store.specs.layer.Steps.{came_late, entered_statement, started};
 ghost use Rattle.interp_store.specs.declared.scene.Scene.{Scene};
 ghost use Rattle.interp_store.specs.layer.Views.{late_of, node_of, step_of};
-ghost use Rattle.interp_eval.specs.layer.Comes.{Course, Spends, StopsBy};
+ghost use Rattle.interp_eval.specs.layer.Comes.{Course, Spends, StaysHere, StopsBy};
+ghost use Rattle.interp_eval.specs.declared.clock.Why.TheVariants as why;
+ghost use Rattle.interp_eval.specs.layer.Quick.{quick_statement};
 ghost use Rattle.io_ports.specs.Port.{PortView};
 ghost use Rattle.cabs.specs.inside.Standing as standing;
-ghost use Rattle.cabs.specs.inside.Standing.{Grows, IsCalm, MeetsAt, Outset, Stands, Whole, stopped_for};
+ghost use Rattle.cabs.specs.inside.Standing.{Grows, IsCalm, MeetsAt, Outset, Stands, Whole};
 ghost use Rattle.cabs.specs.inside.Sweeping.{After, Sweeps, steps_to};
 
 use crate::outcome::Run;
+use crate::quick_parts::stopped;
 use crate::resting::holds_loop;
 use crate::state::Interpreter;
 use crate::sweeping::{descend, enter_slowly, later, statement_here, wait_in};
@@ -28,7 +31,9 @@ use interp_store::machine::Machine;
 use typed_ast::{ObjectType, Statement};
 
 /// Whether a statement is evaluated on the spot: it calls nothing, and does not loop.
-fn is_short(a: &Statement) -> bool {
+fn is_short(a: &Statement) -> bool
+    ensures { result ≡ true → quick_statement (statement_of a.now) ≡ true }
+{
     is_quick_statement(a) && !holds_loop(a)
 }
 
@@ -42,6 +47,7 @@ fn sequence<'p>(
 ) -> Option<Step<'p>>
     requires room { clock.old.spent ≤ limit }
     ensures does { Sweeps (λ x. steps_to (step_of x)) limit (λ p s. started (map object_type_of objects.now) (statements_of (map statement_of all.now)) s) clock.old machine.old result clock.new machine.new }
+    ensures here { StaysHere true result clock.new.why }
     ensures program { machine.new.program ≡ machine.old.program }
     ensures spends { Spends clock.old.spent clock.new.spent limit }
 {
@@ -77,6 +83,7 @@ fn block<'p>(
 ) -> Option<Step<'p>>
     requires room { clock.old.spent ≤ limit }
     ensures does { Sweeps (λ x. steps_to (step_of x)) limit (λ p s. entered_statement p (map object_type_of objects.now) (typed.block first count (statements_of (map statement_of all.now))) s) clock.old machine.old result clock.new machine.new }
+    ensures here { StaysHere true result clock.new.why }
     ensures program { machine.new.program ≡ machine.old.program }
     ensures spends { Spends clock.old.spent clock.new.spent limit }
 {
@@ -99,6 +106,7 @@ fn open<'p>(
 ) -> Option<Step<'p>>
     requires room { clock.old.spent ≤ limit }
     ensures does { Sweeps (λ x. steps_to (step_of x)) limit (λ p s. steps_to (on.enters (on.statement (map object_type_of objects.now) (statement_of a.now))) s) clock.old machine.old result clock.new machine.new }
+    ensures here { StaysHere true result clock.new.why }
     ensures program { machine.new.program ≡ machine.old.program }
     ensures spends { Spends clock.old.spent clock.new.spent limit }
     ensures takes { IfSome result (λ _. clock.old.spent < clock.new.spent) }
@@ -166,6 +174,7 @@ fn spend_ticks(clock: &mut Clock, limit: u64, more: usize) -> bool
         OnTrue result (After c p clock.new.spent fs scene (λ s. came_late p late s)) }
     ensures stopped { (c : Course) (p : typed.Program) (fs : List on.Frame) (scene : Scene) (late : on.Late) → After c p clock.old.spent fs scene (steps_to (on.enters (on.ticking more late))) →
         OnFalse result (StopsBy c limit clock.new.why clock.new.spent scene) }
+    ensures here { result ≡ false → clock.new.why ≢ why.Elsewhere }
     ensures spends { Spends clock.old.spent clock.new.spent limit }
 {
     let mut left = more;
@@ -187,6 +196,7 @@ fn enter_other<'p>(
 ) -> Option<Step<'p>>
     requires room { clock.old.spent ≤ limit }
     ensures does { Sweeps (λ x. steps_to (step_of x)) limit (λ p s. steps_to (on.enters (node_of node.entry)) s) clock.old machine.old result clock.new machine.new }
+    ensures here { StaysHere true result clock.new.why }
     ensures program { machine.new.program ≡ machine.old.program }
     ensures spends { Spends clock.old.spent clock.new.spent limit }
     ensures takes { IfSome result (λ _. clock.old.spent < clock.new.spent) }
@@ -207,6 +217,7 @@ fn begin_late<'p>(
 ) -> Option<Step<'p>>
     requires room { clock.old.spent ≤ limit }
     ensures does { Sweeps (λ x. steps_to (step_of x)) limit (λ p s. steps_to (on.enters (on.ticking more (late_of late.entry))) s) clock.old machine.old result clock.new machine.new }
+    ensures here { StaysHere true result clock.new.why }
     ensures program { machine.new.program ≡ machine.old.program }
     ensures spends { Spends clock.old.spent clock.new.spent limit }
     ensures takes { IfSome result (λ _. clock.old.spent < clock.new.spent) }
@@ -238,6 +249,7 @@ fn go_on<'p>(
 ) -> Option<Step<'p>>
     requires room { clock.old.spent ≤ limit }
     ensures does { Sweeps (λ x. steps_to (step_of x)) limit (λ p s. steps_to (on.enters (node_of node.entry)) s) clock.old machine.old result clock.new machine.new }
+    ensures here { StaysHere true result clock.new.why }
     ensures program { machine.new.program ≡ machine.old.program }
     ensures spends { Spends clock.old.spent clock.new.spent limit }
     ensures takes { IfSome result (λ _. clock.old.spent < clock.new.spent) }
@@ -259,18 +271,6 @@ fn go_on<'p>(
     }
 }
 
-/// How the run stops before the next call.
-fn stopped(why: Why) -> Run
-    ensures { result ≡ stopped_for why }
-{
-    match why {
-        Why::Ticks => Run::TicksUsed,
-        Why::Undefined(act, at) => Run::Undefined(act, at),
-        Why::Memory => Run::Memory,
-        Why::Elsewhere => Run::Memory,
-    }
-}
-
 /// A node that calls, with its ticks, up to the next call.
 ///
 /// Errors: how the run stops before it.
@@ -289,7 +289,7 @@ pub fn sweep<'p>(
 {
     let mut clock = Clock {
         spent: *spent,
-        why: Why::Memory,
+        why: Why::Ticks,
     };
     let next = go_on(&mut interpreter.machine, &mut clock, limit, node);
     *spent = clock.spent;

@@ -16,8 +16,8 @@ use interp_eval::clock::{Clock, Why};
 use interp_eval::parts::done;
 use interp_store::frames::{Node, Step};
 
-/// How the run stops inside a part that is evaluated as a whole.
-fn stopped(why: Why) -> Run
+/// How the run stops inside a part that is evaluated on the spot.
+pub fn stopped(why: Why) -> Run
     requires { why ≢ Elsewhere }
     ensures { result ≡ stopped_for why }
 {

@@ -1,7 +1,7 @@
 //! Parts of the program that call, up to the next call. What calls nothing in them is evaluated on the spot and takes no frame.
 
 ghost use Rattle.std.specs.Bool.{OnFalse, OnTrue};
-ghost use Rattle.std.specs.Prelude.{◌≡◌, ◌<◌, ◌≤◌, ◌++◌, ◌∷◌, [], ℕ, IfSome, List, map};
+ghost use Rattle.std.specs.Prelude.{◌≡◌, ◌≢◌, ◌<◌, ◌≤◌, ◌++◌, ◌∷◌, [], ℕ, IfSome, List, map, true};
 ghost use Rattle.srcset.specs.declared.refusal.Pos.{Pos};
 ghost use Rattle.typing_spec.specs.Program as typed;
 ghost use Rattle.typed_ast.specs.View.{Given, argument_of, arguments_of, callee_of, object_type_of, place_of, statement_of, statements_of, value_of};
@@ -13,8 +13,9 @@ ghost use Rattle.interp_store.specs.layer.Frames as on;
 ghost use Rattle.interp_store.specs.layer.Steps.{asked_for, entered, started, waits};
 ghost use Rattle.interp_store.specs.layer.Views.{flow_of, frame_of, node_of, passed_of, step_of};
 ghost use Rattle.interp_eval.specs.declared.clock.Why.TheVariants as why;
-ghost use Rattle.interp_eval.specs.layer.Comes.{Spends};
-ghost use Rattle.cabs.specs.inside.Sweeping.{AsksOn, FindsHere, Sweeps, steps_to, why_of};
+ghost use Rattle.interp_eval.specs.layer.Comes.{Spends, StaysHere};
+ghost use Rattle.interp_eval.specs.layer.Quick.{quick, quick_place, quick_statement};
+ghost use Rattle.cabs.specs.inside.Sweeping.{AsksOn, FindsHere, Sweeps, quick_given, steps_to};
 
 use crate::resting::holds_loop;
 use ctypes::{BinOp, IntType, convert};
@@ -40,21 +41,12 @@ struct Operation {
     ty: IntType,
 }
 
-/// Why a step was the last one. None of them ends the program.
-fn why_for(stop: Stop) -> Why
-    ensures { result ≡ why_of stop }
-{
-    match stop {
-        Stop::Memory => Why::Memory,
-        Stop::Ended(_) => Why::Memory,
-        Stop::Undefined(act, at) => Why::Undefined(act, at),
-    }
-}
-
 /// The value of an expression that calls nothing, on the spot.
 fn value_here(machine: &mut Machine<'_>, clock: &mut Clock, limit: u64, e: &Value) -> Option<i64>
+    requires quick { quick (value_of e.now) ≡ true }
     requires room { clock.old.spent ≤ limit }
     ensures does { FindsHere on.a_value number limit (on.value (value_of e.now)) clock.old machine.old result clock.new machine.new }
+    ensures here { StaysHere true result clock.new.why }
     ensures program { machine.new.program ≡ machine.old.program }
     ensures spends { Spends clock.old.spent clock.new.spent limit }
 {
@@ -74,8 +66,10 @@ fn place_here(
     limit: u64,
     a: &Place,
 ) -> Option<Reference>
+    requires quick { quick_place (place_of a.now) ≡ true }
     requires room { clock.old.spent ≤ limit }
     ensures does { FindsHere on.a_place reference_of limit (on.place (place_of a.now)) clock.old machine.old result clock.new machine.new }
+    ensures here { StaysHere true result clock.new.why }
     ensures program { machine.new.program ≡ machine.old.program }
     ensures spends { Spends clock.old.spent clock.new.spent limit }
 {
@@ -96,8 +90,10 @@ pub fn statement_here(
     objects: &[ObjectType],
     a: &Statement,
 ) -> Option<Flow>
+    requires quick { quick_statement (statement_of a.now) ≡ true }
     requires room { clock.old.spent ≤ limit }
     ensures does { FindsHere on.a_flow flow_of limit (on.statement (map object_type_of objects.now) (statement_of a.now)) clock.old machine.old result clock.new machine.new }
+    ensures here { StaysHere true result clock.new.why }
     ensures program { machine.new.program ≡ machine.old.program }
     ensures spends { Spends clock.old.spent clock.new.spent limit }
 {
@@ -135,15 +131,18 @@ pub fn enter_slowly<'p>(
     node: Node<'p>,
 ) -> Option<Step<'p>>
     ensures does { (limit : ℕ) → Sweeps (λ x. steps_to (step_of x)) limit (λ p s. entered p (node_of node.entry) s) clock.old machine.old result clock.new machine.new }
+    ensures here { StaysHere true result clock.new.why }
     ensures program { machine.new.program ≡ machine.old.program }
     ensures spent { clock.new.spent ≡ clock.old.spent }
 {
     match enter(machine, node) {
         Ok(step) => Some(step),
-        Err(stop) => {
-            clock.why = why_for(stop);
+        Err(Stop::Memory) => {
+            clock.why = Why::Memory;
             None
         }
+        Err(Stop::Ended(_)) => unreachable!(),
+        Err(Stop::Undefined(_, _)) => unreachable!(),
     }
 }
 
@@ -155,20 +154,25 @@ fn ask_slowly<'p>(
 ) -> Option<Step<'p>>
     ensures does { (limit : ℕ) → Sweeps (λ x. steps_to (step_of x)) limit (λ p s. asked_for asked.entry.at (callee_of asked.entry.callee) asked.entry.used
         (arguments_of (map argument_of asked.entry.more.now)) (map passed_of asked.entry.before.items) s) clock.old machine.old result clock.new machine.new }
+    ensures here { StaysHere true result clock.new.why }
     ensures program { machine.new.program ≡ machine.old.program }
     ensures spent { clock.new.spent ≡ clock.old.spent }
 {
     match ask(machine, asked) {
         Ok(step) => Some(step),
-        Err(stop) => {
-            clock.why = why_for(stop);
+        Err(Stop::Memory) => {
+            clock.why = Why::Memory;
             None
         }
+        Err(Stop::Ended(_)) => unreachable!(),
+        Err(Stop::Undefined(_, _)) => unreachable!(),
     }
 }
 
 /// Whether an argument calls nothing.
-fn is_quick_argument(argument: &Argument) -> bool {
+fn is_quick_argument(argument: &Argument) -> bool
+    ensures { result ≡ quick_given (argument_of argument.now) }
+{
     match argument {
         Argument::Number(_, e) => is_quick(e),
         Argument::Array(a) => is_quick_place(a),
@@ -182,8 +186,10 @@ fn argument_here(
     limit: u64,
     argument: &Argument,
 ) -> Option<Passed>
+    requires quick { quick_given (argument_of argument.now) ≡ true }
     requires room { clock.old.spent ≤ limit }
     ensures does { AsksOn limit (argument_of argument.now) clock.old machine.old result clock.new machine.new }
+    ensures here { StaysHere true result clock.new.why }
     ensures program { machine.new.program ≡ machine.old.program }
     ensures spends { Spends clock.old.spent clock.new.spent limit }
 {
@@ -209,6 +215,7 @@ fn call<'p>(
     requires room { clock.old.spent ≤ limit }
     ensures does { Sweeps (λ x. steps_to (step_of x)) limit (λ p s. asked_for asked.entry.at (callee_of asked.entry.callee) asked.entry.used
         (arguments_of (map argument_of asked.entry.more.now)) (map passed_of asked.entry.before.items) s) clock.old machine.old result clock.new machine.new }
+    ensures here { StaysHere true result clock.new.why }
     ensures program { machine.new.program ≡ machine.old.program }
     ensures spends { Spends clock.old.spent clock.new.spent limit }
 {
@@ -262,6 +269,7 @@ pub fn later<'p>(
 ) -> Option<Step<'p>>
     requires room { clock.old.spent ≤ limit }
     ensures does { Sweeps (λ x. steps_to (step_of x)) limit (λ p s. waits (frame_of frame.entry) (on.value (value_of e.now)) s) clock.old machine.old result clock.new machine.new }
+    ensures here { StaysHere true result clock.new.why }
     ensures program { machine.new.program ≡ machine.old.program }
     ensures spends { Spends clock.old.spent clock.new.spent limit }
 {
@@ -286,6 +294,7 @@ fn binary<'p>(
 ) -> Option<Step<'p>>
     requires room { clock.old.spent ≤ limit }
     ensures does { Sweeps (λ x. steps_to (step_of x)) limit (λ p s. waits (on.right operation.at operation.op operation.ty (value_of b.now)) (on.value (value_of a.now)) s) clock.old machine.old result clock.new machine.new }
+    ensures here { StaysHere true result clock.new.why }
     ensures program { machine.new.program ≡ machine.old.program }
     ensures spends { Spends clock.old.spent clock.new.spent limit }
 {
@@ -321,6 +330,7 @@ pub fn descend<'p>(
 ) -> Option<Step<'p>>
     requires room { clock.old.spent ≤ limit }
     ensures does { Sweeps (λ x. steps_to (step_of x)) limit (λ p s. steps_to (on.enters (on.value (value_of e.now))) s) clock.old machine.old result clock.new machine.new }
+    ensures here { StaysHere true result clock.new.why }
     ensures program { machine.new.program ≡ machine.old.program }
     ensures spends { Spends clock.old.spent clock.new.spent limit }
     ensures takes { IfSome result (λ _. clock.old.spent < clock.new.spent) }

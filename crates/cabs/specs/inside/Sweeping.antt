@@ -2,13 +2,11 @@
 use Rattle.std.specs.Prelude.{◌≡◌, ℕ, ◌+◌, List, [], ◌∷◌, ◌++◌, Bool, Option, Some, None}
 use Rattle.srcset.specs.declared.refusal.Pos.{Pos}
 use Rattle.typing_spec.specs.Program as typed
-use Rattle.typed_ast.specs.View.{Given, arguments_of, program_of}
+use Rattle.typed_ast.specs.View.{Given, number_given, array_given, arguments_of, program_of}
 use Rattle.csem.specs.Expressions as meaning
 use Rattle.csem.specs.Machine.{State}
 use Rattle.interp_store.specs.declared.machine.Machine.{Machine}
 use Rattle.interp_store.specs.declared.scene.Scene.{Scene}
-use Rattle.interp_store.specs.declared.stop.Stop.{Stop}
-use Rattle.interp_store.specs.declared.stop.Stop.TheVariants as stop
 use Rattle.interp_store.specs.layer.Frames as on
 use Rattle.interp_store.specs.layer.Frames.{Moved, moves}
 use Rattle.interp_store.specs.layer.Presents.{resume, resumed, call_in}
@@ -17,8 +15,7 @@ use Rattle.interp_store.specs.layer.Views.{passed_of}
 use Rattle.interp_store.specs.declared.frames.Passed.{Passed}
 use Rattle.interp_store.specs.layer.Agrees.{frames_of}
 use Rattle.interp_eval.specs.declared.clock.Clock.{Clock}
-use Rattle.interp_eval.specs.declared.clock.Why.{Why}
-use Rattle.interp_eval.specs.declared.clock.Why.TheVariants as why
+use Rattle.interp_eval.specs.layer.Quick.{quick, quick_place}
 use Rattle.interp_eval.specs.layer.Comes.{Course, state_at, StopsBy}
 
 -- where that many ticks are spent, what the machine does next, behind these frames, is the rest of the run
@@ -40,12 +37,6 @@ Sweeps view limit next old before result new after = (c : Course) →
     After c (program_of before.program.now) old.spent (frames_of before) before.scene (next (program_of before.program.now)) →
     ComesTo view c (program_of before.program.now) limit result new after
 
--- why a step was the last one; no step before a call ends the program
-abbrev pub why_of : Stop → Why
-why_of stop.Memory = why.Memory
-why_of (stop.Ended n) = why.Memory
-why_of (stop.Undefined act at) = why.Undefined act at
-
 -- ---- parts that are evaluated on the spot
 
 -- a frame that waited for what was found goes on, or the run stops
@@ -58,6 +49,11 @@ abbrev pub FindsHere : {A B : Type 0} → (B → on.Found) → (A → B) → ℕ
 FindsHere as_found view limit x old before result new after = (c : Course) (f : on.Frame) →
     After c (program_of before.program.now) old.spent (frames_of before) before.scene (λ s. waits f x s) →
     FoundFor (λ a. as_found (view a)) c (program_of before.program.now) f limit result new after
+
+-- an argument calls nothing
+abbrev pub quick_given : Given → Bool
+quick_given (number_given ty e) = quick e
+quick_given (array_given a) = quick_place a
 
 -- one more argument of a call is done, or the run stops
 abbrev pub AskedOn : Course → typed.Program → Pos → typed.Callee → Bool → List Given → List meaning.Passed → ℕ → Option Passed → Clock → Machine → Type 0

@@ -1,4 +1,4 @@
-use Rattle.std.proofs.Common.{◌≡◌, ap, map, subst}
+use Rattle.std.proofs.Common.{ap, map, subst}
 use Rattle.typed_ast.specs.View.{object_type_of, program_of, statement_of}
 use Rattle.interp_store.specs.layer.Agrees.{frames_of}
 use Rattle.interp_store.specs.layer.Frames as on

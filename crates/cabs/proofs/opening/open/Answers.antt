@@ -1,4 +1,4 @@
-use Rattle.std.proofs.Common.{◌≡◌, ◌∙◌, ap, map, sym}
+use Rattle.std.proofs.Common.{◌∙◌, ap, map, sym}
 use Rattle.typing_spec.specs.Program as typed
 use Rattle.typed_ast.specs.View.{object_type_of, program_of, statement_of, statements_of, value_of}
 use Rattle.interp_store.specs.layer.Agrees.{frames_of}

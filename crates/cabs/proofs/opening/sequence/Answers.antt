@@ -1,4 +1,4 @@
-use Rattle.std.proofs.Common.{◌≡◌, ◌∙◌, [], List, Bor, Some, ap, arith, map, sym}
+use Rattle.std.proofs.Common.{◌∙◌, [], List, Bor, Some, ap, arith, map}
 use Rattle.typed_ast.specs.declared.statements.Statement.{Statement}
 use Rattle.typed_ast.specs.declared.units.Program as unit
 use Rattle.typed_ast.specs.View.{object_type_of, program_of, statement_of, statements_of}

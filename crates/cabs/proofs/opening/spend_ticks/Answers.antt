@@ -1,8 +1,6 @@
 use Rattle.std.proofs.Common.{◌≡◌, ◌<◌, ◌-◌, ℕ, arith, subst}
 use Rattle.interp_store.specs.layer.Frames as on
-use Rattle.interp_store.specs.layer.Steps.{came_late, counted}
-use Rattle.std.specs.Bool.{OnTrue, OnFalse}
-use Rattle.interp_eval.specs.layer.Comes.{StopsBy}
+use Rattle.interp_store.specs.layer.Steps.{counted}
 use Rattle.cabs.specs.inside.Sweeping.{After, steps_to}
 use Rattle.cabs.proofs.Sweeps.{after_as, counted_less, ticked, ticked_if, unticked, unticked_if}
 use Rattle.cabs.proofs.opening.spend_ticks.Goals as goal

@@ -1,4 +1,4 @@
-use Rattle.std.proofs.Common.{◌≡◌, ◌≤◌, ◌-◌, ℕ, List}
+use Rattle.std.proofs.Common.{◌≡◌, ◌≤◌, ◌-◌}
 use Rattle.std.specs.Prelude.{Bool}
 use Rattle.typing_spec.specs.Program as typed
 use Rattle.interp_store.specs.layer.Views.{step_of}

@@ -1,4 +1,4 @@
-use Rattle.std.proofs.Common.{◌≡◌, ◌+◌, ◌≤◌, refl, arith}
+use Rattle.std.proofs.Common.{◌≡◌, ◌+◌, ◌≤◌, arith}
 use Rattle.std.specs.Prelude.{Bool, true, false}
 use Rattle.interp_store.specs.layer.Views.{node_of}
 use Rattle.cabs.specs.inside.Standing.{Knows}

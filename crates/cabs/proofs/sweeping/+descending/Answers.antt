@@ -1,6 +1,5 @@
 use Rattle.std.proofs.Common.{rules, ◌≡◌, ◌∙◌, [], List, Bor, ap, map, sym, to_z, of_z, w64}
 use Rattle.std.proofs.Math.Facts.{to_z-of_z}
-use Rattle.std.specs.Prelude.{Some, None}
 use Rattle.typing_spec.specs.Program as typed
 use Rattle.typed_ast.specs.declared.units.Program as unit
 use Rattle.typed_ast.specs.declared.expressions.Argument.{Argument}

@@ -1,7 +1,6 @@
-use Rattle.std.proofs.Common.{rules, ◌≡◌, ◌∙◌, ◌++◌, ◌∷◌, [], List, ap, subst, sym, to_z, of_z, w64}
+use Rattle.std.proofs.Common.{rules, ◌≡◌, ◌∙◌, ◌++◌, ◌∷◌, [], ap, subst, sym, to_z, of_z, w64}
 use Rattle.std.proofs.Math.Facts.{to_z-of_z}
 use Rattle.ctypes.specs.Types.{converted}
-use Rattle.typing_spec.specs.Program as typed
 use Rattle.typed_ast.specs.View.{Given, arguments_of, program_of}
 use Rattle.csem.specs.Expressions as meaning
 use Rattle.interp_store.specs.layer.Agrees.{frames_of}

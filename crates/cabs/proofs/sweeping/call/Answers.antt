@@ -1,4 +1,4 @@
-use Rattle.std.proofs.Common.{◌≡◌, ◌∙◌, ◌++◌, ◌∷◌, [], List, Bor, ap, arith, map, sym}
+use Rattle.std.proofs.Common.{◌∙◌, ◌++◌, ◌∷◌, [], List, Bor, ap, arith, map, sym}
 use Rattle.std.proofs.lemmas.List.{map-append}
 use Rattle.typed_ast.specs.declared.expressions.Argument.{Argument}
 use Rattle.typed_ast.specs.declared.units.Program as unit
