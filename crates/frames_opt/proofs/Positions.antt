@@ -2,12 +2,13 @@
 use Rattle.std.proofs.Common.{◌≡◌, ◌≤◌, ◌⊎◌, inl, inr, ⊎_elim, ℕ, zero, suc, ◌+◌, ◌-◌, ◌/◌, ◌%◌, ◌^◌, List, [], ◌∷◌, Option, Some, None, Bool, true, false, refl, sym, ap, ◌∙◌, subst, arith}
 use Rattle.std.specs.Prelude.{◌==◌, slice_get, set, get_or, nat_lt, if◌then◌else◌, not, ◌&&◌, ◌||◌}
 use Rattle.std.specs.Int.{w32, trailing_zeros}
-use Rattle.std.proofs.lemmas.Bool.{le-ltb}
+use Rattle.std.proofs.lemmas.Bool.{le-ltb, eq-eqb}
 use Rattle.rv32.specs.declared.instr.RegisterOp.{RegisterOp}
 use Rattle.rv32.specs.declared.instr.RegisterOp.TheVariants as register_op
 use Rattle.frames_code.specs.declared.code.Operand.{Operand}
 use Rattle.frames_code.specs.declared.code.Operand.TheVariants as operand
 use Rattle.frames_code.specs.declared.code.Target.{Target}
+use Rattle.frames_code.specs.declared.code.Location.{Location}
 use Rattle.frames_code.specs.declared.code.Location.TheVariants as location
 use Rattle.frames_code.specs.declared.code.Operation.{Operation}
 use Rattle.frames_code.specs.declared.code.Operation.TheVariants as operation
@@ -19,12 +20,16 @@ use Rattle.frames_opt.specs.declared.facts.Known.{Known}
 use Rattle.frames_opt.specs.declared.facts.Known.TheVariants as known
 use Rattle.frames_opt.specs.inside.Facts.{nothing, known_of, is_target, behind}
 use Rattle.frames_opt.specs.inside.Rules.{simpler_operand, carried, with_constant, with_power, is_power, is_constant, commutes, arranged, compute, within, stepped, statics_or, frame_or, numbered, simpler_element, simpler}
-use Rattle.frames_opt.specs.inside.Liveness.{written, reads, is_written, is_dead, dead_at, dead_behind, kept, kept_by, swept, is_right, all_right, are_right}
+use Rattle.frames_opt.specs.declared.statuses.Status.{Status}
+use Rattle.frames_opt.specs.declared.statuses.Status.TheVariants as status
+use Rattle.frames_opt.specs.inside.Liveness.{written, reads, is_number, is_written}
+use Rattle.frames_opt.specs.inside.Sweep.{status_at, is_same, accepts, offer, offers, place_by, place_of, placed, is_lost, is_left_out, swept_one, swept, fits, leads, behind_it, stays_right, is_given_up, drop_right, is_right, all_right, are_right}
 use Rattle.frames_opt.specs.inside.Passes.{jump_of, is_marked, marked_by, marked, all_marked, AreMarked, fresh, forward}
 use Rattle.frames_opt.proofs.Acts.{not_true}
 use Rattle.frames_opt.proofs.Stands.{Flow}
-use Rattle.frames_opt.proofs.Alike.{left_true, right_true}
-use Rattle.frames_opt.proofs.Runs.{Dropped, Position}
+use Rattle.frames_opt.proofs.Alike.{left_true, right_true, same_is}
+use Rattle.frames_opt.proofs.Steps.{Calm}
+use Rattle.frames_opt.proofs.Runs.{Kept, LeftOut, Position}
 
 -- ---- properties of each form that an operation or an element may get
 
@@ -176,6 +181,12 @@ module _ (room : Room) (marks : List Bool) where
   forward_at i facts (y ∷ ys) zero x e = let same : y ≡ x = cc in ap (λ z. Some (simpler room.area (fresh (is_marked marks i) facts) z)) same
   forward_at i facts (y ∷ ys) (suc k) x e = forward_at (i + 1) (further facts i y) ys k x e
 
+  offers_at : (i : ℕ) (facts : List Known) (xs : List Instruction) (k : ℕ) (x : Instruction) → slice_get xs k ≡ Some x
+      → get_or (offers room marks i facts xs) k known.Unknown ≡ offer room (known_from i facts xs k) (simpler room.area (known_from i facts xs k) x)
+  offers_at i facts [] k x e = absurd (let z : ⊥ = cc in z)
+  offers_at i facts (y ∷ ys) zero x e = let same : y ≡ x = cc in ap (λ z. offer room (fresh (is_marked marks i) facts) (simpler room.area (fresh (is_marked marks i) facts) z)) same
+  offers_at i facts (y ∷ ys) (suc k) x e = offers_at (i + 1) (further facts i y) ys k x e
+
   fresh_is : (m : Bool) (facts : List Known) → (fresh m facts ≡ nothing) ⊎ (fresh m facts ≡ facts)
   fresh_is true facts = inl refl
   fresh_is false facts = inr refl
@@ -202,104 +213,235 @@ module _ (room : Room) (marks : List Bool) where
   pub start_known : (xs : List Instruction) → known_from 0 nothing xs 0 ≡ nothing
   start_known xs = ⊎_elim (λ e. e) (λ e. e) (first_known 0 nothing xs)
 
--- ---- without dead stores
+-- ---- where a temporary is the same before all instructions
 
-kept_out : (y : Instruction) (mask : ℕ) (o : Option ℕ) → written y ≡ o → (kept_by o mask y ≡ y) ⊎ Dropped y (kept_by o mask y) (λ k. is_dead mask k)
-kept_out y mask None w = inl refl
-kept_out y mask (Some j) w = on (is_dead mask j) refl
+either_same : (b : Bool) → (if b then status.Same else status.Same) ≡ status.Same
+either_same true = refl
+either_same false = refl
+
+behind_same : (k : ℕ) (x : Instruction) → behind_it k x status.Same ≡ status.Same
+behind_same k x = either_same (is_written k x)
+
+module _ (states : List (List Status)) (k : ℕ) (same : (i : ℕ) → status_at states i k ≡ status.Same) where
+  accepts_same : (i : ℕ) → accepts (status_at states i k) status.Same ≡ true
+  accepts_same i = ap (λ z. accepts z status.Same) (same i)
+
+  leads_same : (i : ℕ) (x : Instruction) → leads states i x k status.Same ≡ true
+  leads_same i instruction.Nothing = accepts_same (i + 1)
+  leads_same i (instruction.Move d x) = accepts_same (i + 1)
+  leads_same i (instruction.Compute o d x y) = accepts_same (i + 1)
+  leads_same i (instruction.Convert c d x) = accepts_same (i + 1)
+  leads_same i (instruction.Load w d l) = accepts_same (i + 1)
+  leads_same i (instruction.Store w x l) = accepts_same (i + 1)
+  leads_same i (instruction.Address d l) = accepts_same (i + 1)
+  leads_same i (instruction.Element d x y size) = accepts_same (i + 1)
+  leads_same i (instruction.Jump to) = accepts_same to
+  leads_same i (instruction.Branch t x y to) = ap (λ b. b && accepts (status_at states to k) status.Same) (accepts_same (i + 1)) ∙ accepts_same to
+  leads_same i (instruction.Call f) = accepts_same (i + 1)
+  leads_same i instruction.PutByte = accepts_same (i + 1)
+  leads_same i instruction.GetByte = accepts_same (i + 1)
+  leads_same i instruction.Exit = refl
+  leads_same i instruction.Return = refl
+
+  stays_same : (i : ℕ) (x : Instruction) → leads states i x k (behind_it k x (status_at states i k)) ≡ true
+  stays_same i x = ap (λ z. leads states i x k (behind_it k x z)) (same i) ∙ (ap (leads states i x k) (behind_same k x) ∙ leads_same i x)
+
+-- as are those from the ninth on
+far : (states : List (List Status)) (k : ℕ) → nat_lt k 8 ≡ false → (i : ℕ) → status_at states i k ≡ status.Same
+far states k e i = ap (λ t. if nat_lt 0 i && t then get_or (get_or states i []) k status.Same else status.Same) e ∙ on (nat_lt 0 i)
   where
-    on : (t : Bool) → is_dead mask j ≡ t → ((if is_dead mask j then instruction.Nothing else y) ≡ y) ⊎ Dropped y (if is_dead mask j then instruction.Nothing else y) (λ k. is_dead mask k)
-    on true e = inr (record { is = rw e refl; number = j; writes = w; lost = e })
-    on false e = inl (rw e refl)
+    on : (b : Bool) → (if b && false then get_or (get_or states i []) k status.Same else status.Same) ≡ status.Same
+    on true = refl
+    on false = refl
 
-past_eight : (mask k : ℕ) → is_dead mask (suc (suc (suc (suc (suc (suc (suc (suc k)))))))) ≡ false
-past_eight mask k =
-    let none : nat_lt (suc (suc (suc (suc (suc (suc (suc (suc k)))))))) 8 ≡ false = le-ltb (suc (suc (suc (suc (suc (suc (suc (suc k)))))))) 8 (omega arith) in
-    ap (λ t. t && (mask / 2 ^ (suc (suc (suc (suc (suc (suc (suc (suc k)))))))) % 2 == 1)) none
+-- and all where there are no statuses
+none_status : (k i : ℕ) → status_at [] i k ≡ status.Same
+none_status k i = either_same (nat_lt 0 i && nat_lt k 8)
 
-module _ (masks : List ℕ) where
-  abbrev mask_at : ℕ → ℕ
-  mask_at i = get_or masks i 0
+-- ---- the second pass
 
-  swept_at : (i : ℕ) (xs : List Instruction) (k j : ℕ) (y : Instruction) → slice_get xs k ≡ Some y → j ≡ i + k → slice_get (swept masks i xs) k ≡ Some (kept (mask_at (j + 1)) y)
+not_eight : (k : ℕ) → nat_lt (suc (suc (suc (suc (suc (suc (suc (suc k)))))))) 8 ≡ false
+not_eight k = le-ltb (suc (suc (suc (suc (suc (suc (suc (suc k)))))))) 8 (omega arith)
+
+or_not : (a b : Bool) → (a || not b) ≡ true → b ≡ true → a ≡ true
+or_not true b e g = refl
+or_not false b e g = absurd (not_true (sym (ap not g) ∙ e))
+
+module _ (room : Room) (states : List (List Status)) (i : ℕ) (o : Known) (y : Instruction) (h : all_right room states i o y ≡ true) where
+  abbrev Right : ℕ → Type 0
+  Right k = is_right room states i o y k ≡ true
+
+  abbrev z : ℕ → Status
+  z k = status_at states i k
+
+  abbrev next : ℕ → Status
+  next k = status_at states (i + 1) k
+
+  right_at : (k : ℕ) → nat_lt k 8 ≡ true → Right k
+  right_at zero e = left_true (is_right room states i o y 0) _ h
+  right_at (suc zero) e = left_true (is_right room states i o y 1) _ (right_true (is_right room states i o y 0) _ h)
+  right_at (suc (suc zero)) e = left_true (is_right room states i o y 2) _ (right_true (is_right room states i o y 1) _ (right_true (is_right room states i o y 0) _ h))
+  right_at (suc (suc (suc zero))) e =
+      left_true (is_right room states i o y 3) _ (right_true (is_right room states i o y 2) _ (right_true (is_right room states i o y 1) _ (right_true (is_right room states i o y 0) _ h)))
+  right_at (suc (suc (suc (suc zero)))) e =
+      left_true (is_right room states i o y 4) _
+      (right_true (is_right room states i o y 3) _ (right_true (is_right room states i o y 2) _ (right_true (is_right room states i o y 1) _ (right_true (is_right room states i o y 0) _ h))))
+  right_at (suc (suc (suc (suc (suc zero))))) e =
+      left_true (is_right room states i o y 5) _
+      (right_true (is_right room states i o y 4) _
+      (right_true (is_right room states i o y 3) _ (right_true (is_right room states i o y 2) _ (right_true (is_right room states i o y 1) _ (right_true (is_right room states i o y 0) _ h)))))
+  right_at (suc (suc (suc (suc (suc (suc zero)))))) e =
+      left_true (is_right room states i o y 6) _
+      (right_true (is_right room states i o y 5) _
+      (right_true (is_right room states i o y 4) _
+      (right_true (is_right room states i o y 3) _ (right_true (is_right room states i o y 2) _ (right_true (is_right room states i o y 1) _ (right_true (is_right room states i o y 0) _ h))))))
+  right_at (suc (suc (suc (suc (suc (suc (suc zero))))))) e =
+      right_true (is_right room states i o y 6) _
+      (right_true (is_right room states i o y 5) _
+      (right_true (is_right room states i o y 4) _
+      (right_true (is_right room states i o y 3) _ (right_true (is_right room states i o y 2) _ (right_true (is_right room states i o y 1) _ (right_true (is_right room states i o y 0) _ h))))))
+  right_at (suc (suc (suc (suc (suc (suc (suc (suc k)))))))) e = absurd (not_true (sym (not_eight k) ∙ e))
+
+  -- each temporary fits what it is, the first eight as the check has found, the others since they are the same
+  pub status_fits : (k : ℕ) → fits room k (z k) ≡ true
+  status_fits k = on (nat_lt k 8) refl
+    where
+      on : (t : Bool) → nat_lt k 8 ≡ t → fits room k (z k) ≡ true
+      on true e = left_true (fits room k (z k)) _ (right_at k e)
+      on false e = ap (fits room k) (far states k e i)
+
+  rest : (k : ℕ) → nat_lt k 8 ≡ true → (if is_left_out states i y then drop_right states i o y k (z k) else stays_right states i y k (z k)) ≡ true
+  rest k e = right_true (fits room k (z k)) _ (right_at k e)
+
+  -- ---- where it stays
+
+  module _ (l : is_left_out states i y ≡ false) where
+    stay : (k : ℕ) → nat_lt k 8 ≡ true → stays_right states i y k (z k) ≡ true
+    stay k e = ap (λ t. if t then drop_right states i o y k (z k) else stays_right states i y k (z k)) (sym l) ∙ rest k e
+
+    same : (k : ℕ) → reads (z k) k y ≡ true → is_same (z k) ≡ true
+    same k read = on (nat_lt k 8) refl
+      where
+        on : (t : Bool) → nat_lt k 8 ≡ t → is_same (z k) ≡ true
+        on true e = or_not (is_same (z k)) (reads (z k) k y) (left_true (is_same (z k) || not (reads (z k) k y)) _ (stay k e)) read
+        on false e = ap is_same (far states k e i)
+
+    right : (k : ℕ) → leads states i y k (behind_it k y (z k)) ≡ true
+    right k = on (nat_lt k 8) refl
+      where
+        on : (t : Bool) → nat_lt k 8 ≡ t → leads states i y k (behind_it k y (z k)) ≡ true
+        on true e = right_true (is_same (z k) || not (reads (z k) k y)) _ (stay k e)
+        on false e = stays_same states k (far states k e) i y
+
+    kept : Kept states i y (placed states i y)
+    kept = record { is = refl; same = same; right = right }
+
+  -- ---- where it is left out
+
+  module _ (l : is_left_out states i y ≡ true) where
+    drop : (k : ℕ) → nat_lt k 8 ≡ true → drop_right states i o y k (z k) ≡ true
+    drop k e = ap (λ t. if t then drop_right states i o y k (z k) else stays_right states i y k (z k)) (sym l) ∙ rest k e
+
+    stays : (k : ℕ) → is_written k y ≡ false → accepts (next k) (z k) ≡ true
+    stays k w = on (nat_lt k 8) refl
+      where
+        on : (t : Bool) → nat_lt k 8 ≡ t → accepts (next k) (z k) ≡ true
+        on true e = ap (λ t. if t then is_given_up (next k) (z k) o else accepts (next k) (z k)) (sym w) ∙ drop k e
+        on false e = ap (λ x. accepts x (z k)) (far states k e (i + 1)) ∙ ap (accepts status.Same) (far states k e i)
+
+    given_up : (j : ℕ) → written y ≡ Some j → is_given_up (next j) (z j) o ≡ true
+    given_up j w = on (nat_lt j 8) refl
+      where
+        on : (t : Bool) → nat_lt j 8 ≡ t → is_given_up (next j) (z j) o ≡ true
+        on true e = ap (λ t. if t then is_given_up (next j) (z j) o else accepts (next j) (z j)) (sym (ap (is_number j) w ∙ eq-eqb j j refl)) ∙ drop j e
+        on false e =
+            let lost : not (is_same (next j)) ≡ true = ap (is_lost states i) (sym w) ∙ l in
+            absurd (not_true (sym (ap (λ x. not (is_same x)) (far states j e (i + 1))) ∙ lost))
+
+    left_out : LeftOut o states i y instruction.Nothing
+    left_out = on (written y) refl
+      where
+        on : (w : Option ℕ) → written y ≡ w → LeftOut o states i y instruction.Nothing
+        on None w = absurd (not_true (sym (ap (is_lost states i) w) ∙ l))
+        on (Some j) w = record { is = refl; number = j; writes = w; stays = stays; given_up = given_up j w }
+
+  out : Kept states i y (swept_one states i y) ⊎ LeftOut o states i y (swept_one states i y)
+  out = on (is_left_out states i y) refl
+    where
+      on : (t : Bool) → is_left_out states i y ≡ t → Kept states i y (if t then instruction.Nothing else placed states i y) ⊎ LeftOut o states i y (if t then instruction.Nothing else placed states i y)
+      on true l = inr (left_out l)
+      on false l = inl (kept l)
+
+placed_cost : (states : List (List Status)) (i : ℕ) (x : Instruction) → cost (placed states i x) ≡ cost x
+placed_cost states i instruction.Nothing = refl
+placed_cost states i (instruction.Move d x) = refl
+placed_cost states i (instruction.Compute o d x y) = refl
+placed_cost states i (instruction.Convert c d x) = refl
+placed_cost states i (instruction.Load w d l) = refl
+placed_cost states i (instruction.Store w x l) = refl
+placed_cost states i (instruction.Address d l) = refl
+placed_cost states i (instruction.Element d x y size) = refl
+placed_cost states i (instruction.Jump to) = refl
+placed_cost states i (instruction.Branch t x y to) = refl
+placed_cost states i (instruction.Call f) = refl
+placed_cost states i instruction.PutByte = refl
+placed_cost states i instruction.GetByte = refl
+placed_cost states i instruction.Exit = refl
+placed_cost states i instruction.Return = refl
+
+swept_cost : (o : Known) (states : List (List Status)) (i : ℕ) (y z : Instruction) → Kept states i y z ⊎ LeftOut o states i y z → cost z ≤ cost y
+swept_cost o states i y z (inl k) = let same : cost z ≡ cost y = ap cost k.is ∙ placed_cost states i y in omega (arith, same)
+swept_cost o states i y z (inr d) = let none : cost z ≡ 0 = ap cost d.is in omega (arith, none)
+
+-- where a call continues all may be the same
+calm_after : (o : Known) (states : List (List Status)) (i : ℕ) (y w : Instruction) → Kept states i y w ⊎ LeftOut o states i y w → (f : ℕ) → y ≡ instruction.Call f → Calm states (i + 1)
+calm_after o states i y w (inl k) f e =
+    let call : Kept states i (instruction.Call f) w = subst (λ x. Kept states i x w) e k in
+    λ j. ap (accepts (status_at states (i + 1) j)) (sym (same_is (status_at states i j) (call.same j refl))) ∙ call.right j
+calm_after o states i y w (inr d) f e = let no : None ≡ Some d.number = sym (ap written e) ∙ d.writes in absurd (let x : ⊥ = cc in x)
+
+module _ (states : List (List Status)) where
+  swept_at : (i : ℕ) (xs : List Instruction) (k j : ℕ) (y : Instruction) → slice_get xs k ≡ Some y → j ≡ i + k → slice_get (swept states i xs) k ≡ Some (swept_one states j y)
   swept_at i [] k j y e g = absurd (let z : ⊥ = cc in z)
   swept_at i (x ∷ xs) zero j y e g =
       let same : x ≡ y = cc in
       let here : j ≡ i = omega (arith, g) in
-      ap (λ z. Some (kept (mask_at (i + 1)) z)) same ∙ ap (λ n. Some (kept (mask_at (n + 1)) y)) (sym here)
+      ap (λ z. Some (swept_one states i z)) same ∙ ap (λ n. Some (swept_one states n y)) (sym here)
   swept_at i (x ∷ xs) (suc k) j y e g = swept_at (i + 1) xs k j y e (omega (arith, g))
 
-  all_right_at : (i : ℕ) (xs : List Instruction) (k j : ℕ) (y : Instruction) → are_right masks i xs ≡ true → slice_get xs k ≡ Some y → j ≡ i + k → all_right masks j y ≡ true
-  all_right_at i [] k j y h e g = absurd (let z : ⊥ = cc in z)
-  all_right_at i (x ∷ xs) zero j y h e g =
-      let same : x ≡ y = cc in
-      let here : j ≡ i = omega (arith, g) in
-      ap (λ n. all_right masks n y) here ∙ (ap (all_right masks i) (sym same) ∙ left_true (all_right masks i x) (are_right masks (i + 1) xs) h)
-  all_right_at i (x ∷ xs) (suc k) j y h e g = all_right_at (i + 1) xs k j y (right_true (all_right masks i x) (are_right masks (i + 1) xs) h) e (omega (arith, g))
+  module _ (room : Room) (list : List Known) where
+    abbrev offered : ℕ → Known
+    offered i = get_or list i known.Unknown
 
-  module _ (i : ℕ) (y : Instruction) (h : all_right masks i y ≡ true) where
-    abbrev Right : ℕ → Type 0
-    Right k = is_right masks i y k ≡ true
-
-    abbrev rest_right : ℕ → Bool
-    rest_right k = not (reads k (kept (mask_at (i + 1)) y)) && (is_written k y || dead_behind masks i y k)
-
-    -- each of the eight; of no other anything is said
-    right_at : (k : ℕ) → Right k
-    right_at zero = left_true (is_right masks i y 0) _ h
-    right_at (suc zero) = left_true (is_right masks i y 1) _ (right_true (is_right masks i y 0) _ h)
-    right_at (suc (suc zero)) = left_true (is_right masks i y 2) _ (right_true (is_right masks i y 1) _ (right_true (is_right masks i y 0) _ h))
-    right_at (suc (suc (suc zero))) = left_true (is_right masks i y 3) _ (right_true (is_right masks i y 2) _ (right_true (is_right masks i y 1) _ (right_true (is_right masks i y 0) _ h)))
-    right_at (suc (suc (suc (suc zero)))) = left_true (is_right masks i y 4) _ (right_true (is_right masks i y 3) _ (right_true (is_right masks i y 2) _ (right_true (is_right masks i y 1) _ (right_true (is_right masks i y 0) _ h))))
-    right_at (suc (suc (suc (suc (suc zero))))) = left_true (is_right masks i y 5) _ (right_true (is_right masks i y 4) _ (right_true (is_right masks i y 3) _ (right_true (is_right masks i y 2) _ (right_true (is_right masks i y 1) _ (right_true (is_right masks i y 0) _ h)))))
-    right_at (suc (suc (suc (suc (suc (suc zero)))))) =
-        left_true (is_right masks i y 6) _
-        (right_true (is_right masks i y 5) _ (right_true (is_right masks i y 4) _ (right_true (is_right masks i y 3) _ (right_true (is_right masks i y 2) _ (right_true (is_right masks i y 1) _ (right_true (is_right masks i y 0) _ h))))))
-    right_at (suc (suc (suc (suc (suc (suc (suc zero))))))) =
-        right_true (is_right masks i y 6) _
-        (right_true (is_right masks i y 5) _ (right_true (is_right masks i y 4) _ (right_true (is_right masks i y 3) _ (right_true (is_right masks i y 2) _ (right_true (is_right masks i y 1) _ (right_true (is_right masks i y 0) _ h))))))
-    right_at (suc (suc (suc (suc (suc (suc (suc (suc k)))))))) = ap (λ t. if t then rest_right (suc (suc (suc (suc (suc (suc (suc (suc k)))))))) else true) (past_eight (get_or masks i 0) k)
-
-    both_right : (k : ℕ) → dead_at masks i k ≡ true → rest_right k ≡ true
-    both_right k e = ap (λ t. if t then rest_right k else true) (sym e) ∙ right_at k
-
-    not_false : (b : Bool) → not b ≡ true → b ≡ false
-    not_false true e = absurd (not_true e)
-    not_false false e = refl
-
-    or_second : (a b : Bool) → (a || b) ≡ true → a ≡ false → b ≡ true
-    or_second true b e g = absurd (not_true (sym g))
-    or_second false b e g = e
-
-    unread : (k : ℕ) → dead_at masks i k ≡ true → reads k (kept (mask_at (i + 1)) y) ≡ false
-    unread k e = not_false (reads k (kept (mask_at (i + 1)) y)) (left_true (not (reads k (kept (mask_at (i + 1)) y))) (is_written k y || dead_behind masks i y k) (both_right k e))
-
-    leads : (k : ℕ) → dead_at masks i k ≡ true → is_written k y ≡ false → dead_behind masks i y k ≡ true
-    leads k e w =
-        or_second (is_written k y) (dead_behind masks i y k) (right_true (not (reads k (kept (mask_at (i + 1)) y))) (is_written k y || dead_behind masks i y k) (both_right k e)) w
+    pub all_right_at : (i : ℕ) (xs : List Instruction) (k j : ℕ) (y : Instruction) → are_right room states list i xs ≡ true → slice_get xs k ≡ Some y → j ≡ i + k → all_right room states j (offered j) y ≡ true
+    all_right_at i [] k j y h e g = absurd (let z : ⊥ = cc in z)
+    all_right_at i (x ∷ xs) zero j y h e g =
+        let same : x ≡ y = cc in
+        let here : j ≡ i = omega (arith, g) in
+        ap (λ n. all_right room states n (offered n) y) here ∙ (ap (all_right room states i (offered i)) (sym same) ∙ left_true (all_right room states i (offered i) x) (are_right room states list (i + 1) xs) h)
+    all_right_at i (x ∷ xs) (suc k) j y h e g = all_right_at (i + 1) xs k j y (right_true (all_right room states i (offered i) x) (are_right room states list (i + 1) xs) h) e (omega (arith, g))
 
 -- ---- both
 
-kept_cost : (y z : Instruction) (dead : ℕ → Bool) → (z ≡ y) ⊎ Dropped y z dead → cost z ≤ cost y
-kept_cost y z dead (inl e) = let same : cost z ≡ cost y = ap cost e in omega (arith, same)
-kept_cost y z dead (inr d) = let none : cost z ≡ 0 = ap cost d.is in omega (arith, none)
-
-module _ (room : Room) (marks : List Bool) (code : List Instruction) (are : AreMarked marks code) (masks : List ℕ) (right : are_right masks 0 (forward room marks 0 nothing code) ≡ true) where
+module _ (room : Room) (marks : List Bool) (code : List Instruction) (are : AreMarked marks code) (states : List (List Status))
+    (right : are_right room states (offers room marks 0 nothing code) 0 (forward room marks 0 nothing code) ≡ true) where
   abbrev middle_of : List Instruction
   middle_of = forward room marks 0 nothing code
 
   abbrev pub known_at : ℕ → List Known
   known_at k = known_from room marks 0 nothing code k
 
-  pub position : (i : ℕ) (x : Instruction) → slice_get code i ≡ Some x → Position room known_at masks (swept masks 0 middle_of) i x
+  pub position : (i : ℕ) (x : Instruction) → slice_get code i ≡ Some x → Position room known_at states (swept states 0 middle_of) i x
   position i x e =
       let y = simpler room.area (known_at i) x in
+      let o = offer room (known_at i) y in
       let held : slice_get middle_of i ≡ Some y = forward_at room marks 0 nothing code i x e in
       let one : suc i ≡ i + 1 = omega arith in
-      let z = kept (get_or masks (i + 1) 0) y in
-      let second : slice_get (swept masks 0 middle_of) i ≡ Some z = swept_at masks 0 middle_of i i y held (omega arith) in
-      let all : all_right masks i y ≡ true = all_right_at masks 0 middle_of i i y right held (omega arith) in
-      let out : (z ≡ y) ⊎ Dropped y z (λ k. dead_at masks (i + 1) k) = kept_out y (get_or masks (i + 1) 0) (written y) refl in
+      let z = swept_one states i y in
+      let second : slice_get (swept states 0 middle_of) i ≡ Some z = swept_at states 0 middle_of i i y held (omega arith) in
+      let each : all_right room states i (get_or (offers room marks 0 nothing code) i known.Unknown) y ≡ true = all_right_at states room (offers room marks 0 nothing code) 0 middle_of i i y right held (omega arith) in
+      let all : all_right room states i o y ≡ true = ap (λ d. all_right room states i d y) (sym (offers_at room marks 0 nothing code i x e)) ∙ each in
+      let done : Kept states i y z ⊎ LeftOut o states i y z = out room states i o y all in
       let next : (known_at (i + 1) ≡ nothing) ⊎ (known_at (i + 1) ≡ behind room (known_at i) y) =
       subst (λ j. (known_at j ≡ nothing) ⊎ (known_at j ≡ behind room (known_at i) y)) one (next_known room marks 0 nothing code i x e) in
       record {
@@ -310,33 +452,70 @@ module _ (room : Room) (marks : List Bool) (code : List Instruction) (are : AreM
         flow = record {
           next = next;
           jumps = λ to j. marked_known room marks 0 nothing code to to (omega arith) (are i to x e (sym (jump_same room.area (known_at i) x) ∙ j));
+          calls = calm_after o states i y z done;
         };
-        unread = unread masks i y all;
-        leads = leads masks i y all;
-        out = out;
-        cheap = (let a = kept_cost y z (λ k. dead_at masks (i + 1) k) out in let b = cost_less room.area (known_at i) x in omega (arith, a, b));
+        out = done;
+        cheap = (let a = swept_cost o states i y z done in let b = cost_less room.area (known_at i) x in omega (arith, a, b));
       }
 
 -- ---- code that stays as it is
 
-nothing_flows : (room : Room) (y : Instruction) (i : ℕ) → Flow room (λ k. nothing) i y
-nothing_flows room y i = record { next = inl refl; jumps = λ to e. refl }
+nothing_flows : (room : Room) (y : Instruction) (i : ℕ) → Flow room (λ k. nothing) (Calm []) i y
+nothing_flows room y i = record { next = inl refl; jumps = λ to e. refl; calls = λ f e k. accepts_same [] k (none_status k) (i + 1) }
 
-none_dead : (k : ℕ) → is_dead 0 k ≡ false
-none_dead zero = refl
-none_dead (suc zero) = refl
-none_dead (suc (suc zero)) = refl
-none_dead (suc (suc (suc zero))) = refl
-none_dead (suc (suc (suc (suc zero)))) = refl
-none_dead (suc (suc (suc (suc (suc zero))))) = refl
-none_dead (suc (suc (suc (suc (suc (suc zero)))))) = refl
-none_dead (suc (suc (suc (suc (suc (suc (suc zero))))))) = refl
-none_dead (suc (suc (suc (suc (suc (suc (suc (suc k)))))))) = past_eight 0 k
+not_lost : (i : ℕ) (w : Option ℕ) → is_lost [] i w ≡ false
+not_lost i None = refl
+not_lost i (Some j) = ap (λ z. not (is_same z)) (none_status j (i + 1))
 
--- where none is dead the masks are right
-pub none_right : (i : ℕ) (xs : List Instruction) → are_right [] i xs ≡ true
-none_right i [] = refl
-none_right i (x ∷ xs) = none_right (i + 1) xs
+-- where there are no statuses they are right
+none_is_right : (room : Room) (i : ℕ) (o : Known) (x : Instruction) (k : ℕ) → is_right room [] i o x k ≡ true
+none_is_right room i o x k =
+    ap (λ z. fits room k z && (if is_left_out [] i x then drop_right [] i o x k z else stays_right [] i x k z)) (none_status k i)
+    ∙ (ap (λ t. if t then drop_right [] i o x k status.Same else stays_right [] i x k status.Same) (not_lost i (written x))
+    ∙ (ap (leads [] i x k) (behind_same k x) ∙ leads_same [] k (none_status k) i x))
+
+both_true : (a b : Bool) → a ≡ true → b ≡ true → (a && b) ≡ true
+both_true a b e g = ap (λ t. t && b) e ∙ g
+
+none_all_right : (room : Room) (i : ℕ) (o : Known) (x : Instruction) → all_right room [] i o x ≡ true
+none_all_right room i o x =
+    let each = none_is_right room i o x in
+    both_true (is_right room [] i o x 0) _ (each 0)
+    (both_true (is_right room [] i o x 1) _ (each 1)
+    (both_true (is_right room [] i o x 2) _ (each 2)
+    (both_true (is_right room [] i o x 3) _ (each 3)
+    (both_true (is_right room [] i o x 4) _ (each 4)
+    (both_true (is_right room [] i o x 5) _ (each 5) (both_true (is_right room [] i o x 6) _ (each 6) (each 7)))))))
+
+pub none_right : (room : Room) (list : List Known) (i : ℕ) (xs : List Instruction) → are_right room [] list i xs ≡ true
+none_right room list i [] = refl
+none_right room list i (x ∷ xs) = both_true (all_right room [] i (get_or list i known.Unknown) x) _ (none_all_right room i (get_or list i known.Unknown) x) (none_right room list (i + 1) xs)
+
+place_none : (i : ℕ) (l : Location) → place_of [] i l ≡ l
+place_none i (location.Statics o) = refl
+place_none i (location.Frame o) = refl
+place_none i (location.At (operand.Temporary k)) = ap (λ z. place_by z k) (none_status k i)
+place_none i (location.At (operand.Cell c)) = refl
+place_none i (location.At (operand.Constant v)) = refl
+place_none i (location.At (operand.Argument k)) = refl
+place_none i (location.Indexed b y size) = refl
+
+placed_none : (i : ℕ) (x : Instruction) → placed [] i x ≡ x
+placed_none i instruction.Nothing = refl
+placed_none i (instruction.Move d x) = refl
+placed_none i (instruction.Compute o d x y) = refl
+placed_none i (instruction.Convert c d x) = refl
+placed_none i (instruction.Load w d l) = ap (instruction.Load w d) (place_none i l)
+placed_none i (instruction.Store w x l) = ap (instruction.Store w x) (place_none i l)
+placed_none i (instruction.Address d l) = refl
+placed_none i (instruction.Element d x y size) = refl
+placed_none i (instruction.Jump to) = refl
+placed_none i (instruction.Branch t x y to) = refl
+placed_none i (instruction.Call f) = refl
+placed_none i instruction.PutByte = refl
+placed_none i instruction.GetByte = refl
+placed_none i instruction.Exit = refl
+placed_none i instruction.Return = refl
 
 pub same_position : (room : Room) (code : List Instruction) (i : ℕ) (x : Instruction) → slice_get code i ≡ Some x → Position room (λ k. nothing) [] code i x
 same_position room code i x e = record {
@@ -345,8 +524,6 @@ same_position room code i x e = record {
   done_is = e;
   by = inl refl;
   flow = nothing_flows room x i;
-  unread = λ k g. absurd (not_true (sym (none_dead k) ∙ g));
-  leads = λ k g w. absurd (not_true (sym (none_dead k) ∙ g));
-  out = inl refl;
+  out = inl (record { is = sym (placed_none i x); same = λ k g. ap is_same (none_status k i); right = λ k. stays_same [] k (none_status k) i x });
   cheap = omega arith;
 }

@@ -1,6 +1,7 @@
 //! Optimises flat code (an intermediate representation, IR): constant propagation by a dataflow analysis, strength reduction and elimination of dead stores.
 #![tactic(auto)]
 
+mod analysis;
 mod bytes;
 mod facts;
 mod functions;
@@ -12,6 +13,8 @@ mod operations;
 mod passes;
 mod room;
 mod rules;
+mod statuses;
+mod sweep;
 
 pub use bytes::size_of;
 pub use functions::{simplify, simplify_function};

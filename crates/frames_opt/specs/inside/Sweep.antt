@@ -1,0 +1,196 @@
+-- The second pass: what writes a dead temporary is left out, and an index stays in a temporary where the reference to its element would be.
+use Rattle.std.specs.Prelude.{ℕ, ◌+◌, ◌==◌, ◌&&◌, ◌||◌, nat_lt, not, Bool, true, false, if◌then◌else◌, List, [], ◌∷◌, get_or, Option, Some, None}
+use Rattle.frames_code.specs.declared.code.Operand.{Operand}
+use Rattle.frames_code.specs.declared.code.Operand.TheVariants as operand
+use Rattle.frames_code.specs.declared.code.Target.{Target}
+use Rattle.frames_code.specs.declared.code.Base.{Base}
+use Rattle.frames_code.specs.declared.code.Base.TheVariants as base
+use Rattle.frames_code.specs.declared.code.Location.{Location}
+use Rattle.frames_code.specs.declared.code.Location.TheVariants as location
+use Rattle.frames_code.specs.declared.code.Instruction.{Instruction}
+use Rattle.frames_code.specs.declared.code.Instruction.TheVariants as instruction
+use Rattle.frames_opt.specs.declared.room.Room.{Room}
+use Rattle.frames_opt.specs.declared.facts.Known.{Known}
+use Rattle.frames_opt.specs.declared.facts.Known.TheVariants as known
+use Rattle.frames_opt.specs.declared.statuses.Status.{Status}
+use Rattle.frames_opt.specs.declared.statuses.Status.TheVariants as status
+use Rattle.frames_opt.specs.inside.Facts.{known_of, is_target, is_near, is_cheap, indexed_from, behind}
+use Rattle.frames_opt.specs.inside.Rules.{simpler}
+use Rattle.frames_opt.specs.inside.Passes.{is_marked, fresh}
+use Rattle.frames_opt.specs.inside.Liveness.{reads, written, is_written}
+
+-- ---- what each temporary of the new code holds before each instruction, beside that of the old one; of the first instruction, and of those from the
+-- ---- ninth on, the same
+
+abbrev pub status_at : List (List Status) → (i k : ℕ) → Status
+status_at states i k = if nat_lt 0 i && nat_lt k 8 then get_or (get_or states i []) k status.Same else status.Same
+
+abbrev pub is_same : Status → Bool
+is_same status.Same = true
+is_same status.Dead = false
+is_same (status.Index b size) = false
+
+abbrev pub is_same_base : Base → Base → Bool
+is_same_base (base.Statics o) (base.Statics u) = o == u
+is_same_base (base.Statics o) (base.Frame u) = false
+is_same_base (base.Frame o) (base.Statics u) = false
+is_same_base (base.Frame o) (base.Frame u) = o == u
+
+-- a temporary of the first status may be of the second
+abbrev pub accepts : Status → Status → Bool
+accepts status.Dead z = true
+accepts status.Same status.Same = true
+accepts status.Same status.Dead = false
+accepts status.Same (status.Index c width) = false
+accepts (status.Index b size) status.Same = false
+accepts (status.Index b size) status.Dead = false
+accepts (status.Index b size) (status.Index c width) = is_same_base b c && size == width
+
+-- ---- the elements whose index may stay: a temporary takes the reference by itself
+
+abbrev pub offer : Room → List Known → Instruction → Known
+offer room facts instruction.Nothing = known.Unknown
+offer room facts (instruction.Move d x) = known.Unknown
+offer room facts (instruction.Compute o d x y) = known.Unknown
+offer room facts (instruction.Convert c d x) = known.Unknown
+offer room facts (instruction.Load w d l) = known.Unknown
+offer room facts (instruction.Store w x l) = known.Unknown
+offer room facts (instruction.Address d l) = known.Unknown
+offer room facts (instruction.Element d x y size) = if is_target d y then indexed_from room (known_of facts x) y size else known.Unknown
+offer room facts (instruction.Jump to) = known.Unknown
+offer room facts (instruction.Branch t x y to) = known.Unknown
+offer room facts (instruction.Call f) = known.Unknown
+offer room facts instruction.PutByte = known.Unknown
+offer room facts instruction.GetByte = known.Unknown
+offer room facts instruction.Exit = known.Unknown
+offer room facts instruction.Return = known.Unknown
+
+-- of the code that the first pass makes, from instruction i on
+abbrev pub offers : Room → List Bool → ℕ → List Known → List Instruction → List Known
+offers room marks i facts [] = []
+offers room marks i facts (x ∷ xs) =
+    offer room (fresh (is_marked marks i) facts) (simpler room.area (fresh (is_marked marks i) facts) x)
+    ∷ offers room marks (i + 1) (behind room (fresh (is_marked marks i) facts) (simpler room.area (fresh (is_marked marks i) facts) x)) xs
+
+abbrev pub index_of : Known → Status
+index_of known.Unknown = status.Same
+index_of (known.Word w) = status.Same
+index_of (known.Statics o) = status.Same
+index_of (known.Frame o) = status.Same
+index_of (known.Indexed b y size) = status.Index b size
+
+-- ---- the pass
+
+abbrev pub place_by : Status → ℕ → Location
+place_by status.Same k = location.At (operand.Temporary k)
+place_by status.Dead k = location.At (operand.Temporary k)
+place_by (status.Index b size) k = location.Indexed b (operand.Temporary k) size
+
+abbrev pub place_at : List (List Status) → ℕ → Operand → Location
+place_at states i (operand.Temporary k) = place_by (status_at states i k) k
+place_at states i (operand.Cell c) = location.At (operand.Cell c)
+place_at states i (operand.Constant v) = location.At (operand.Constant v)
+place_at states i (operand.Argument k) = location.At (operand.Argument k)
+
+abbrev pub place_of : List (List Status) → ℕ → Location → Location
+place_of states i (location.Statics o) = location.Statics o
+place_of states i (location.Frame o) = location.Frame o
+place_of states i (location.At x) = place_at states i x
+place_of states i (location.Indexed b y size) = location.Indexed b y size
+
+-- an access through an index that stayed
+abbrev pub placed : List (List Status) → ℕ → Instruction → Instruction
+placed states i instruction.Nothing = instruction.Nothing
+placed states i (instruction.Move d x) = instruction.Move d x
+placed states i (instruction.Compute o d x y) = instruction.Compute o d x y
+placed states i (instruction.Convert c d x) = instruction.Convert c d x
+placed states i (instruction.Load w d l) = instruction.Load w d (place_of states i l)
+placed states i (instruction.Store w x l) = instruction.Store w x (place_of states i l)
+placed states i (instruction.Address d l) = instruction.Address d l
+placed states i (instruction.Element d x y size) = instruction.Element d x y size
+placed states i (instruction.Jump to) = instruction.Jump to
+placed states i (instruction.Branch t x y to) = instruction.Branch t x y to
+placed states i (instruction.Call f) = instruction.Call f
+placed states i instruction.PutByte = instruction.PutByte
+placed states i instruction.GetByte = instruction.GetByte
+placed states i instruction.Exit = instruction.Exit
+placed states i instruction.Return = instruction.Return
+
+-- the temporary that is written does not count as the same behind
+abbrev pub is_lost : List (List Status) → ℕ → Option ℕ → Bool
+is_lost states i None = false
+is_lost states i (Some k) = not (is_same (status_at states (i + 1) k))
+
+abbrev pub is_left_out : List (List Status) → ℕ → Instruction → Bool
+is_left_out states i x = is_lost states i (written x)
+
+abbrev pub swept_one : List (List Status) → ℕ → Instruction → Instruction
+swept_one states i x = if is_left_out states i x then instruction.Nothing else placed states i x
+
+-- code from instruction i on
+abbrev pub swept : List (List Status) → ℕ → List Instruction → List Instruction
+swept states i [] = []
+swept states i (x ∷ xs) = swept_one states i x ∷ swept states (i + 1) xs
+
+-- ---- the statuses are right
+
+-- temporary k may hold an index for an access
+abbrev pub fits : Room → ℕ → Status → Bool
+fits room k status.Same = true
+fits room k status.Dead = true
+fits room k (status.Index b size) = is_near room b && is_cheap room (operand.Temporary k) size
+
+-- wherever instruction i leads, temporary k may be z
+abbrev pub leads : List (List Status) → ℕ → Instruction → ℕ → Status → Bool
+leads states i instruction.Nothing k z = accepts (status_at states (i + 1) k) z
+leads states i (instruction.Move d x) k z = accepts (status_at states (i + 1) k) z
+leads states i (instruction.Compute o d x y) k z = accepts (status_at states (i + 1) k) z
+leads states i (instruction.Convert c d x) k z = accepts (status_at states (i + 1) k) z
+leads states i (instruction.Load w d l) k z = accepts (status_at states (i + 1) k) z
+leads states i (instruction.Store w x l) k z = accepts (status_at states (i + 1) k) z
+leads states i (instruction.Address d l) k z = accepts (status_at states (i + 1) k) z
+leads states i (instruction.Element d x y size) k z = accepts (status_at states (i + 1) k) z
+leads states i (instruction.Jump to) k z = accepts (status_at states to k) z
+leads states i (instruction.Branch t x y to) k z = accepts (status_at states (i + 1) k) z && accepts (status_at states to k) z
+leads states i (instruction.Call f) k z = accepts (status_at states (i + 1) k) z
+leads states i instruction.PutByte k z = accepts (status_at states (i + 1) k) z
+leads states i instruction.GetByte k z = accepts (status_at states (i + 1) k) z
+leads states i instruction.Exit k z = true
+leads states i instruction.Return k z = true
+
+-- what a temporary that was z is behind an instruction that is not left out
+abbrev pub behind_it : ℕ → Instruction → Status → Status
+behind_it k x z = if is_written k x then status.Same else z
+
+-- such an instruction reads only what is the same
+abbrev pub stays_right : List (List Status) → ℕ → Instruction → ℕ → Status → Bool
+stays_right states i x k z = (is_same z || not (reads z k x)) && leads states i x k (behind_it k x z)
+
+-- the temporary that an instruction writes that is left out: dead behind it, or it keeps the index of the element that is offered
+abbrev pub is_given_up : Status → Status → Known → Bool
+is_given_up status.Dead z o = true
+is_given_up status.Same z o = false
+is_given_up (status.Index b size) z o = is_same z && accepts (status.Index b size) (index_of o)
+
+abbrev pub drop_right : List (List Status) → ℕ → Known → Instruction → ℕ → Status → Bool
+drop_right states i o x k z = if is_written k x then is_given_up (status_at states (i + 1) k) z o else accepts (status_at states (i + 1) k) z
+
+abbrev pub is_right : Room → List (List Status) → ℕ → Known → Instruction → ℕ → Bool
+is_right room states i o x k =
+    fits room k (status_at states i k) && (if is_left_out states i x then drop_right states i o x k (status_at states i k) else stays_right states i x k (status_at states i k))
+
+abbrev pub all_right : Room → List (List Status) → ℕ → Known → Instruction → Bool
+all_right room states i o x =
+    is_right room states i o x 0
+    && (is_right room states i o x 1
+    && (is_right room states i o x 2
+    && (is_right room states i o x 3
+    && (is_right room states i o x 4
+    && (is_right room states i o x 5
+    && (is_right room states i o x 6
+    && is_right room states i o x 7))))))
+
+-- of code from instruction i on, by what is offered at each instruction
+abbrev pub are_right : Room → List (List Status) → List Known → ℕ → List Instruction → Bool
+are_right room states list i [] = true
+are_right room states list i (x ∷ xs) = all_right room states i (get_or list i known.Unknown) x && are_right room states list (i + 1) xs

@@ -1,0 +1,190 @@
+//! The analysis that the second pass goes by. No contract depends on what it finds: a check accepts that, or all temporaries count as the same.
+
+ghost use Rattle.std.specs.Prelude.{◌≡◌, true, IfOk};
+ghost use Rattle.frames_opt.specs.inside.Sweep as sweep;
+
+use crate::facts::Known;
+use crate::liveness::{dead_at, is_written, masks_of, reads};
+use crate::marks::is_marked;
+use crate::room::Room;
+use crate::statuses::{Status, Statuses, is_same};
+use crate::sweep::{are_right, offer_at, swept};
+use frames_code::{Instruction, Location, Operand};
+use std::alloc::{AllocError, Global};
+
+/// How far the accesses through an index are looked for.
+const WINDOW: usize = 64;
+
+fn is_temporary(operand: Operand, number: usize) -> bool {
+    match operand {
+        Operand::Temporary(other) => other == number,
+        Operand::Cell(_) => false,
+        Operand::Constant(_) => false,
+        Operand::Argument(_) => false,
+    }
+}
+
+fn is_at(location: Location, number: usize) -> bool {
+    match location {
+        Location::Statics(_) => false,
+        Location::Frame(_) => false,
+        Location::At(operand) => is_temporary(operand, number),
+        Location::Indexed { .. } => false,
+    }
+}
+
+/// Whether an instruction reads a temporary only as the reference of its access.
+fn is_access(instruction: Instruction, number: usize) -> bool {
+    match instruction {
+        Instruction::Load { from, .. } => is_at(from, number),
+        Instruction::Store { source, to, .. } => {
+            is_at(to, number) && !is_temporary(source, number)
+        }
+        _ => false,
+    }
+}
+
+/// Whether a temporary may be an index behind an instruction, as far as jumps go.
+fn goes_on(masks: &[u8], instruction: Instruction, number: usize) -> bool {
+    match instruction {
+        Instruction::Jump(_) => false,
+        Instruction::Branch { to, .. } => dead_at(masks, to, number),
+        Instruction::Call(_) => false,
+        Instruction::PutByte => false,
+        Instruction::GetByte => false,
+        Instruction::Exit => false,
+        Instruction::Return => false,
+        _ => true,
+    }
+}
+
+/// Up to where a temporary may hold an index from instruction `first` on, if one access goes through it; `None` where the reference has to stay.
+fn end_of(
+    marks: &[bool],
+    masks: &[u8],
+    code: &[Instruction],
+    first: usize,
+    number: usize,
+) -> Option<usize> {
+    let mut is_read = false;
+    for more in 0..WINDOW {
+        let place = first.saturating_add(more);
+        let Some(instruction) = code.get(place) else {
+            return None;
+        };
+        if dead_at(masks, place, number) {
+            return Some(place);
+        }
+        let is_through = is_access(*instruction, number);
+        let is_kept = reads(Status::Same, number, *instruction) && (is_read || !is_through);
+        if is_kept || is_marked(marks, place) || !goes_on(masks, *instruction, number) {
+            return None;
+        }
+        is_read = is_read || is_through;
+        if is_written(number, *instruction) {
+            return Some(place.saturating_add(1));
+        }
+    }
+    None
+}
+
+fn put_status(states: &mut [Statuses], place: usize, number: usize, status: Status) {
+    if place < states.len() && number < 8 {
+        states[place][number] = status;
+    }
+}
+
+/// Gives a temporary a status before each of these instructions.
+fn put_from(states: &mut [Statuses], first: usize, end: usize, number: usize, status: Status) {
+    for place in first..end {
+        put_status(states, place, number, status);
+    }
+}
+
+/// The temporary that keeps the index of an element that is offered, and its status.
+fn kept_of(offered: Known) -> Option<(usize, Status)> {
+    match offered {
+        Known::Indexed {
+            base,
+            index: Operand::Temporary(number),
+            size,
+        } => Some((number, Status::Index { base, size })),
+        _ => None,
+    }
+}
+
+/// Lets the indices stay that may.
+fn put_indices(
+    states: &mut [Statuses],
+    marks: &[bool],
+    masks: &[u8],
+    list: &[Known],
+    code: &[Instruction],
+) {
+    for number in 0..code.len() {
+        if let Some((temporary, status)) = kept_of(offer_at(list, number)) {
+            let first = number + 1;
+            if let Some(end) = end_of(marks, masks, code, first, temporary) {
+                put_from(states, first, end, temporary, status);
+            }
+        }
+    }
+}
+
+/// Gives the status of dead temporaries before an instruction.
+fn put_dead(states: &mut [Statuses], masks: &[u8], place: usize) {
+    for number in 0..8 {
+        if dead_at(masks, place, number) {
+            put_status(states, place, number, Status::Dead);
+        }
+    }
+}
+
+fn put_all_dead(states: &mut [Statuses], masks: &[u8]) {
+    for place in 0..states.len() {
+        put_dead(states, masks, place);
+    }
+}
+
+/// All temporaries are the same.
+fn all_same(alloc: Global, count: usize) -> Result<Vec<Statuses>, AllocError> {
+    let mut states = Vec::with_capacity(alloc, count)?;
+    for _ in 0..count {
+        states.push([Status::Same; 8])?;
+    }
+    Ok(states)
+}
+
+/// The statuses that the analysis finds.
+fn found(
+    alloc: Global,
+    marks: &[bool],
+    list: &[Known],
+    code: &[Instruction],
+) -> Result<Vec<Statuses>, AllocError> {
+    let masks = masks_of(alloc, code)?;
+    let mut states = all_same(alloc, code.len())?;
+    put_indices(&mut states, marks, &masks, list, code);
+    let shorter = swept(alloc, &states, code)?;
+    let later = masks_of(alloc, &shorter)?;
+    put_all_dead(&mut states, &later);
+    Ok(states)
+}
+
+/// The statuses before each instruction; where the analysis was wrong, all temporaries are the same.
+pub fn states_of(
+    alloc: Global,
+    room: Room,
+    marks: &[bool],
+    list: &[Known],
+    code: &[Instruction],
+) -> Result<Vec<Statuses>, AllocError>
+    ensures { IfOk result (λ states. sweep.are_right room states.items list.now 0 code.now ≡ true) }
+{
+    let states = found(alloc, marks, list, code)?;
+    if are_right(room, &states, list, code) {
+        Ok(states)
+    } else {
+        Ok(Vec::new(alloc))
+    }
+}

@@ -1,0 +1,316 @@
+//! The second pass over the code of a function: what writes a dead temporary is left out, and an index stays where a reference would be.
+
+ghost use Rattle.std.specs.Prelude.{◌≡◌, ◌<◌, ◌^◌, get_or, IfOk};
+ghost use Rattle.frames_opt.specs.declared.facts.Known.TheVariants as known;
+ghost use Rattle.frames_opt.specs.inside.Sweep as sweep;
+
+use crate::facts::{Facts, Known, is_target, known_of};
+use crate::indices::{indexed_from, is_cheap, is_near};
+use crate::liveness::{is_written, reads, written};
+use crate::room::Room;
+use crate::statuses::{Status, Statuses, accepts, index_of, is_same, status_at};
+use frames_code::{Instruction, Location, Operand};
+use std::alloc::{AllocError, Global};
+
+/// The element whose index may stay in the temporary that takes the reference.
+pub fn offer(room: Room, facts: &Facts, instruction: Instruction) -> Known
+    ensures { result ≡ sweep.offer room facts.now instruction }
+{
+    match instruction {
+        Instruction::Nothing => Known::Unknown,
+        Instruction::Move { .. } => Known::Unknown,
+        Instruction::Compute { .. } => Known::Unknown,
+        Instruction::Convert { .. } => Known::Unknown,
+        Instruction::Load { .. } => Known::Unknown,
+        Instruction::Store { .. } => Known::Unknown,
+        Instruction::Address { .. } => Known::Unknown,
+        Instruction::Element {
+            target,
+            array,
+            index,
+            size,
+        } => {
+            if is_target(target, index) {
+                indexed_from(room, known_of(facts, array), index, size)
+            } else {
+                Known::Unknown
+            }
+        }
+        Instruction::Jump(_) => Known::Unknown,
+        Instruction::Branch { .. } => Known::Unknown,
+        Instruction::Call(_) => Known::Unknown,
+        Instruction::PutByte => Known::Unknown,
+        Instruction::GetByte => Known::Unknown,
+        Instruction::Exit => Known::Unknown,
+        Instruction::Return => Known::Unknown,
+    }
+}
+
+/// The element that is offered at an instruction.
+pub fn offer_at(list: &[Known], number: usize) -> Known
+    ensures { result ≡ get_or list.now number known.Unknown }
+{
+    if number < list.len() {
+        list[number]
+    } else {
+        Known::Unknown
+    }
+}
+
+fn place_by(status: Status, number: usize) -> Location
+    ensures { result ≡ sweep.place_by status number }
+{
+    match status {
+        Status::Same => Location::At(Operand::Temporary(number)),
+        Status::Dead => Location::At(Operand::Temporary(number)),
+        Status::Index { base, size } => Location::Indexed {
+            base,
+            index: Operand::Temporary(number),
+            size,
+        },
+    }
+}
+
+fn place_at(states: &[Statuses], at: usize, operand: Operand) -> Location
+    ensures { result ≡ sweep.place_at states.now at operand }
+{
+    match operand {
+        Operand::Temporary(number) => place_by(status_at(states, at, number), number),
+        Operand::Cell(number) => Location::At(Operand::Cell(number)),
+        Operand::Constant(word) => Location::At(Operand::Constant(word)),
+        Operand::Argument(number) => Location::At(Operand::Argument(number)),
+    }
+}
+
+fn place_of(states: &[Statuses], at: usize, location: Location) -> Location
+    ensures { result ≡ sweep.place_of states.now at location }
+{
+    match location {
+        Location::Statics(offset) => Location::Statics(offset),
+        Location::Frame(offset) => Location::Frame(offset),
+        Location::At(operand) => place_at(states, at, operand),
+        Location::Indexed { base, index, size } => Location::Indexed { base, index, size },
+    }
+}
+
+/// The instruction; an access through an index that stayed names the element.
+fn placed(states: &[Statuses], at: usize, instruction: Instruction) -> Instruction
+    ensures { result ≡ sweep.placed states.now at instruction }
+{
+    match instruction {
+        Instruction::Load {
+            width,
+            target,
+            from,
+        } => Instruction::Load {
+            width,
+            target,
+            from: place_of(states, at, from),
+        },
+        Instruction::Store { width, source, to } => Instruction::Store {
+            width,
+            source,
+            to: place_of(states, at, to),
+        },
+        _ => instruction,
+    }
+}
+
+/// Whether the temporary that an instruction writes does not count as the same behind it.
+fn is_left_out(states: &[Statuses], at: usize, instruction: Instruction) -> bool
+    requires { at < 2 ^ 62 }
+    ensures { result ≡ sweep.is_left_out states.now at instruction }
+{
+    match written(instruction) {
+        Some(number) => !is_same(status_at(states, at + 1, number)),
+        None => false,
+    }
+}
+
+fn swept_one(states: &[Statuses], at: usize, instruction: Instruction) -> Instruction
+    requires { at < 2 ^ 62 }
+    ensures { result ≡ sweep.swept_one states.now at instruction }
+{
+    if is_left_out(states, at, instruction) {
+        Instruction::Nothing
+    } else {
+        placed(states, at, instruction)
+    }
+}
+
+/// The code, by the statuses before each instruction.
+pub fn swept(
+    alloc: Global,
+    states: &[Statuses],
+    code: &[Instruction],
+) -> Result<Vec<Instruction>, AllocError>
+    ensures { IfOk result (λ made. made.items ≡ sweep.swept states.now 0 code.now) }
+{
+    let mut made = Vec::with_capacity(alloc, code.len())?;
+    for number in 0..code.len() {
+        made.push(swept_one(states, number, code[number]))?;
+    }
+    Ok(made)
+}
+
+/// Whether a temporary may hold an index for an access.
+fn fits(room: Room, number: usize, status: Status) -> bool
+    ensures { result ≡ sweep.fits room number status }
+{
+    match status {
+        Status::Same => true,
+        Status::Dead => true,
+        Status::Index { base, size } => {
+            is_near(room, base) && is_cheap(room, Operand::Temporary(number), size)
+        }
+    }
+}
+
+/// Whether a temporary may be of this status wherever instruction `at` leads.
+fn leads(
+    states: &[Statuses],
+    at: usize,
+    instruction: Instruction,
+    number: usize,
+    status: Status,
+) -> bool
+    requires { at < 2 ^ 62 }
+    ensures { result ≡ sweep.leads states.now at instruction number status }
+{
+    match instruction {
+        Instruction::Nothing => accepts(status_at(states, at + 1, number), status),
+        Instruction::Move { .. } => accepts(status_at(states, at + 1, number), status),
+        Instruction::Compute { .. } => accepts(status_at(states, at + 1, number), status),
+        Instruction::Convert { .. } => accepts(status_at(states, at + 1, number), status),
+        Instruction::Load { .. } => accepts(status_at(states, at + 1, number), status),
+        Instruction::Store { .. } => accepts(status_at(states, at + 1, number), status),
+        Instruction::Address { .. } => accepts(status_at(states, at + 1, number), status),
+        Instruction::Element { .. } => accepts(status_at(states, at + 1, number), status),
+        Instruction::Jump(to) => accepts(status_at(states, to, number), status),
+        Instruction::Branch { to, .. } => {
+            accepts(status_at(states, at + 1, number), status)
+                && accepts(status_at(states, to, number), status)
+        }
+        Instruction::Call(_) => accepts(status_at(states, at + 1, number), status),
+        Instruction::PutByte => accepts(status_at(states, at + 1, number), status),
+        Instruction::GetByte => accepts(status_at(states, at + 1, number), status),
+        Instruction::Exit => true,
+        Instruction::Return => true,
+    }
+}
+
+fn behind(number: usize, instruction: Instruction, status: Status) -> Status
+    ensures { result ≡ sweep.behind_it number instruction status }
+{
+    if is_written(number, instruction) {
+        Status::Same
+    } else {
+        status
+    }
+}
+
+/// Whether an instruction that is not left out reads a temporary of this status only where that is the same, and leads on.
+fn stays_right(
+    states: &[Statuses],
+    at: usize,
+    instruction: Instruction,
+    number: usize,
+    status: Status,
+) -> bool
+    requires { at < 2 ^ 62 }
+    ensures { result ≡ sweep.stays_right states.now at instruction number status }
+{
+    (is_same(status) || !reads(status, number, instruction))
+        && leads(
+            states,
+            at,
+            instruction,
+            number,
+            behind(number, instruction, status),
+        )
+}
+
+/// Whether the temporary that is written is dead, or keeps the index of the element that is offered.
+fn is_given_up(next: Status, status: Status, offered: Known) -> bool
+    ensures { result ≡ sweep.is_given_up next status offered }
+{
+    match next {
+        Status::Dead => true,
+        Status::Same => false,
+        Status::Index { base, size } => {
+            is_same(status) && accepts(Status::Index { base, size }, index_of(offered))
+        }
+    }
+}
+
+fn drop_right(
+    states: &[Statuses],
+    at: usize,
+    offered: Known,
+    instruction: Instruction,
+    number: usize,
+    status: Status,
+) -> bool
+    requires { at < 2 ^ 62 }
+    ensures { result ≡ sweep.drop_right states.now at offered instruction number status }
+{
+    let next = status_at(states, at + 1, number);
+    if is_written(number, instruction) {
+        is_given_up(next, status, offered)
+    } else {
+        accepts(next, status)
+    }
+}
+
+/// Whether the status of a temporary before an instruction is right.
+fn is_right(
+    room: Room,
+    states: &[Statuses],
+    at: usize,
+    offered: Known,
+    instruction: Instruction,
+    number: usize,
+) -> bool
+    requires { at < 2 ^ 62 }
+    ensures { result ≡ sweep.is_right room states.now at offered instruction number }
+{
+    let status = status_at(states, at, number);
+    fits(room, number, status)
+        && if is_left_out(states, at, instruction) {
+            drop_right(states, at, offered, instruction, number, status)
+        } else {
+            stays_right(states, at, instruction, number, status)
+        }
+}
+
+fn all_right(
+    room: Room,
+    states: &[Statuses],
+    at: usize,
+    offered: Known,
+    instruction: Instruction,
+) -> bool
+    requires { at < 2 ^ 62 }
+    ensures { result ≡ sweep.all_right room states.now at offered instruction }
+{
+    is_right(room, states, at, offered, instruction, 0)
+        && is_right(room, states, at, offered, instruction, 1)
+        && is_right(room, states, at, offered, instruction, 2)
+        && is_right(room, states, at, offered, instruction, 3)
+        && is_right(room, states, at, offered, instruction, 4)
+        && is_right(room, states, at, offered, instruction, 5)
+        && is_right(room, states, at, offered, instruction, 6)
+        && is_right(room, states, at, offered, instruction, 7)
+}
+
+/// Whether all statuses are right.
+pub fn are_right(room: Room, states: &[Statuses], list: &[Known], code: &[Instruction]) -> bool
+    ensures { result ≡ sweep.are_right room states.now list.now 0 code.now }
+{
+    for number in 0..code.len() {
+        if !all_right(room, states, number, offer_at(list, number), code[number]) {
+            return false;
+        }
+    }
+    true
+}
