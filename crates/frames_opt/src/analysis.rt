@@ -3,12 +3,13 @@
 ghost use Rattle.std.specs.Prelude.{◌≡◌, true, IfOk};
 ghost use Rattle.frames_opt.specs.inside.Sweep as sweep;
 
+use crate::elements::offer_at;
 use crate::facts::Known;
 use crate::liveness::{dead_at, is_written, masks_of, reads};
 use crate::marks::is_marked;
 use crate::room::Room;
 use crate::statuses::{Status, Statuses, is_same};
-use crate::sweep::{are_right, offer_at, swept};
+use crate::sweep::{are_right, swept};
 use frames_code::{Instruction, Location, Operand};
 use std::alloc::{AllocError, Global};
 

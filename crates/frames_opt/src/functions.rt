@@ -9,8 +9,9 @@ ghost use Rattle.frames_opt.specs.layer.Functions.{IsImproved, IsSimplerCode, Is
 
 use crate::analysis::states_of;
 use crate::bytes::is_no_longer;
+use crate::elements::offers;
 use crate::marks::marks_of;
-use crate::passes::{forward, offers};
+use crate::passes::forward;
 use crate::room::{Room, room_of};
 use crate::sweep::swept;
 use frames_code::{FlatProgram, Function, Instruction};

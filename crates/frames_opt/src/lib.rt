@@ -3,6 +3,7 @@
 
 mod analysis;
 mod bytes;
+mod elements;
 mod facts;
 mod functions;
 mod indices;

@@ -1,15 +1,13 @@
-//! The first pass over the code of a function: each instruction by what is known before it, and the elements whose index may stay.
+//! The first pass over the code of a function: each instruction by what is known before it.
 
 ghost use Rattle.std.specs.Prelude.{◌≡◌, IfOk};
 ghost use Rattle.frames_opt.specs.inside.Facts.{nothing as nothing_known};
 ghost use Rattle.frames_opt.specs.inside.Passes as passes;
-ghost use Rattle.frames_opt.specs.inside.Sweep as sweep;
 
-use crate::facts::{Known, nothing, pass};
+use crate::facts::{nothing, pass};
 use crate::marks::is_marked;
 use crate::room::Room;
 use crate::rules::simpler;
-use crate::sweep::offer;
 use frames_code::Instruction;
 use std::alloc::{AllocError, Global};
 
@@ -31,28 +29,6 @@ pub fn forward(
         let simple = simpler(room.area, &facts, code[number]);
         pass(room, &mut facts, simple);
         made.push(simple)?;
-    }
-    Ok(made)
-}
-
-/// The elements whose index may stay, at each instruction of the code that this pass makes.
-pub fn offers(
-    alloc: Global,
-    room: Room,
-    marks: &[bool],
-    code: &[Instruction],
-) -> Result<Vec<Known>, AllocError>
-    ensures { IfOk result (λ made. made.items ≡ sweep.offers room marks.now 0 nothing_known code.now) }
-{
-    let mut facts = nothing();
-    let mut made = Vec::with_capacity(alloc, code.len())?;
-    for number in 0..code.len() {
-        if is_marked(marks, number) {
-            facts = nothing();
-        }
-        let simple = simpler(room.area, &facts, code[number]);
-        made.push(offer(room, &facts, simple))?;
-        pass(room, &mut facts, simple);
     }
     Ok(made)
 }

@@ -1,61 +1,16 @@
 //! The second pass over the code of a function: what writes a dead temporary is left out, and an index stays where a reference would be.
 
-ghost use Rattle.std.specs.Prelude.{◌≡◌, ◌<◌, ◌^◌, get_or, IfOk};
-ghost use Rattle.frames_opt.specs.declared.facts.Known.TheVariants as known;
+ghost use Rattle.std.specs.Prelude.{◌≡◌, ◌<◌, ◌^◌, IfOk};
 ghost use Rattle.frames_opt.specs.inside.Sweep as sweep;
 
-use crate::facts::{Facts, Known, is_target, known_of};
-use crate::indices::{indexed_from, is_cheap, is_near};
+use crate::elements::offer_at;
+use crate::facts::Known;
+use crate::indices::{is_cheap, is_near};
 use crate::liveness::{is_written, reads, written};
 use crate::room::Room;
 use crate::statuses::{Status, Statuses, accepts, index_of, is_same, status_at};
 use frames_code::{Instruction, Location, Operand};
 use std::alloc::{AllocError, Global};
-
-/// The element whose index may stay in the temporary that takes the reference.
-pub fn offer(room: Room, facts: &Facts, instruction: Instruction) -> Known
-    ensures { result ≡ sweep.offer room facts.now instruction }
-{
-    match instruction {
-        Instruction::Nothing => Known::Unknown,
-        Instruction::Move { .. } => Known::Unknown,
-        Instruction::Compute { .. } => Known::Unknown,
-        Instruction::Convert { .. } => Known::Unknown,
-        Instruction::Load { .. } => Known::Unknown,
-        Instruction::Store { .. } => Known::Unknown,
-        Instruction::Address { .. } => Known::Unknown,
-        Instruction::Element {
-            target,
-            array,
-            index,
-            size,
-        } => {
-            if is_target(target, index) {
-                indexed_from(room, known_of(facts, array), index, size)
-            } else {
-                Known::Unknown
-            }
-        }
-        Instruction::Jump(_) => Known::Unknown,
-        Instruction::Branch { .. } => Known::Unknown,
-        Instruction::Call(_) => Known::Unknown,
-        Instruction::PutByte => Known::Unknown,
-        Instruction::GetByte => Known::Unknown,
-        Instruction::Exit => Known::Unknown,
-        Instruction::Return => Known::Unknown,
-    }
-}
-
-/// The element that is offered at an instruction.
-pub fn offer_at(list: &[Known], number: usize) -> Known
-    ensures { result ≡ get_or list.now number known.Unknown }
-{
-    if number < list.len() {
-        list[number]
-    } else {
-        Known::Unknown
-    }
-}
 
 fn place_by(status: Status, number: usize) -> Location
     ensures { result ≡ sweep.place_by status number }
