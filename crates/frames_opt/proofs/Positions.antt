@@ -23,7 +23,7 @@ use Rattle.frames_opt.specs.inside.Rules.{simpler_operand, carried, with_constan
 use Rattle.frames_opt.specs.declared.statuses.Status.{Status}
 use Rattle.frames_opt.specs.declared.statuses.Status.TheVariants as status
 use Rattle.frames_opt.specs.inside.Liveness.{written, reads, is_number, is_written}
-use Rattle.frames_opt.specs.inside.Sweep.{status_at, is_same, accepts, offer, offers, place_by, place_of, placed, is_lost, is_left_out, swept_one, swept, fits, leads, behind_it, stays_right, is_given_up, drop_right, is_right, all_right, are_right}
+use Rattle.frames_opt.specs.inside.Sweep.{status_at, is_same, accepts, offer, offers, place_by, place_of, placed, leads_on, is_lost, is_left_out, swept_one, swept, fits, leads, behind_it, stays_right, is_given_up, drop_right, is_right, all_right, are_right}
 use Rattle.frames_opt.specs.inside.Passes.{jump_of, is_marked, marked_by, marked, all_marked, AreMarked, fresh, forward}
 use Rattle.frames_opt.proofs.Acts.{not_true}
 use Rattle.frames_opt.proofs.Stands.{Flow}
@@ -310,14 +310,14 @@ module _ (room : Room) (states : List (List Status)) (i : ℕ) (o : Known) (y : 
       on true e = left_true (fits room k (z k)) _ (right_at k e)
       on false e = ap (fits room k) (far states k e i)
 
-  rest : (k : ℕ) → nat_lt k 8 ≡ true → (if is_left_out states i y then drop_right states i o y k (z k) else stays_right states i y k (z k)) ≡ true
+  rest : (k : ℕ) → nat_lt k 8 ≡ true → (if is_left_out states i y then drop_right room states i o y k else stays_right states i y k (z k)) ≡ true
   rest k e = right_true (fits room k (z k)) _ (right_at k e)
 
   -- ---- where it stays
 
   module _ (l : is_left_out states i y ≡ false) where
     stay : (k : ℕ) → nat_lt k 8 ≡ true → stays_right states i y k (z k) ≡ true
-    stay k e = ap (λ t. if t then drop_right states i o y k (z k) else stays_right states i y k (z k)) (sym l) ∙ rest k e
+    stay k e = ap (λ t. if t then drop_right room states i o y k else stays_right states i y k (z k)) (sym l) ∙ rest k e
 
     same : (k : ℕ) → reads (z k) k y ≡ true → is_same (z k) ≡ true
     same k read = on (nat_lt k 8) refl
@@ -339,36 +339,36 @@ module _ (room : Room) (states : List (List Status)) (i : ℕ) (o : Known) (y : 
   -- ---- where it is left out
 
   module _ (l : is_left_out states i y ≡ true) where
-    drop : (k : ℕ) → nat_lt k 8 ≡ true → drop_right states i o y k (z k) ≡ true
-    drop k e = ap (λ t. if t then drop_right states i o y k (z k) else stays_right states i y k (z k)) (sym l) ∙ rest k e
+    drop : (k : ℕ) → nat_lt k 8 ≡ true → drop_right room states i o y k ≡ true
+    drop k e = ap (λ t. if t then drop_right room states i o y k else stays_right states i y k (z k)) (sym l) ∙ rest k e
 
     stays : (k : ℕ) → is_written k y ≡ false → accepts (next k) (z k) ≡ true
     stays k w = on (nat_lt k 8) refl
       where
         on : (t : Bool) → nat_lt k 8 ≡ t → accepts (next k) (z k) ≡ true
-        on true e = ap (λ t. if t then is_given_up (next k) (z k) o else accepts (next k) (z k)) (sym w) ∙ drop k e
+        on true e = ap (λ t. if t then is_given_up (next k) (z k) o (leads_on room k (z k) y) else accepts (next k) (z k)) (sym w) ∙ drop k e
         on false e = ap (λ x. accepts x (z k)) (far states k e (i + 1)) ∙ ap (accepts status.Same) (far states k e i)
 
-    given_up : (j : ℕ) → written y ≡ Some j → is_given_up (next j) (z j) o ≡ true
+    given_up : (j : ℕ) → written y ≡ Some j → is_given_up (next j) (z j) o (leads_on room j (z j) y) ≡ true
     given_up j w = on (nat_lt j 8) refl
       where
-        on : (t : Bool) → nat_lt j 8 ≡ t → is_given_up (next j) (z j) o ≡ true
-        on true e = ap (λ t. if t then is_given_up (next j) (z j) o else accepts (next j) (z j)) (sym (ap (is_number j) w ∙ eq-eqb j j refl)) ∙ drop j e
+        on : (t : Bool) → nat_lt j 8 ≡ t → is_given_up (next j) (z j) o (leads_on room j (z j) y) ≡ true
+        on true e = ap (λ t. if t then is_given_up (next j) (z j) o (leads_on room j (z j) y) else accepts (next j) (z j)) (sym (ap (is_number j) w ∙ eq-eqb j j refl)) ∙ drop j e
         on false e =
             let lost : not (is_same (next j)) ≡ true = ap (is_lost states i) (sym w) ∙ l in
             absurd (not_true (sym (ap (λ x. not (is_same x)) (far states j e (i + 1))) ∙ lost))
 
-    left_out : LeftOut o states i y instruction.Nothing
+    left_out : LeftOut room o states i y instruction.Nothing
     left_out = on (written y) refl
       where
-        on : (w : Option ℕ) → written y ≡ w → LeftOut o states i y instruction.Nothing
+        on : (w : Option ℕ) → written y ≡ w → LeftOut room o states i y instruction.Nothing
         on None w = absurd (not_true (sym (ap (is_lost states i) w) ∙ l))
         on (Some j) w = record { is = refl; number = j; writes = w; stays = stays; given_up = given_up j w }
 
-  out : Kept states i y (swept_one states i y) ⊎ LeftOut o states i y (swept_one states i y)
+  out : Kept states i y (swept_one states i y) ⊎ LeftOut room o states i y (swept_one states i y)
   out = on (is_left_out states i y) refl
     where
-      on : (t : Bool) → is_left_out states i y ≡ t → Kept states i y (if t then instruction.Nothing else placed states i y) ⊎ LeftOut o states i y (if t then instruction.Nothing else placed states i y)
+      on : (t : Bool) → is_left_out states i y ≡ t → Kept states i y (if t then instruction.Nothing else placed states i y) ⊎ LeftOut room o states i y (if t then instruction.Nothing else placed states i y)
       on true l = inr (left_out l)
       on false l = inl (kept l)
 
@@ -389,16 +389,16 @@ placed_cost states i instruction.GetByte = refl
 placed_cost states i instruction.Exit = refl
 placed_cost states i instruction.Return = refl
 
-swept_cost : (o : Known) (states : List (List Status)) (i : ℕ) (y z : Instruction) → Kept states i y z ⊎ LeftOut o states i y z → cost z ≤ cost y
-swept_cost o states i y z (inl k) = let same : cost z ≡ cost y = ap cost k.is ∙ placed_cost states i y in omega (arith, same)
-swept_cost o states i y z (inr d) = let none : cost z ≡ 0 = ap cost d.is in omega (arith, none)
+swept_cost : (room : Room) (o : Known) (states : List (List Status)) (i : ℕ) (y z : Instruction) → Kept states i y z ⊎ LeftOut room o states i y z → cost z ≤ cost y
+swept_cost room o states i y z (inl k) = let same : cost z ≡ cost y = ap cost k.is ∙ placed_cost states i y in omega (arith, same)
+swept_cost room o states i y z (inr d) = let none : cost z ≡ 0 = ap cost d.is in omega (arith, none)
 
 -- where a call continues all may be the same
-calm_after : (o : Known) (states : List (List Status)) (i : ℕ) (y w : Instruction) → Kept states i y w ⊎ LeftOut o states i y w → (f : ℕ) → y ≡ instruction.Call f → Calm states (i + 1)
-calm_after o states i y w (inl k) f e =
+calm_after : (room : Room) (o : Known) (states : List (List Status)) (i : ℕ) (y w : Instruction) → Kept states i y w ⊎ LeftOut room o states i y w → (f : ℕ) → y ≡ instruction.Call f → Calm states (i + 1)
+calm_after room o states i y w (inl k) f e =
     let call : Kept states i (instruction.Call f) w = subst (λ x. Kept states i x w) e k in
     λ j. ap (accepts (status_at states (i + 1) j)) (sym (same_is (status_at states i j) (call.same j refl))) ∙ call.right j
-calm_after o states i y w (inr d) f e = let no : None ≡ Some d.number = sym (ap written e) ∙ d.writes in absurd (let x : ⊥ = cc in x)
+calm_after room o states i y w (inr d) f e = let no : None ≡ Some d.number = sym (ap written e) ∙ d.writes in absurd (let x : ⊥ = cc in x)
 
 module _ (states : List (List Status)) where
   swept_at : (i : ℕ) (xs : List Instruction) (k j : ℕ) (y : Instruction) → slice_get xs k ≡ Some y → j ≡ i + k → slice_get (swept states i xs) k ≡ Some (swept_one states j y)
@@ -441,7 +441,7 @@ module _ (room : Room) (marks : List Bool) (code : List Instruction) (are : AreM
       let second : slice_get (swept states 0 middle_of) i ≡ Some z = swept_at states 0 middle_of i i y held (omega arith) in
       let each : all_right room states i (get_or (offers room marks 0 nothing code) i known.Unknown) y ≡ true = all_right_at states room (offers room marks 0 nothing code) 0 middle_of i i y right held (omega arith) in
       let all : all_right room states i o y ≡ true = ap (λ d. all_right room states i d y) (sym (offers_at room marks 0 nothing code i x e)) ∙ each in
-      let done : Kept states i y z ⊎ LeftOut o states i y z = out room states i o y all in
+      let done : Kept states i y z ⊎ LeftOut room o states i y z = out room states i o y all in
       let next : (known_at (i + 1) ≡ nothing) ⊎ (known_at (i + 1) ≡ behind room (known_at i) y) =
       subst (λ j. (known_at j ≡ nothing) ⊎ (known_at j ≡ behind room (known_at i) y)) one (next_known room marks 0 nothing code i x e) in
       record {
@@ -452,10 +452,10 @@ module _ (room : Room) (marks : List Bool) (code : List Instruction) (are : AreM
         flow = record {
           next = next;
           jumps = λ to j. marked_known room marks 0 nothing code to to (omega arith) (are i to x e (sym (jump_same room.area (known_at i) x) ∙ j));
-          calls = calm_after o states i y z done;
+          calls = calm_after room o states i y z done;
         };
         out = done;
-        cheap = (let a = swept_cost o states i y z done in let b = cost_less room.area (known_at i) x in omega (arith, a, b));
+        cheap = (let a = swept_cost room o states i y z done in let b = cost_less room.area (known_at i) x in omega (arith, a, b));
       }
 
 -- ---- code that stays as it is
@@ -470,8 +470,8 @@ not_lost i (Some j) = ap (λ z. not (is_same z)) (none_status j (i + 1))
 -- where there are no statuses they are right
 none_is_right : (room : Room) (i : ℕ) (o : Known) (x : Instruction) (k : ℕ) → is_right room [] i o x k ≡ true
 none_is_right room i o x k =
-    ap (λ z. fits room k z && (if is_left_out [] i x then drop_right [] i o x k z else stays_right [] i x k z)) (none_status k i)
-    ∙ (ap (λ t. if t then drop_right [] i o x k status.Same else stays_right [] i x k status.Same) (not_lost i (written x))
+    ap (λ z. fits room k z && (if is_left_out [] i x then drop_right room [] i o x k else stays_right [] i x k z)) (none_status k i)
+    ∙ (ap (λ t. if t then drop_right room [] i o x k else stays_right [] i x k status.Same) (not_lost i (written x))
     ∙ (ap (leads [] i x k) (behind_same k x) ∙ leads_same [] k (none_status k) i x))
 
 both_true : (a b : Bool) → a ≡ true → b ≡ true → (a && b) ≡ true

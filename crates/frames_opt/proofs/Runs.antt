@@ -13,7 +13,7 @@ use Rattle.frames_opt.specs.inside.Facts.{nothing, room_of}
 use Rattle.frames_opt.specs.inside.Rules.{simpler}
 use Rattle.frames_opt.specs.declared.statuses.Status.{Status}
 use Rattle.frames_opt.specs.inside.Liveness.{written, is_written, reads}
-use Rattle.frames_opt.specs.inside.Sweep.{status_at, is_same, accepts, offer, placed, is_given_up, leads, behind_it}
+use Rattle.frames_opt.specs.inside.Sweep.{status_at, is_same, accepts, offer, placed, leads_on, is_given_up, leads, behind_it}
 use Rattle.frames_opt.proofs.Acts.{Holds, name_in, home_in, Follows, follows_same, act_follows}
 use Rattle.frames_opt.proofs.Stands.{Sat, Flow, Stands, act_stands, nothing_holds}
 use Rattle.frames_opt.proofs.Alike.{Sized, over, Agree, Match}
@@ -26,12 +26,12 @@ pub record Kept (states : List (List Status)) (i : ℕ) (half done : Instruction
   pub right : (k : ℕ) → leads states i half k (behind_it k half (status_at states i k)) ≡ true
 
 -- it is left out: what it writes is given up
-pub record LeftOut (offered : Known) (states : List (List Status)) (i : ℕ) (half done : Instruction) : Type 0 where
+pub record LeftOut (room : Room) (offered : Known) (states : List (List Status)) (i : ℕ) (half done : Instruction) : Type 0 where
   pub is : done ≡ instruction.Nothing
   pub number : ℕ
   pub writes : written half ≡ Some number
   pub stays : (k : ℕ) → is_written k half ≡ false → accepts (status_at states (i + 1) k) (status_at states i k) ≡ true
-  pub given_up : is_given_up (status_at states (i + 1) number) (status_at states i number) offered ≡ true
+  pub given_up : is_given_up (status_at states (i + 1) number) (status_at states i number) offered (leads_on room number (status_at states i number) half) ≡ true
 
 -- instruction i, which is x in the program: simplified by the known facts, and in the end
 pub record Position (room : Room) (kn : ℕ → List Known) (states : List (List Status)) (new : List Instruction) (i : ℕ) (x : Instruction) : Type 0 where
@@ -40,7 +40,7 @@ pub record Position (room : Room) (kn : ℕ → List Known) (states : List (List
   pub done_is : slice_get new i ≡ Some done
   pub by : (half ≡ x) ⊎ (half ≡ simpler room.area (kn i) x)
   pub flow : Flow room kn (Calm states) i half
-  pub out : Kept states i half done ⊎ LeftOut (offer room (kn i) half) states i half done
+  pub out : Kept states i half done ⊎ LeftOut room (offer room (kn i) half) states i half done
   pub cheap : cost done ≤ cost x
 
 pub record IsSimpler (p q : Program) (kn : ℕ → ℕ → List Known) (states : ℕ → List (List Status)) : Type 0 where

@@ -199,7 +199,7 @@ module _ (name home : ℕ) where
       let index : is_index y ≡ true = left_true (is_index y) _ (right_true (is_near room b) _ e) in
       record { index = index; is = ap (indexed (base_at name home b) size) (sym ey ∙ word_is s y index) })
 
-  moved_leads : (b : Base) (size k : ℕ) (o : Option ℕ) (r : Reference) → Some r ≡ indexed (base_at name home b) size o → Some (spot r.list (r.offset + k)) ≡ indexed (base_at name home (moved b k)) size o
+  pub moved_leads : (b : Base) (size k : ℕ) (o : Option ℕ) (r : Reference) → Some r ≡ indexed (base_at name home b) size o → Some (spot r.list (r.offset + k)) ≡ indexed (base_at name home (moved b k)) size o
   moved_leads b size k None r e = absurd (let z : ⊥ = cc in z)
   moved_leads (base.Statics o) size k (Some q) r e =
       let same : r ≡ spot 0 (o + q * size) = same_some r (spot 0 (o + q * size)) e in

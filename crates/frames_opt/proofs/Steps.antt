@@ -1,5 +1,5 @@
 -- Each step of a program that was made simpler is that of the program.
-use Rattle.std.proofs.Common.{◌≡◌, ℕ, ◌+◌, ◌-◌, ◌*◌, ◌%◌, ◌^◌, List, [], ◌∷◌, Option, Some, Bool, true, false, refl, sym, ap, ◌∙◌, subst}
+use Rattle.std.proofs.Common.{◌≡◌, ◌⊎◌, inl, inr, ⊎_elim, ℕ, ◌+◌, ◌-◌, ◌*◌, ◌%◌, ◌^◌, List, [], ◌∷◌, Option, Some, Bool, true, false, refl, sym, ap, ◌∙◌, subst}
 use Rattle.std.specs.Prelude.{◌&&◌, ◌||◌, if◌then◌else◌}
 use Rattle.std.proofs.lemmas.Bool.{eqb-true, eq-eqb}
 use Rattle.rv32.specs.declared.instr.Test.{Test}
@@ -23,12 +23,16 @@ use Rattle.frames_opt.specs.declared.facts.Known.{Known}
 use Rattle.frames_opt.specs.declared.facts.Known.TheVariants as known
 use Rattle.frames_opt.specs.declared.statuses.Status.{Status}
 use Rattle.frames_opt.specs.declared.statuses.Status.TheVariants as status
-use Rattle.frames_opt.specs.inside.Facts.{known_of, is_target, indexed_from, indexed_if, is_near, is_cheap}
+use Rattle.frames_opt.specs.inside.Facts.{known_of, is_target, moved, indexed_from, indexed_if, is_near, is_cheap}
 use Rattle.frames_opt.specs.inside.Liveness.{names, is_through, wants, reads, temporary_of, written, is_number, is_written}
-use Rattle.frames_opt.specs.inside.Sweep.{status_at, is_same, accepts, offer, index_of, place_by, place_at, place_of, placed, is_given_up, leads, behind_it}
+use Rattle.frames_opt.specs.inside.Sweep.{status_at, is_same, accepts, offer, index_of, place_by, place_at, place_of, placed, on_from, leads_on, is_given_up, leads, behind_it}
 use Rattle.frames_opt.proofs.Acts.{Knows, Holds, name_in, home_in, not_true, known_holds}
-use Rattle.frames_opt.proofs.Stands.{element_knows, Waits}
+use Rattle.frames_opt.proofs.Stands.{moved_leads, element_knows, Waits}
 use Rattle.frames_opt.proofs.Alike.{Sized, over, Beside, accepted, Agree, Goes, Match, same_some, same_is, same_if, match_bind, match_left, match_if, or_left, or_right, left_true, right_true, value_below, word_at_below, reference_at_below, place_below, base_is, same_where_read, gives_match, move_match, loaded_match, stored_match, none_written, gives_dropped, move_dropped}
+
+or_either : (a b : Bool) → (a || b) ≡ true → (a ≡ true) ⊎ (b ≡ true)
+or_either true b e = inl refl
+or_either false b e = inr e
 
 -- ---- instructions that go on to the next
 
@@ -226,26 +230,97 @@ module _ (p q : Program) (r : Sized p q) (now : State → ℕ → Status) (s : S
     element_left (target.Temporary i) x (operand.Argument k) width stays w e g = absurd (not_true e)
     element_left (target.Cell c) x z width stays w e g = absurd (let n : ⊥ = cc in n)
 
-    kept_alike : (y : Instruction) → Stays2 y → written y ≡ Some j → GivenUp (offer room facts y) → Match p now (act p s y) (running (past t))
-    kept_alike instruction.Nothing stays w g = absurd (unknown_not g)
-    kept_alike (instruction.Move d x) stays w g = absurd (unknown_not g)
-    kept_alike (instruction.Compute o d x y) stays w g = absurd (unknown_not g)
-    kept_alike (instruction.Convert c d x) stays w g = absurd (unknown_not g)
-    kept_alike (instruction.Load c d l) stays w g = absurd (unknown_not g)
-    kept_alike (instruction.Store c x l) stays w g = absurd (unknown_not g)
-    kept_alike (instruction.Address d l) stays w g = absurd (unknown_not g)
-    kept_alike (instruction.Element d x z width) stays w g = on (is_target d z) refl g
+    offered_alike : (y : Instruction) → Stays2 y → written y ≡ Some j → GivenUp (offer room facts y) → Match p now (act p s y) (running (past t))
+    offered_alike instruction.Nothing stays w g = absurd (unknown_not g)
+    offered_alike (instruction.Move d x) stays w g = absurd (unknown_not g)
+    offered_alike (instruction.Compute o d x y) stays w g = absurd (unknown_not g)
+    offered_alike (instruction.Convert c d x) stays w g = absurd (unknown_not g)
+    offered_alike (instruction.Load c d l) stays w g = absurd (unknown_not g)
+    offered_alike (instruction.Store c x l) stays w g = absurd (unknown_not g)
+    offered_alike (instruction.Address d l) stays w g = absurd (unknown_not g)
+    offered_alike (instruction.Element d x z width) stays w g = on (is_target d z) refl g
       where
         on : (c : Bool) → is_target d z ≡ c → GivenUp (if c then indexed_from room (known_of facts x) z width else known.Unknown) → Match p now (act p s (instruction.Element d x z width)) (running (past t))
         on true e g2 = element_left d x z width stays w e g2
         on false e g2 = absurd (unknown_not g2)
-    kept_alike (instruction.Jump to) stays w g = absurd (unknown_not g)
-    kept_alike (instruction.Branch c x y to) stays w g = absurd (unknown_not g)
-    kept_alike (instruction.Call f) stays w g = absurd (unknown_not g)
-    kept_alike instruction.PutByte stays w g = absurd (unknown_not g)
-    kept_alike instruction.GetByte stays w g = absurd (unknown_not g)
-    kept_alike instruction.Exit stays w g = absurd (unknown_not g)
-    kept_alike instruction.Return stays w g = absurd (unknown_not g)
+    offered_alike (instruction.Jump to) stays w g = absurd (unknown_not g)
+    offered_alike (instruction.Branch c x y to) stays w g = absurd (unknown_not g)
+    offered_alike (instruction.Call f) stays w g = absurd (unknown_not g)
+    offered_alike instruction.PutByte stays w g = absurd (unknown_not g)
+    offered_alike instruction.GetByte stays w g = absurd (unknown_not g)
+    offered_alike instruction.Exit stays w g = absurd (unknown_not g)
+    offered_alike instruction.Return stays w g = absurd (unknown_not g)
+
+  -- an index that stays as its reference goes on
+  module _ (agree : Agree name home here s u a) (room : Room) (j : ℕ) (b : Base) (size : ℕ) (next_is : there j ≡ status.Index b size) where
+    abbrev GoesOn : Known → Type 0
+    GoesOn o = accepts (status.Index b size) (index_of o) ≡ true
+
+    abbrev Stays3 : Instruction → Type 0
+    Stays3 y = (k : ℕ) → is_written k y ≡ false → accepts (there k) (here k) ≡ true
+
+    abbrev Element : Operand → ℕ → Instruction
+    Element z width = instruction.Element (target.Temporary j) (operand.Temporary j) z width
+
+    -- by a number of elements, from the element whose index it holds
+    by_number : (n width : ℕ) (d : Base) (v : ℕ) → here j ≡ status.Index d v → Stays3 (Element (operand.Constant n) width) → accepts (status.Index b size) (status.Index (moved d (n * width)) v) ≡ true
+        → Match p now (act p s (Element (operand.Constant n) width)) (running (past t))
+    by_number n width d v is stays acc =
+        let before : Beside name home (status.Index d v) (s.temporaries j) (u j) = subst (λ z. Beside name home z (s.temporaries j) (u j)) is (agree.temporaries j) in
+        match_left p now (reference_in (s.temporaries j)) (λ m. gives (target.Temporary j) s (reference m.list (m.offset + n * width))) (running (past t))
+        (λ m em.
+        let leads : Beside name home (status.Index (moved d (n * width)) v) (Some (reference m.list (m.offset + n * width))) (u j) = moved_leads name home d v (n * width) (word_in (u j)) m (sym em ∙ before) in
+        let beside : Beside name home (status.Index b size) (Some (reference m.list (m.offset + n * width))) (u j) =
+        accepted name home (status.Index b size) (status.Index (moved d (n * width)) v) (Some (reference m.list (m.offset + n * width))) (u j) acc leads in
+        gives_left agree (Element (operand.Constant n) width) stays j refl (target.Temporary j) (reference m.list (m.offset + n * width)) refl
+        (subst (λ z. Beside name home z (Some (reference m.list (m.offset + n * width))) (u j)) (sym next_is) beside))
+
+    within_reach : (c : Bool) (n width : ℕ) (d : Base) (v : ℕ) → here j ≡ status.Index d v → Stays3 (Element (operand.Constant n) width) → GoesOn (indexed_if c (moved d (n * width)) (operand.Temporary j) v)
+        → Match p now (act p s (Element (operand.Constant n) width)) (running (past t))
+    within_reach true n width d v is stays g = by_number n width d v is stays g
+    within_reach false n width d v is stays g = absurd (not_true g)
+
+    from_status : (z : Status) → here j ≡ z → (y : Operand) (width : ℕ) → Stays3 (Element y width) → GoesOn (on_from room j z y width) → Match p now (act p s (Element y width)) (running (past t))
+    from_status status.Same is y width stays g = absurd (not_true g)
+    from_status status.Dead is y width stays g = absurd (not_true g)
+    from_status (status.Index d v) is (operand.Temporary k) width stays g = absurd (not_true g)
+    from_status (status.Index d v) is (operand.Cell c) width stays g = absurd (not_true g)
+    from_status (status.Index d v) is (operand.Constant n) width stays g = within_reach (is_near room (moved d (n * width))) n width d v is stays g
+    from_status (status.Index d v) is (operand.Argument k) width stays g = absurd (not_true g)
+
+    element_on : (d : Target) (x z : Operand) (width : ℕ) → Stays3 (instruction.Element d x z width) → temporary_of d ≡ Some j → is_target d x ≡ true → GoesOn (on_from room j (here j) z width)
+        → Match p now (act p s (instruction.Element d x z width)) (running (past t))
+    element_on (target.Temporary i) (operand.Temporary k) z width stays w e g =
+        let one : i ≡ j = same_some i j w in
+        let two : k ≡ j = sym (eqb-true i k e) ∙ one in
+        subst (λ m. Stays3 (instruction.Element (target.Temporary m) (operand.Temporary k) z width) → Match p now (act p s (instruction.Element (target.Temporary m) (operand.Temporary k) z width)) (running (past t))) (sym one)
+        (subst (λ m. Stays3 (instruction.Element (target.Temporary j) (operand.Temporary m) z width) → Match p now (act p s (instruction.Element (target.Temporary j) (operand.Temporary m) z width)) (running (past t))) (sym two)
+        (λ stays2. from_status (here j) refl z width stays2 g)) stays
+    element_on (target.Temporary i) (operand.Cell c) z width stays w e g = absurd (not_true e)
+    element_on (target.Temporary i) (operand.Constant v) z width stays w e g = absurd (not_true e)
+    element_on (target.Temporary i) (operand.Argument k) z width stays w e g = absurd (not_true e)
+    element_on (target.Cell c) x z width stays w e g = absurd (let n : ⊥ = cc in n)
+
+    on_alike : (y : Instruction) → Stays3 y → written y ≡ Some j → GoesOn (leads_on room j (here j) y) → Match p now (act p s y) (running (past t))
+    on_alike instruction.Nothing stays w g = absurd (not_true g)
+    on_alike (instruction.Move d x) stays w g = absurd (not_true g)
+    on_alike (instruction.Compute o d x y) stays w g = absurd (not_true g)
+    on_alike (instruction.Convert c d x) stays w g = absurd (not_true g)
+    on_alike (instruction.Load c d l) stays w g = absurd (not_true g)
+    on_alike (instruction.Store c x l) stays w g = absurd (not_true g)
+    on_alike (instruction.Address d l) stays w g = absurd (not_true g)
+    on_alike (instruction.Element d x z width) stays w g = on (is_target d x) refl g
+      where
+        on : (c : Bool) → is_target d x ≡ c → GoesOn (if c then on_from room j (here j) z width else known.Unknown) → Match p now (act p s (instruction.Element d x z width)) (running (past t))
+        on true e g2 = element_on d x z width stays w e g2
+        on false e g2 = absurd (not_true g2)
+    on_alike (instruction.Jump to) stays w g = absurd (not_true g)
+    on_alike (instruction.Branch c x y to) stays w g = absurd (not_true g)
+    on_alike (instruction.Call f) stays w g = absurd (not_true g)
+    on_alike instruction.PutByte stays w g = absurd (not_true g)
+    on_alike instruction.GetByte stays w g = absurd (not_true g)
+    on_alike instruction.Exit stays w g = absurd (not_true g)
+    on_alike instruction.Return stays w g = absurd (not_true g)
 
 -- ---- jumps
 
@@ -459,10 +534,14 @@ module _ (p q : Program) (r : Sized p q) (states : ℕ → List (List Status)) (
   -- ---- an instruction that is left out
 
   pub left_out_alike : (room : Room) (facts : List Known) → Holds (name_in p s) (home_in p s) facts s.frame.cells s.temporaries → (y : Instruction) (j : ℕ) → Agree (name_in p s) (home_in p s) here s u a
-      → ((k : ℕ) → is_written k y ≡ false → accepts (there k) (here k) ≡ true) → written y ≡ Some j → is_given_up (there j) (here j) (offer room facts y) ≡ true → Match p now (act p s y) (running (past (over u a s)))
+      → ((k : ℕ) → is_written k y ≡ false → accepts (there k) (here k) ≡ true) → written y ≡ Some j → is_given_up (there j) (here j) (offer room facts y) (leads_on room j (here j) y) ≡ true → Match p now (act p s y) (running (past (over u a s)))
   left_out_alike room facts holds y j agree stays w given = on (there j) refl given
     where
-      on : (z : Status) → there j ≡ z → is_given_up z (here j) (offer room facts y) ≡ true → Match p now (act p s y) (running (past (over u a s)))
+      on : (z : Status) → there j ≡ z → is_given_up z (here j) (offer room facts y) (leads_on room j (here j) y) ≡ true → Match p now (act p s y) (running (past (over u a s)))
       on status.Dead e g = dropped_alike p q r now s u a here there next_behind agree j (λ v. subst (λ z. Beside (name_in p s) (home_in p s) z (Some v) (u j)) (sym e) tt) y stays w
       on status.Same e g = absurd (not_true g)
-      on (status.Index b size) e g = kept_alike p q r now s u a here there next_behind agree room facts holds j b size e y stays w g
+      on (status.Index b size) e g =
+          ⊎_elim
+          (λ h. offered_alike p q r now s u a here there next_behind agree room facts holds j b size e y stays w h)
+          (λ h. on_alike p q r now s u a here there next_behind agree room j b size e y stays w h)
+          (or_either (is_same (here j) && accepts (status.Index b size) (index_of (offer room facts y))) (accepts (status.Index b size) (index_of (leads_on room j (here j) y))) g)

@@ -8,9 +8,9 @@ use crate::facts::Known;
 use crate::liveness::{dead_at, is_written, masks_of, reads};
 use crate::marks::is_marked;
 use crate::room::Room;
-use crate::statuses::{Status, Statuses, is_same};
-use crate::sweep::{are_right, swept};
-use frames_code::{Instruction, Location, Operand};
+use crate::statuses::{Status, Statuses, index_of, is_same};
+use crate::sweep::{are_right, leads_on, swept};
+use frames_code::{Instruction, Location, Operand, Target};
 use std::alloc::{AllocError, Global};
 
 /// How far the accesses through an index are looked for.
@@ -59,6 +59,19 @@ fn goes_on(masks: &[u8], instruction: Instruction, number: usize) -> bool {
     }
 }
 
+/// Whether an instruction only leads a reference on by a constant number of elements.
+fn only_leads_on(instruction: Instruction, number: usize) -> bool {
+    match instruction {
+        Instruction::Element {
+            target: Target::Temporary(target),
+            array,
+            index: Operand::Constant(_),
+            ..
+        } => target == number && is_temporary(array, number),
+        _ => false,
+    }
+}
+
 /// Up to where a temporary may hold an index from instruction `first` on, if one access goes through it; `None` where the reference has to stay.
 fn end_of(
     marks: &[bool],
@@ -77,12 +90,13 @@ fn end_of(
             return Some(place);
         }
         let is_through = is_access(*instruction, number);
-        let is_kept = reads(Status::Same, number, *instruction) && (is_read || !is_through);
-        if is_kept || is_marked(marks, place) || !goes_on(masks, *instruction, number) {
+        let is_on = only_leads_on(*instruction, number);
+        let is_wrong = reads(Status::Same, number, *instruction) && (is_read || !is_through);
+        if is_wrong && !is_on || is_marked(marks, place) || !goes_on(masks, *instruction, number) {
             return None;
         }
         is_read = is_read || is_through;
-        if is_written(number, *instruction) {
+        if is_written(number, *instruction) && !is_on {
             return Some(place.saturating_add(1));
         }
     }
@@ -95,10 +109,50 @@ fn put_status(states: &mut [Statuses], place: usize, number: usize, status: Stat
     }
 }
 
-/// Gives a temporary a status before each of these instructions.
-fn put_from(states: &mut [Statuses], first: usize, end: usize, number: usize, status: Status) {
+/// The status of a temporary behind an instruction where it holds an index; the same where its element is out of reach.
+fn status_behind(room: Room, number: usize, status: Status, instruction: Instruction) -> Status {
+    if only_leads_on(instruction, number) {
+        index_of(leads_on(room, number, status, instruction))
+    } else {
+        status
+    }
+}
+
+/// Whether all elements are within reach whose index a temporary holds from instruction `first` up to `end`.
+fn are_near(
+    room: Room,
+    code: &[Instruction],
+    first: usize,
+    end: usize,
+    kept: (usize, Status),
+) -> bool {
+    let (number, mut status) = kept;
+    for place in first..end {
+        if let Some(instruction) = code.get(place) {
+            status = status_behind(room, number, status, *instruction);
+        }
+        if is_same(status) {
+            return false;
+        }
+    }
+    true
+}
+
+/// Gives a temporary its status before each instruction from `first` up to `end`.
+fn put_from(
+    states: &mut [Statuses],
+    room: Room,
+    code: &[Instruction],
+    first: usize,
+    end: usize,
+    kept: (usize, Status),
+) {
+    let (number, mut status) = kept;
     for place in first..end {
         put_status(states, place, number, status);
+        if let Some(instruction) = code.get(place) {
+            status = status_behind(room, number, status, *instruction);
+        }
     }
 }
 
@@ -117,16 +171,19 @@ fn kept_of(offered: Known) -> Option<(usize, Status)> {
 /// Lets the indices stay that may.
 fn put_indices(
     states: &mut [Statuses],
+    room: Room,
     marks: &[bool],
     masks: &[u8],
     list: &[Known],
     code: &[Instruction],
 ) {
     for number in 0..code.len() {
-        if let Some((temporary, status)) = kept_of(offer_at(list, number)) {
+        if let Some(kept) = kept_of(offer_at(list, number)) {
             let first = number + 1;
-            if let Some(end) = end_of(marks, masks, code, first, temporary) {
-                put_from(states, first, end, temporary, status);
+            if let Some(end) = end_of(marks, masks, code, first, kept.0) {
+                if are_near(room, code, first, end, kept) {
+                    put_from(states, room, code, first, end, kept);
+                }
             }
         }
     }
@@ -159,13 +216,14 @@ fn all_same(alloc: Global, count: usize) -> Result<Vec<Statuses>, AllocError> {
 /// The statuses that the analysis finds.
 fn found(
     alloc: Global,
+    room: Room,
     marks: &[bool],
     list: &[Known],
     code: &[Instruction],
 ) -> Result<Vec<Statuses>, AllocError> {
     let masks = masks_of(alloc, code)?;
     let mut states = all_same(alloc, code.len())?;
-    put_indices(&mut states, marks, &masks, list, code);
+    put_indices(&mut states, room, marks, &masks, list, code);
     let shorter = swept(alloc, &states, code)?;
     let later = masks_of(alloc, &shorter)?;
     put_all_dead(&mut states, &later);
@@ -182,7 +240,7 @@ pub fn states_of(
 ) -> Result<Vec<Statuses>, AllocError>
     ensures { IfOk result (λ states. sweep.are_right room states.items list.now 0 code.now ≡ true) }
 {
-    let states = found(alloc, marks, list, code)?;
+    let states = found(alloc, room, marks, list, code)?;
     if are_right(room, &states, list, code) {
         Ok(states)
     } else {

@@ -96,7 +96,7 @@ fn from_moved(room: Room, base: Base, bytes: usize, index: Operand, width: usize
 }
 
 /// The element, a constant number of elements of `size` bytes further on.
-fn further(
+pub fn further(
     room: Room,
     base: Base,
     index: Operand,

@@ -4,8 +4,8 @@ ghost use Rattle.std.specs.Prelude.{◌≡◌, ◌<◌, ◌^◌, IfOk};
 ghost use Rattle.frames_opt.specs.inside.Sweep as sweep;
 
 use crate::elements::offer_at;
-use crate::facts::Known;
-use crate::indices::{is_cheap, is_near};
+use crate::facts::{Known, is_target};
+use crate::indices::{further, is_cheap, is_near};
 use crate::liveness::{is_written, reads, written};
 use crate::room::Room;
 use crate::statuses::{Status, Statuses, accepts, index_of, is_same, status_at};
@@ -185,33 +185,87 @@ fn stays_right(
         )
 }
 
-/// Whether the temporary that is written is dead, or keeps the index of the element that is offered.
-fn is_given_up(next: Status, status: Status, offered: Known) -> bool
-    ensures { result ≡ sweep.is_given_up next status offered }
+/// The element that a reference leads on to from one whose index a temporary holds.
+fn on_from(room: Room, number: usize, status: Status, index: Operand, size: usize) -> Known
+    ensures { result ≡ sweep.on_from room number status index size }
+{
+    match status {
+        Status::Same => Known::Unknown,
+        Status::Dead => Known::Unknown,
+        Status::Index { base, size: width } => {
+            further(room, base, Operand::Temporary(number), width, index, size)
+        }
+    }
+}
+
+/// The element that an instruction leads a reference on to whose index a temporary holds.
+pub fn leads_on(room: Room, number: usize, status: Status, instruction: Instruction) -> Known
+    ensures { result ≡ sweep.leads_on room number status instruction }
+{
+    match instruction {
+        Instruction::Nothing => Known::Unknown,
+        Instruction::Move { .. } => Known::Unknown,
+        Instruction::Compute { .. } => Known::Unknown,
+        Instruction::Convert { .. } => Known::Unknown,
+        Instruction::Load { .. } => Known::Unknown,
+        Instruction::Store { .. } => Known::Unknown,
+        Instruction::Address { .. } => Known::Unknown,
+        Instruction::Element {
+            target,
+            array,
+            index,
+            size,
+        } => {
+            if is_target(target, array) {
+                on_from(room, number, status, index, size)
+            } else {
+                Known::Unknown
+            }
+        }
+        Instruction::Jump(_) => Known::Unknown,
+        Instruction::Branch { .. } => Known::Unknown,
+        Instruction::Call(_) => Known::Unknown,
+        Instruction::PutByte => Known::Unknown,
+        Instruction::GetByte => Known::Unknown,
+        Instruction::Exit => Known::Unknown,
+        Instruction::Return => Known::Unknown,
+    }
+}
+
+/// Whether the temporary that is written is dead, or is the index of the element that is offered, or holds one whose reference leads on.
+fn is_given_up(next: Status, status: Status, offered: Known, on: Known) -> bool
+    ensures { result ≡ sweep.is_given_up next status offered on }
 {
     match next {
         Status::Dead => true,
         Status::Same => false,
         Status::Index { base, size } => {
             is_same(status) && accepts(Status::Index { base, size }, index_of(offered))
+                || accepts(Status::Index { base, size }, index_of(on))
         }
     }
 }
 
 fn drop_right(
+    room: Room,
     states: &[Statuses],
     at: usize,
     offered: Known,
     instruction: Instruction,
     number: usize,
-    status: Status,
 ) -> bool
     requires { at < 2 ^ 62 }
-    ensures { result ≡ sweep.drop_right states.now at offered instruction number status }
+    ensures { result ≡ sweep.drop_right room states.now at offered instruction number }
 {
+    let status = status_at(states, at, number);
     let next = status_at(states, at + 1, number);
     if is_written(number, instruction) {
-        is_given_up(next, status, offered)
+        is_given_up(
+            next,
+            status,
+            offered,
+            leads_on(room, number, status, instruction),
+        )
     } else {
         accepts(next, status)
     }
@@ -232,7 +286,7 @@ fn is_right(
     let status = status_at(states, at, number);
     fits(room, number, status)
         && if is_left_out(states, at, instruction) {
-            drop_right(states, at, offered, instruction, number, status)
+            drop_right(room, states, at, offered, instruction, number)
         } else {
             stays_right(states, at, instruction, number, status)
         }

@@ -14,7 +14,7 @@ use Rattle.frames_opt.specs.declared.facts.Known.{Known}
 use Rattle.frames_opt.specs.declared.facts.Known.TheVariants as known
 use Rattle.frames_opt.specs.declared.statuses.Status.{Status}
 use Rattle.frames_opt.specs.declared.statuses.Status.TheVariants as status
-use Rattle.frames_opt.specs.inside.Facts.{known_of, is_target, is_near, is_cheap, indexed_from, behind}
+use Rattle.frames_opt.specs.inside.Facts.{known_of, is_target, is_near, is_cheap, further, indexed_from, behind}
 use Rattle.frames_opt.specs.inside.Rules.{simpler}
 use Rattle.frames_opt.specs.inside.Passes.{is_marked, fresh}
 use Rattle.frames_opt.specs.inside.Liveness.{reads, written, is_written}
@@ -166,18 +166,43 @@ behind_it k x z = if is_written k x then status.Same else z
 abbrev pub stays_right : List (List Status) → ℕ → Instruction → ℕ → Status → Bool
 stays_right states i x k z = (is_same z || not (reads z k x)) && leads states i x k (behind_it k x z)
 
--- the temporary that an instruction writes that is left out: dead behind it, or it keeps the index of the element that is offered
-abbrev pub is_given_up : Status → Status → Known → Bool
-is_given_up status.Dead z o = true
-is_given_up status.Same z o = false
-is_given_up (status.Index b size) z o = is_same z && accepts (status.Index b size) (index_of o)
+-- the element that a reference leads on to from one whose index temporary k holds
+abbrev pub on_from : Room → ℕ → Status → Operand → ℕ → Known
+on_from room k status.Same y size = known.Unknown
+on_from room k status.Dead y size = known.Unknown
+on_from room k (status.Index b width) y size = further room b (operand.Temporary k) width y size
 
-abbrev pub drop_right : List (List Status) → ℕ → Known → Instruction → ℕ → Status → Bool
-drop_right states i o x k z = if is_written k x then is_given_up (status_at states (i + 1) k) z o else accepts (status_at states (i + 1) k) z
+abbrev pub leads_on : Room → ℕ → Status → Instruction → Known
+leads_on room k z instruction.Nothing = known.Unknown
+leads_on room k z (instruction.Move d x) = known.Unknown
+leads_on room k z (instruction.Compute o d x y) = known.Unknown
+leads_on room k z (instruction.Convert c d x) = known.Unknown
+leads_on room k z (instruction.Load w d l) = known.Unknown
+leads_on room k z (instruction.Store w x l) = known.Unknown
+leads_on room k z (instruction.Address d l) = known.Unknown
+leads_on room k z (instruction.Element d x y size) = if is_target d x then on_from room k z y size else known.Unknown
+leads_on room k z (instruction.Jump to) = known.Unknown
+leads_on room k z (instruction.Branch t x y to) = known.Unknown
+leads_on room k z (instruction.Call f) = known.Unknown
+leads_on room k z instruction.PutByte = known.Unknown
+leads_on room k z instruction.GetByte = known.Unknown
+leads_on room k z instruction.Exit = known.Unknown
+leads_on room k z instruction.Return = known.Unknown
+
+-- the temporary that an instruction writes that is left out: dead behind it, or it is the index of the element that is offered, or it holds one and its
+-- reference leads on
+abbrev pub is_given_up : Status → Status → Known → Known → Bool
+is_given_up status.Dead z o on = true
+is_given_up status.Same z o on = false
+is_given_up (status.Index b size) z o on = (is_same z && accepts (status.Index b size) (index_of o)) || accepts (status.Index b size) (index_of on)
+
+abbrev pub drop_right : Room → List (List Status) → ℕ → Known → Instruction → ℕ → Bool
+drop_right room states i o x k =
+    if is_written k x then is_given_up (status_at states (i + 1) k) (status_at states i k) o (leads_on room k (status_at states i k) x) else accepts (status_at states (i + 1) k) (status_at states i k)
 
 abbrev pub is_right : Room → List (List Status) → ℕ → Known → Instruction → ℕ → Bool
 is_right room states i o x k =
-    fits room k (status_at states i k) && (if is_left_out states i x then drop_right states i o x k (status_at states i k) else stays_right states i x k (status_at states i k))
+    fits room k (status_at states i k) && (if is_left_out states i x then drop_right room states i o x k else stays_right states i x k (status_at states i k))
 
 abbrev pub all_right : Room → List (List Status) → ℕ → Known → Instruction → Bool
 all_right room states i o x =
