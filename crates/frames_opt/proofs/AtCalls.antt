@@ -11,6 +11,7 @@ use Rattle.frames_opt.specs.Simplified.{IsAtCall}
 use Rattle.frames_opt.specs.inside.Facts.{known_of, room_of}
 use Rattle.frames_opt.specs.inside.Rules.{simpler_operand, simpler}
 use Rattle.frames_opt.specs.declared.statuses.Status.{Status}
+use Rattle.frames_opt.specs.declared.rows.Row.{Row}
 use Rattle.frames_opt.specs.inside.Liveness.{reads}
 use Rattle.frames_opt.specs.inside.Sweep.{placed}
 use Rattle.frames_opt.proofs.Acts.{name_in, home_in}
@@ -59,7 +60,7 @@ stays area facts instruction.Exit h = absurd h
 stays area facts instruction.Return h = refl
 
 -- nor by an index that stayed
-placed_stays : (states : List (List Status)) (i : ℕ) (x : Instruction) → Leaves (placed states i x) → placed states i x ≡ x
+placed_stays : (states : List Row) (i : ℕ) (x : Instruction) → Leaves (placed states i x) → placed states i x ≡ x
 placed_stays states i instruction.Nothing h = absurd h
 placed_stays states i (instruction.Move d x) h = absurd h
 placed_stays states i (instruction.Compute o d x y) h = absurd h
@@ -86,7 +87,7 @@ none_too [] (y ∷ ys) i count e = absurd (omega (arith, count))
 none_too (x ∷ xs) (y ∷ ys) zero count e = absurd (let z : ⊥ = cc in z)
 none_too (x ∷ xs) (y ∷ ys) (suc i) count e = none_too xs ys i (omega (arith, count)) e
 
-module _ (p q : Program) (kn : ℕ → ℕ → List Known) (states : ℕ → List (List Status)) (simple : IsSimpler p q kn states) (s : State) (u a : Values) (agree : Agree (name_in p s) (home_in p s) (now_in p states s) s u a) where
+module _ (p q : Program) (kn : ℕ → ℕ → List Known) (states : ℕ → List Row) (simple : IsSimpler p q kn states) (s : State) (u a : Values) (agree : Agree (name_in p s) (home_in p s) (now_in p states s) s u a) where
   abbrev k : ℕ
   k = s.frame.function
 
@@ -136,7 +137,7 @@ module _ (p q : Program) (kn : ℕ → ℕ → List Known) (states : ℕ → Lis
 same_running : (s t : State) → running s ≡ running t → s ≡ t
 same_running s t e = cc
 
-pub at_calls : (p q : Program) (kn : ℕ → ℕ → List Known) (states : ℕ → List (List Status)) → IsSimpler p q kn states → (n : ℕ) (input : List ℕ) (s t : State) → run p n (start p input) ≡ running s → run q n (start q input) ≡ running t → IsAtCall p q s t
+pub at_calls : (p q : Program) (kn : ℕ → ℕ → List Known) (states : ℕ → List Row) → IsSimpler p q kn states → (n : ℕ) (input : List ℕ) (s t : State) → run p n (start p input) ≡ running s → run q n (start q input) ≡ running t → IsAtCall p q s t
 at_calls p q kn states simple n input s t e h =
     let r = reached p q kn states simple n input s e in
     subst (IsAtCall p q s) (same_running (over r.others r.given s) t (sym r.is ∙ h)) (at_call p q kn states simple s r.others r.given r.agree)

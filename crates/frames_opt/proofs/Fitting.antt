@@ -1,5 +1,5 @@
 -- Simpler code is as sound.
-use Rattle.std.proofs.Common.{◌≡◌, ◌<◌, ◌≤◌, ⊎_elim, ℕ, zero, suc, ◌+◌, ◌-◌, ◌*◌, ◌^◌, ◌%◌, List, [], ◌∷◌, length, Option, Some, None, Bool, true, false, refl, sym, ap, ◌∙◌, subst, arith}
+use Rattle.std.proofs.Common.{◌≡◌, ◌<◌, ◌≤◌, ⊎_elim, ℕ, zero, suc, ◌+◌, ◌-◌, ◌*◌, ◌^◌, ◌%◌, List, [], ◌∷◌, length, Some, None, Bool, true, false, refl, sym, ap, ◌∙◌, subst, arith}
 use Rattle.std.specs.Prelude.{◌==◌, slice_get, set, get_or, nat_lt, nat_le, ◌&&◌, if◌then◌else◌}
 use Rattle.std.specs.Int.{w32, trailing_zeros}
 use Rattle.std.proofs.lemmas.Bool.{eqb-true, eqb-false, ltb-true}
@@ -27,6 +27,7 @@ use Rattle.frames_opt.specs.declared.facts.Known.TheVariants as known
 use Rattle.frames_opt.specs.inside.Facts.{nothing, held, known_of, reference_to, is_target, killed, all_killed, learned, room_of, is_index, is_cheap, is_near, indexed_if, from_base, moved, further, indexed_from, result_on, computed, behind}
 use Rattle.frames_opt.specs.inside.Rules.{constant_or, simpler_operand, location_or, simpler_location, carried, with_constant, with_power, is_power, with_word, arranged, compute, within, stepped, statics_or, frame_or, numbered, simpler_element, simpler}
 use Rattle.frames_opt.specs.declared.statuses.Status.{Status}
+use Rattle.frames_opt.specs.declared.rows.Row.{Row}
 use Rattle.frames_opt.specs.declared.statuses.Status.TheVariants as status
 use Rattle.frames_opt.specs.inside.Sweep.{status_at, offers, place_by, place_at, place_of, placed, is_left_out, swept_one, swept, fits, all_right, are_right}
 use Rattle.frames_opt.specs.inside.Passes.{is_marked, fresh, forward}
@@ -355,7 +356,7 @@ module _ (n : ℕ) (f : Function) where
       let fits = fresh_fits (is_marked marks i) facts h in
       forward_fits marks (i + 1) (behind room here (simpler f.area here x)) xs (behind_fits here (simpler f.area here x) fits (simpler_fits here fits x (all 0 x refl))) (λ j. all (suc j)) k y e
 
-  module _ (states : List (List Status)) (i : ℕ) (each : (k : ℕ) → fits room k (status_at states i k) ≡ true) where
+  module _ (states : List Row) (i : ℕ) (each : (k : ℕ) → fits room k (status_at states i k) ≡ true) where
     by_fits : (k : ℕ) (z : Status) → fits room k z ≡ true → OperandFits f (operand.Temporary k) → LocationFits f (place_by z k)
     by_fits k status.Same e h = h
     by_fits k status.Dead e h = h
@@ -395,7 +396,7 @@ module _ (n : ℕ) (f : Function) where
     placed_fits instruction.Exit e = e
     placed_fits instruction.Return e = e
 
-  swept_fits : (states : List (List Status)) (list : List Known) (i : ℕ) (xs : List Instruction) → are_right room states list i xs ≡ true → AllFit xs → AllFit (swept states i xs)
+  swept_fits : (states : List Row) (list : List Known) (i : ℕ) (xs : List Instruction) → are_right room states list i xs ≡ true → AllFit xs → AllFit (swept states i xs)
   swept_fits states list i [] right all k y e = absurd (let z : ⊥ = cc in z)
   swept_fits states list i (x ∷ xs) right all zero y e =
       let same : swept_one states i x ≡ y = cc in
@@ -414,7 +415,7 @@ forward_length : (r : Room) (marks : List Bool) (i : ℕ) (facts : List Known) (
 forward_length r marks i facts [] = refl
 forward_length r marks i facts (x ∷ xs) = ap suc (forward_length r marks (i + 1) (behind r (fresh (is_marked marks i) facts) (simpler r.area (fresh (is_marked marks i) facts) x)) xs)
 
-swept_length : (states : List (List Status)) (i : ℕ) (xs : List Instruction) → length (swept states i xs) ≡ length xs
+swept_length : (states : List Row) (i : ℕ) (xs : List Instruction) → length (swept states i xs) ≡ length xs
 swept_length states i [] = refl
 swept_length states i (x ∷ xs) = ap suc (swept_length states (i + 1) xs)
 

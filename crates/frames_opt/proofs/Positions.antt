@@ -1,8 +1,10 @@
 -- The two passes over the code of a function, instruction by instruction.
-use Rattle.std.proofs.Common.{◌≡◌, ◌≤◌, ◌⊎◌, inl, inr, ⊎_elim, ℕ, zero, suc, ◌+◌, ◌-◌, ◌/◌, ◌%◌, ◌^◌, List, [], ◌∷◌, Option, Some, None, Bool, true, false, refl, sym, ap, ◌∙◌, subst, arith}
-use Rattle.std.specs.Prelude.{◌==◌, slice_get, set, get_or, nat_lt, if◌then◌else◌, not, ◌&&◌, ◌||◌}
+use Rattle.std.proofs.Common.{◌≡◌, ◌≤◌, ◌⊎◌, inl, inr, ⊎_elim, ℕ, zero, suc, ◌+◌, ◌-◌, ◌^◌, List, [], ◌∷◌, Option, Some, None, Bool, true, false, refl, sym, ap, ◌∙◌, subst, arith}
+use Rattle.std.specs.Prelude.{◌==◌, bit_and, bit_or, slice_get, set, get_or, nat_lt, if◌then◌else◌, not, ◌&&◌, ◌||◌}
 use Rattle.std.specs.Int.{w32, trailing_zeros}
-use Rattle.std.proofs.lemmas.Bool.{le-ltb, eq-eqb}
+use Rattle.std.specs.Int.{bit_at}
+use Rattle.std.proofs.lemmas.Bool.{le-ltb, eq-eqb, eqb-true}
+use Rattle.std.proofs.lemmas.Nat.Bits.{bit_at-zero, bit_at-lt, bit_at_and, bit_at_or, bit_at-pow_other}
 use Rattle.rv32.specs.declared.instr.RegisterOp.{RegisterOp}
 use Rattle.rv32.specs.declared.instr.RegisterOp.TheVariants as register_op
 use Rattle.frames_code.specs.declared.code.Operand.{Operand}
@@ -21,9 +23,12 @@ use Rattle.frames_opt.specs.declared.facts.Known.TheVariants as known
 use Rattle.frames_opt.specs.inside.Facts.{nothing, known_of, is_target, behind}
 use Rattle.frames_opt.specs.inside.Rules.{simpler_operand, carried, with_constant, with_power, is_power, is_constant, commutes, arranged, compute, within, stepped, statics_or, frame_or, numbered, simpler_element, simpler}
 use Rattle.frames_opt.specs.declared.statuses.Status.{Status}
+use Rattle.frames_opt.specs.declared.rows.Row.{Row}
 use Rattle.frames_opt.specs.declared.statuses.Status.TheVariants as status
-use Rattle.frames_opt.specs.inside.Liveness.{written, reads, is_number, is_written}
-use Rattle.frames_opt.specs.inside.Sweep.{status_at, is_same, accepts, offer, offers, place_by, place_of, placed, leads_on, is_lost, is_left_out, swept_one, swept, fits, leads, behind_it, stays_right, is_given_up, drop_right, is_right, all_right, are_right}
+use Rattle.frames_opt.specs.declared.rows.Held.{Held}
+use Rattle.frames_opt.specs.declared.rows.Held.TheVariants as held
+use Rattle.frames_opt.specs.inside.Liveness.{names, is_through, temporary_of, written, reads, is_number, is_written}
+use Rattle.frames_opt.specs.inside.Sweep.{status_at, is_same, accepts, offer, offers, place_by, place_of, placed, leads_on, is_lost, is_left_out, swept_one, swept, fits, leads, behind_it, stays_right, is_given_up, drop_right, is_right, blank, is_dead, or_held, status_of, is_inside, mask_at, bit_of, is_within, names_dead, through_dead, reads_dead, dead_leads, masks_right, dead_right, held_right, row_right, jump_right, all_right, are_right}
 use Rattle.frames_opt.specs.inside.Passes.{jump_of, is_marked, marked_by, marked, all_marked, AreMarked, fresh, forward}
 use Rattle.frames_opt.proofs.Acts.{not_true}
 use Rattle.frames_opt.proofs.Stands.{Flow}
@@ -222,7 +227,7 @@ either_same false = refl
 behind_same : (k : ℕ) (x : Instruction) → behind_it k x status.Same ≡ status.Same
 behind_same k x = either_same (is_written k x)
 
-module _ (states : List (List Status)) (k : ℕ) (same : (i : ℕ) → status_at states i k ≡ status.Same) where
+module _ (states : List Row) (k : ℕ) (same : (i : ℕ) → status_at states i k ≡ status.Same) where
   accepts_same : (i : ℕ) → accepts (status_at states i k) status.Same ≡ true
   accepts_same i = ap (λ z. accepts z status.Same) (same i)
 
@@ -247,16 +252,23 @@ module _ (states : List (List Status)) (k : ℕ) (same : (i : ℕ) → status_at
   stays_same i x = ap (λ z. leads states i x k (behind_it k x z)) (same i) ∙ (ap (leads states i x k) (behind_same k x) ∙ leads_same i x)
 
 -- as are those from the ninth on
-far : (states : List (List Status)) (k : ℕ) → nat_lt k 8 ≡ false → (i : ℕ) → status_at states i k ≡ status.Same
-far states k e i = ap (λ t. if nat_lt 0 i && t then get_or (get_or states i []) k status.Same else status.Same) e ∙ on (nat_lt 0 i)
+far : (states : List Row) (k : ℕ) → nat_lt k 8 ≡ false → (i : ℕ) → status_at states i k ≡ status.Same
+far states k e i = ap (λ t. if is_inside states i && t then status_of (get_or states i blank) k else status.Same) e ∙ on (is_inside states i)
   where
-    on : (b : Bool) → (if b && false then get_or (get_or states i []) k status.Same else status.Same) ≡ status.Same
+    on : (t : Bool) → (if t && false then status_of (get_or states i blank) k else status.Same) ≡ status.Same
     on true = refl
     on false = refl
 
--- and all where there are no statuses
+-- and all where there are no rows
+none_inside : (i : ℕ) → is_inside [] i ≡ false
+none_inside i = ap (λ t. nat_lt 0 i && t) (le-ltb i 0 (omega arith)) ∙ on (nat_lt 0 i)
+  where
+    on : (t : Bool) → (t && false) ≡ false
+    on true = refl
+    on false = refl
+
 none_status : (k i : ℕ) → status_at [] i k ≡ status.Same
-none_status k i = either_same (nat_lt 0 i && nat_lt k 8)
+none_status k i = ap (λ t. if t && nat_lt k 8 then status_of (get_or [] i blank) k else status.Same) (none_inside i)
 
 -- ---- the second pass
 
@@ -267,40 +279,295 @@ or_not : (a b : Bool) → (a || not b) ≡ true → b ≡ true → a ≡ true
 or_not true b e g = refl
 or_not false b e g = absurd (not_true (sym (ap not g) ∙ e))
 
-module _ (room : Room) (states : List (List Status)) (i : ℕ) (o : Known) (y : Instruction) (h : all_right room states i o y ≡ true) where
-  abbrev Right : ℕ → Type 0
-  Right k = is_right room states i o y k ≡ true
+both_true : (a b : Bool) → a ≡ true → b ≡ true → (a && b) ≡ true
+both_true a b e g = ap (λ t. t && b) e ∙ g
 
+-- ---- masks
+
+-- the status of a temporary that holds no index
+abbrev plain : Bool → Status
+plain true = status.Dead
+plain false = status.Same
+
+zero_dead : (k : ℕ) → is_dead 0 k ≡ false
+zero_dead k = ap (λ b. nat_lt k 8 && (b == 1)) (bit_at-zero k) ∙ on (nat_lt k 8)
+  where
+    on : (t : Bool) → (t && false) ≡ false
+    on true = refl
+    on false = refl
+
+other_bit : (k : ℕ) (w : Option ℕ) → is_number k w ≡ false → bit_at (bit_of w) k ≡ 0
+other_bit k None e = bit_at-zero k
+other_bit k (Some j) e = on (nat_lt j 8)
+  where
+    on : (t : Bool) → bit_at (if t then 2 ^ j else 0) k ≡ 0
+    on true = bit_at-pow_other j k (λ same. not_true (sym e ∙ eq-eqb j k (sym same)))
+    on false = bit_at-zero k
+
+-- what is of the first mask and not written is of the second
+within_dead : (m n : ℕ) (w : Option ℕ) (k : ℕ) → is_within m n w ≡ true → is_number k w ≡ false → is_dead m k ≡ true → is_dead n k ≡ true
+within_dead m n w k e unwritten d =
+    let eight = left_true (nat_lt k 8) (bit_at m k == 1) d in
+    let set : bit_at m k ≡ 1 = eqb-true (bit_at m k) 1 (right_true (nat_lt k 8) (bit_at m k == 1) d) in
+    let all : bit_and m (bit_or n (bit_of w)) ≡ m = eqb-true (bit_and m (bit_or n (bit_of w))) m e in
+    let here : bit_at (bit_and m (bit_or n (bit_of w))) k ≡ bit_at m k = ap (λ (x : ℕ). bit_at x k) all in
+    let other = other_bit k w unwritten in
+    let one : bit_at n k ≡ 1 = omega (arith, set, here, other, bit_at_and m (bit_or n (bit_of w)) k, bit_at_or n (bit_of w) k, bit_at-lt n k) in
+    both_true (nat_lt k 8) (bit_at n k == 1) eight (eq-eqb (bit_at n k) 1 one)
+
+number_is : (k : ℕ) (w : Option ℕ) → is_number k w ≡ true → w ≡ Some k
+number_is k None e = absurd (not_true e)
+number_is k (Some j) e = ap Some (eqb-true j k e)
+
+-- a temporary that an instruction reads is not of a mask of which it reads none
+module _ (m k : ℕ) (d : is_dead m k ≡ true) where
+  unnamed : (x : Operand) → names_dead m x ≡ false → names k x ≡ false
+  unnamed (operand.Temporary j) e = on (j == k) refl
+    where
+      on : (t : Bool) → (j == k) ≡ t → t ≡ false
+      on true g = absurd (not_true (sym e ∙ (ap (is_dead m) (eqb-true j k g) ∙ d)))
+      on false g = refl
+  unnamed (operand.Cell c) e = refl
+  unnamed (operand.Constant v) e = refl
+  unnamed (operand.Argument j) e = refl
+
+  not_through : (l : Location) → through_dead m l ≡ false → is_through k l ≡ false
+  not_through (location.Statics o) e = refl
+  not_through (location.Frame o) e = refl
+  not_through (location.At x) e = unnamed x e
+  not_through (location.Indexed b y size) e = unnamed y e
+
+  neither : (a b c d : Bool) → (c ≡ false → a ≡ false) → (d ≡ false → b ≡ false) → (c || d) ≡ false → (a || b) ≡ false
+  neither a b true d f g e = absurd (not_true (sym e))
+  neither a b false d f g e = ap (λ t. t || b) (f refl) ∙ g e
+
+  unread : (x : Instruction) → reads_dead m x ≡ false → reads status.Dead k x ≡ false
+  unread instruction.Nothing e = refl
+  unread (instruction.Move d x) e = unnamed x e
+  unread (instruction.Compute o d x y) e = neither (names k x) (names k y) (names_dead m x) (names_dead m y) (unnamed x) (unnamed y) e
+  unread (instruction.Convert c d x) e = unnamed x e
+  unread (instruction.Load w d l) e = not_through l e
+  unread (instruction.Store w x l) e = neither (names k x) (is_through k l) (names_dead m x) (through_dead m l) (unnamed x) (not_through l) e
+  unread (instruction.Address d l) e = not_through l e
+  unread (instruction.Element d x y size) e = neither (names k x) (names k y) (names_dead m x) (names_dead m y) (unnamed x) (unnamed y) e
+  unread (instruction.Jump to) e = refl
+  unread (instruction.Branch t x y to) e = neither (names k x) (names k y) (names_dead m x) (names_dead m y) (unnamed x) (unnamed y) e
+  unread (instruction.Call f) e = absurd (not_true (sym e))
+  unread instruction.PutByte e = absurd (not_true (sym e))
+  unread instruction.GetByte e = absurd (not_true (sym e))
+  unread instruction.Exit e = absurd (not_true (sym e))
+  unread instruction.Return e = on (k == 0) refl
+    where
+      on : (t : Bool) → (k == 0) ≡ t → t ≡ false
+      on true g = absurd (not_true (sym e ∙ (ap (is_dead m) (sym (eqb-true k 0 g)) ∙ d)))
+      on false g = refl
+
+-- ---- a temporary that holds an index at none of the instructions here
+
+accepts_plain : (b : Bool) → accepts (plain b) status.Same ≡ true
+accepts_plain true = refl
+accepts_plain false = refl
+
+module _ (room : Room) (states : List Row) (i : ℕ) (o : Known) (x : Instruction) (k : ℕ) where
+  abbrev bit : ℕ → Bool
+  bit n = is_dead (mask_at states n) k
+
+  abbrev IsPlain : ℕ → Type 0
+  IsPlain n = status_at states n k ≡ plain (bit n)
+
+  module _ (here : IsPlain i) (next : IsPlain (i + 1)) (jump : (to : ℕ) → jump_of x ≡ Some to → IsPlain to) where
+    same_accepted : (n : ℕ) → IsPlain n → accepts (status_at states n k) status.Same ≡ true
+    same_accepted n e = ap (λ z. accepts z status.Same) e ∙ accepts_plain (bit n)
+
+    dead_accepted : (n : ℕ) (w : Option ℕ) (z : Status) → bit i ≡ true → is_within (mask_at states i) (mask_at states n) w ≡ true → is_number k w ≡ false → IsPlain n → accepts (status_at states n k) z ≡ true
+    dead_accepted n w z d e unwritten p = ap (λ y. accepts y z) (p ∙ ap plain (within_dead (mask_at states i) (mask_at states n) w k e unwritten d))
+
+    leads_by : (z : Status) (y : Instruction) → accepts (status_at states (i + 1) k) z ≡ true → ((to : ℕ) → jump_of y ≡ Some to → accepts (status_at states to k) z ≡ true) → leads states i y k z ≡ true
+    leads_by z instruction.Nothing a b = a
+    leads_by z (instruction.Move d x) a b = a
+    leads_by z (instruction.Compute o d x y) a b = a
+    leads_by z (instruction.Convert c d x) a b = a
+    leads_by z (instruction.Load w d l) a b = a
+    leads_by z (instruction.Store w x l) a b = a
+    leads_by z (instruction.Address d l) a b = a
+    leads_by z (instruction.Element d x y size) a b = a
+    leads_by z (instruction.Jump to) a b = b to refl
+    leads_by z (instruction.Branch t x y to) a b = both_true (accepts (status_at states (i + 1) k) z) (accepts (status_at states to k) z) a (b to refl)
+    leads_by z (instruction.Call f) a b = a
+    leads_by z instruction.PutByte a b = a
+    leads_by z instruction.GetByte a b = a
+    leads_by z instruction.Exit a b = refl
+    leads_by z instruction.Return a b = refl
+
+    leads_plain : leads states i x k status.Same ≡ true
+    leads_plain = leads_by status.Same x (same_accepted (i + 1) next) (λ to e. same_accepted to (jump to e))
+
+    module _ (d : bit i ≡ true) where
+      onward : (w : Option ℕ) → is_within (mask_at states i) (mask_at states (i + 1)) w ≡ true → is_number k w ≡ false → accepts (status_at states (i + 1) k) status.Dead ≡ true
+      onward w e unwritten = dead_accepted (i + 1) w status.Dead d e unwritten next
+
+      abbrev IsJumpPlain : Instruction → Type 0
+      IsJumpPlain y = (to : ℕ) → jump_of y ≡ Some to → IsPlain to
+
+      dead_on : (y : Instruction) → IsJumpPlain y → is_written k y ≡ false → dead_leads states i y (mask_at states i) ≡ true → leads states i y k status.Dead ≡ true
+      dead_on instruction.Nothing j w e = onward None e refl
+      dead_on (instruction.Move d x) j w e = onward (temporary_of d) e w
+      dead_on (instruction.Compute o d x y) j w e = onward (temporary_of d) e w
+      dead_on (instruction.Convert c d x) j w e = onward (temporary_of d) e w
+      dead_on (instruction.Load b d l) j w e = onward (temporary_of d) e w
+      dead_on (instruction.Store b x l) j w e = onward None e refl
+      dead_on (instruction.Address d l) j w e = onward (temporary_of d) e w
+      dead_on (instruction.Element d x y size) j w e = onward (temporary_of d) e w
+      dead_on (instruction.Jump to) j w e = dead_accepted to None status.Dead d e refl (j to refl)
+      dead_on (instruction.Branch t x y to) j w e =
+          both_true (accepts (status_at states (i + 1) k) status.Dead) (accepts (status_at states to k) status.Dead)
+          (onward None (left_true (is_within (mask_at states i) (mask_at states (i + 1)) None) (is_within (mask_at states i) (mask_at states to) None) e) refl)
+          (dead_accepted to None status.Dead d (right_true (is_within (mask_at states i) (mask_at states (i + 1)) None) (is_within (mask_at states i) (mask_at states to) None) e) refl (j to refl))
+      dead_on (instruction.Call f) j w e = onward None e refl
+      dead_on instruction.PutByte j w e = onward None e refl
+      dead_on instruction.GetByte j w e = onward None e refl
+      dead_on instruction.Exit j w e = refl
+      dead_on instruction.Return j w e = refl
+
+    module _ (e : dead_right states i x ≡ true) where
+      -- the masks are right where it is dead
+      masks : bit i ≡ true → masks_right states i x (mask_at states i) ≡ true
+      masks d = on (mask_at states i == 0) refl e
+        where
+          on : (t : Bool) → (mask_at states i == 0) ≡ t → (t || masks_right states i x (mask_at states i)) ≡ true → masks_right states i x (mask_at states i) ≡ true
+          on true g h = absurd (not_true (sym (ap (λ m. is_dead m k) (eqb-true (mask_at states i) 0 g) ∙ zero_dead k) ∙ d))
+          on false g h = h
+
+      -- where the instruction is left out
+      module _ (l : is_left_out states i x ≡ true) where
+        left_within : bit i ≡ true → is_within (mask_at states i) (mask_at states (i + 1)) (written x) ≡ true
+        left_within d =
+            ap (λ t. if t then is_within (mask_at states i) (mask_at states (i + 1)) (written x) else not (reads_dead (mask_at states i) x) && dead_leads states i x (mask_at states i)) (sym l) ∙ masks d
+
+        left_written : is_written k x ≡ true → is_given_up (status_at states (i + 1) k) (status_at states i k) o (leads_on room k (status_at states i k) x) ≡ true
+        left_written w = ap (λ s. is_given_up s (status_at states i k) o (leads_on room k (status_at states i k) x)) (next ∙ ap plain (dead_next (bit (i + 1)) refl))
+          where
+            lost : not (is_same (status_at states (i + 1) k)) ≡ true
+            lost = ap (is_lost states i) (sym (number_is k (written x) w)) ∙ l
+
+            dead_next : (t : Bool) → bit (i + 1) ≡ t → t ≡ true
+            dead_next true g = refl
+            dead_next false g = absurd (not_true (sym (ap (λ s. not (is_same s)) (next ∙ ap plain g)) ∙ lost))
+
+        left_unwritten : is_written k x ≡ false → accepts (status_at states (i + 1) k) (status_at states i k) ≡ true
+        left_unwritten w = on (bit i) refl
+          where
+            on : (t : Bool) → bit i ≡ t → accepts (status_at states (i + 1) k) (status_at states i k) ≡ true
+            on true d = dead_accepted (i + 1) (written x) (status_at states i k) d (left_within d) w next
+            on false d = ap (accepts (status_at states (i + 1) k)) (here ∙ ap plain d) ∙ same_accepted (i + 1) next
+
+        plain_drop : drop_right room states i o x k ≡ true
+        plain_drop = on (is_written k x) refl
+          where
+            on : (t : Bool) → is_written k x ≡ t
+                → (if t then is_given_up (status_at states (i + 1) k) (status_at states i k) o (leads_on room k (status_at states i k) x) else accepts (status_at states (i + 1) k) (status_at states i k)) ≡ true
+            on true w = left_written w
+            on false w = left_unwritten w
+
+      -- where it stays
+      module _ (l : is_left_out states i x ≡ false) where
+        stay_masks : bit i ≡ true → (not (reads_dead (mask_at states i) x) && dead_leads states i x (mask_at states i)) ≡ true
+        stay_masks d =
+            ap (λ t. if t then is_within (mask_at states i) (mask_at states (i + 1)) (written x) else not (reads_dead (mask_at states i) x) && dead_leads states i x (mask_at states i)) (sym l) ∙ masks d
+
+        none_read : bit i ≡ true → reads_dead (mask_at states i) x ≡ false
+        none_read d = on (reads_dead (mask_at states i) x) (left_true (not (reads_dead (mask_at states i) x)) (dead_leads states i x (mask_at states i)) (stay_masks d))
+          where
+            on : (t : Bool) → not t ≡ true → t ≡ false
+            on true g = absurd (not_true g)
+            on false g = refl
+
+        dead_behind : bit i ≡ true → leads states i x k (behind_it k x status.Dead) ≡ true
+        dead_behind d = on (is_written k x) refl
+          where
+            on : (t : Bool) → is_written k x ≡ t → leads states i x k (if t then status.Same else status.Dead) ≡ true
+            on true w = leads_plain
+            on false w = dead_on d x jump w (right_true (not (reads_dead (mask_at states i) x)) (dead_leads states i x (mask_at states i)) (stay_masks d))
+
+        plain_stays : stays_right states i x k (status_at states i k) ≡ true
+        plain_stays = on (bit i) refl
+          where
+            on : (t : Bool) → bit i ≡ t → stays_right states i x k (status_at states i k) ≡ true
+            on true d =
+                ap (stays_right states i x k) (here ∙ ap plain d)
+                ∙ both_true (not (reads status.Dead k x)) (leads states i x k (behind_it k x status.Dead)) (ap not (unread (mask_at states i) k d x (none_read d))) (dead_behind d)
+            on false d = ap (stays_right states i x k) (here ∙ ap plain d) ∙ (ap (leads states i x k) (behind_same k x) ∙ leads_plain)
+
+      plain_fits : fits room k (status_at states i k) ≡ true
+      plain_fits = ap (fits room k) here ∙ on (bit i)
+        where
+          on : (t : Bool) → fits room k (plain t) ≡ true
+          on true = refl
+          on false = refl
+
+      plain_right : is_right room states i o x k ≡ true
+      plain_right = both_true (fits room k (status_at states i k)) _ plain_fits (on (is_left_out states i x) refl)
+        where
+          on : (t : Bool) → is_left_out states i x ≡ t → (if t then drop_right room states i o x k else stays_right states i x k (status_at states i k)) ≡ true
+          on true l = plain_drop l
+          on false l = plain_stays l
+
+  -- ---- a temporary holds an index at one of these, and is right, or at none
+
+  abbrev Right : Type 0
+  Right = is_right room states i o x k ≡ true
+
+  held_or : (h : Held) (z : Status) → held_right room states i o x h ≡ true → Right ⊎ (or_held h k z ≡ z)
+  held_or held.Nothing z e = inr refl
+  held_or (held.Index j b size) z e = on (j == k) refl
+    where
+      on : (t : Bool) → (j == k) ≡ t → Right ⊎ ((if t then status.Index b size else z) ≡ z)
+      on true g = inl (subst (λ n. is_right room states i o x n ≡ true) (eqb-true j k g) e)
+      on false g = inr refl
+
+  row_or : (r : Row) → (held_right room states i o x r.first && held_right room states i o x r.second) ≡ true → Right ⊎ (status_of r k ≡ plain (is_dead r.dead k))
+  row_or r e =
+      ⊎_elim inl (λ one. ⊎_elim inl (λ two. inr (ap (λ z. if is_dead r.dead k then status.Dead else z) (one ∙ two) ∙ on (is_dead r.dead k)))
+      (held_or r.second status.Same (right_true (held_right room states i o x r.first) (held_right room states i o x r.second) e)))
+      (held_or r.first (or_held r.second k status.Same) (left_true (held_right room states i o x r.first) (held_right room states i o x r.second) e))
+    where
+      on : (t : Bool) → (if t then status.Dead else status.Same) ≡ plain t
+      on true = refl
+      on false = refl
+
+  module _ (eight : nat_lt k 8 ≡ true) where
+    at_or : (n : ℕ) → row_right room states i o x n ≡ true → Right ⊎ IsPlain n
+    at_or n e =
+        subst (λ a. Right ⊎ ((if is_inside states n && a then status_of (get_or states n blank) k else status.Same) ≡ plain (is_dead (if is_inside states n then (get_or states n blank).dead else 0) k))) (sym eight)
+        (on (is_inside states n) e)
+      where
+        on : (t : Bool) → (if t then held_right room states i o x (get_or states n blank).first && held_right room states i o x (get_or states n blank).second else true) ≡ true
+            → Right ⊎ ((if t && true then status_of (get_or states n blank) k else status.Same) ≡ plain (is_dead (if t then (get_or states n blank).dead else 0) k))
+        on true g = row_or (get_or states n blank) g
+        on false g = inr (sym (ap plain (zero_dead k)))
+
+    jump_or : (w : Option ℕ) → jump_right room states i o x w ≡ true → Right ⊎ ((to : ℕ) → w ≡ Some to → IsPlain to)
+    jump_or None e = inr (λ to g. absurd (let z : ⊥ = cc in z))
+    jump_or (Some n) e = ⊎_elim inl (λ a. inr (λ to g. let same : n ≡ to = cc in subst IsPlain same a)) (at_or n e)
+
+    each_right : all_right room states i o x ≡ true → Right
+    each_right h =
+        let rows = right_true (dead_right states i x) _ h in
+        let later = right_true (row_right room states i o x i) _ rows in
+        ⊎_elim (λ r. r) (λ here. ⊎_elim (λ r. r) (λ next. ⊎_elim (λ r. r) (λ jump. plain_right here next jump (left_true (dead_right states i x) _ h))
+        (jump_or (jump_of x) (right_true (row_right room states i o x (i + 1)) _ later)))
+        (at_or (i + 1) (left_true (row_right room states i o x (i + 1)) _ later)))
+        (at_or i (left_true (row_right room states i o x i) _ rows))
+
+module _ (room : Room) (states : List Row) (i : ℕ) (o : Known) (y : Instruction) (h : all_right room states i o y ≡ true) where
   abbrev z : ℕ → Status
   z k = status_at states i k
 
   abbrev next : ℕ → Status
   next k = status_at states (i + 1) k
 
-  right_at : (k : ℕ) → nat_lt k 8 ≡ true → Right k
-  right_at zero e = left_true (is_right room states i o y 0) _ h
-  right_at (suc zero) e = left_true (is_right room states i o y 1) _ (right_true (is_right room states i o y 0) _ h)
-  right_at (suc (suc zero)) e = left_true (is_right room states i o y 2) _ (right_true (is_right room states i o y 1) _ (right_true (is_right room states i o y 0) _ h))
-  right_at (suc (suc (suc zero))) e =
-      left_true (is_right room states i o y 3) _ (right_true (is_right room states i o y 2) _ (right_true (is_right room states i o y 1) _ (right_true (is_right room states i o y 0) _ h)))
-  right_at (suc (suc (suc (suc zero)))) e =
-      left_true (is_right room states i o y 4) _
-      (right_true (is_right room states i o y 3) _ (right_true (is_right room states i o y 2) _ (right_true (is_right room states i o y 1) _ (right_true (is_right room states i o y 0) _ h))))
-  right_at (suc (suc (suc (suc (suc zero))))) e =
-      left_true (is_right room states i o y 5) _
-      (right_true (is_right room states i o y 4) _
-      (right_true (is_right room states i o y 3) _ (right_true (is_right room states i o y 2) _ (right_true (is_right room states i o y 1) _ (right_true (is_right room states i o y 0) _ h)))))
-  right_at (suc (suc (suc (suc (suc (suc zero)))))) e =
-      left_true (is_right room states i o y 6) _
-      (right_true (is_right room states i o y 5) _
-      (right_true (is_right room states i o y 4) _
-      (right_true (is_right room states i o y 3) _ (right_true (is_right room states i o y 2) _ (right_true (is_right room states i o y 1) _ (right_true (is_right room states i o y 0) _ h))))))
-  right_at (suc (suc (suc (suc (suc (suc (suc zero))))))) e =
-      right_true (is_right room states i o y 6) _
-      (right_true (is_right room states i o y 5) _
-      (right_true (is_right room states i o y 4) _
-      (right_true (is_right room states i o y 3) _ (right_true (is_right room states i o y 2) _ (right_true (is_right room states i o y 1) _ (right_true (is_right room states i o y 0) _ h))))))
-  right_at (suc (suc (suc (suc (suc (suc (suc (suc k)))))))) e = absurd (not_true (sym (not_eight k) ∙ e))
+  right_at : (k : ℕ) → nat_lt k 8 ≡ true → is_right room states i o y k ≡ true
+  right_at k e = each_right room states i o y k e h
 
   -- each temporary fits what it is, the first eight as the check has found, the others since they are the same
   pub status_fits : (k : ℕ) → fits room k (z k) ≡ true
@@ -372,7 +639,7 @@ module _ (room : Room) (states : List (List Status)) (i : ℕ) (o : Known) (y : 
       on true l = inr (left_out l)
       on false l = inl (kept l)
 
-placed_cost : (states : List (List Status)) (i : ℕ) (x : Instruction) → cost (placed states i x) ≡ cost x
+placed_cost : (states : List Row) (i : ℕ) (x : Instruction) → cost (placed states i x) ≡ cost x
 placed_cost states i instruction.Nothing = refl
 placed_cost states i (instruction.Move d x) = refl
 placed_cost states i (instruction.Compute o d x y) = refl
@@ -389,18 +656,18 @@ placed_cost states i instruction.GetByte = refl
 placed_cost states i instruction.Exit = refl
 placed_cost states i instruction.Return = refl
 
-swept_cost : (room : Room) (o : Known) (states : List (List Status)) (i : ℕ) (y z : Instruction) → Kept states i y z ⊎ LeftOut room o states i y z → cost z ≤ cost y
+swept_cost : (room : Room) (o : Known) (states : List Row) (i : ℕ) (y z : Instruction) → Kept states i y z ⊎ LeftOut room o states i y z → cost z ≤ cost y
 swept_cost room o states i y z (inl k) = let same : cost z ≡ cost y = ap cost k.is ∙ placed_cost states i y in omega (arith, same)
 swept_cost room o states i y z (inr d) = let none : cost z ≡ 0 = ap cost d.is in omega (arith, none)
 
 -- where a call continues all may be the same
-calm_after : (room : Room) (o : Known) (states : List (List Status)) (i : ℕ) (y w : Instruction) → Kept states i y w ⊎ LeftOut room o states i y w → (f : ℕ) → y ≡ instruction.Call f → Calm states (i + 1)
+calm_after : (room : Room) (o : Known) (states : List Row) (i : ℕ) (y w : Instruction) → Kept states i y w ⊎ LeftOut room o states i y w → (f : ℕ) → y ≡ instruction.Call f → Calm states (i + 1)
 calm_after room o states i y w (inl k) f e =
     let call : Kept states i (instruction.Call f) w = subst (λ x. Kept states i x w) e k in
     λ j. ap (accepts (status_at states (i + 1) j)) (sym (same_is (status_at states i j) (call.same j refl))) ∙ call.right j
 calm_after room o states i y w (inr d) f e = let no : None ≡ Some d.number = sym (ap written e) ∙ d.writes in absurd (let x : ⊥ = cc in x)
 
-module _ (states : List (List Status)) where
+module _ (states : List Row) where
   swept_at : (i : ℕ) (xs : List Instruction) (k j : ℕ) (y : Instruction) → slice_get xs k ≡ Some y → j ≡ i + k → slice_get (swept states i xs) k ≡ Some (swept_one states j y)
   swept_at i [] k j y e g = absurd (let z : ⊥ = cc in z)
   swept_at i (x ∷ xs) zero j y e g =
@@ -423,7 +690,7 @@ module _ (states : List (List Status)) where
 
 -- ---- both
 
-module _ (room : Room) (marks : List Bool) (code : List Instruction) (are : AreMarked marks code) (states : List (List Status))
+module _ (room : Room) (marks : List Bool) (code : List Instruction) (are : AreMarked marks code) (states : List Row)
     (right : are_right room states (offers room marks 0 nothing code) 0 (forward room marks 0 nothing code) ≡ true) where
   abbrev middle_of : List Instruction
   middle_of = forward room marks 0 nothing code
@@ -468,24 +735,24 @@ not_lost i None = refl
 not_lost i (Some j) = ap (λ z. not (is_same z)) (none_status j (i + 1))
 
 -- where there are no statuses they are right
-none_is_right : (room : Room) (i : ℕ) (o : Known) (x : Instruction) (k : ℕ) → is_right room [] i o x k ≡ true
-none_is_right room i o x k =
-    ap (λ z. fits room k z && (if is_left_out [] i x then drop_right room [] i o x k else stays_right [] i x k z)) (none_status k i)
-    ∙ (ap (λ t. if t then drop_right room [] i o x k else stays_right [] i x k status.Same) (not_lost i (written x))
-    ∙ (ap (leads [] i x k) (behind_same k x) ∙ leads_same [] k (none_status k) i x))
+none_mask : (i : ℕ) → mask_at [] i ≡ 0
+none_mask i = ap (λ t. if t then (get_or [] i blank).dead else 0) (none_inside i)
 
-both_true : (a b : Bool) → a ≡ true → b ≡ true → (a && b) ≡ true
-both_true a b e g = ap (λ t. t && b) e ∙ g
+none_dead_right : (i : ℕ) (x : Instruction) → dead_right [] i x ≡ true
+none_dead_right i x = ap (λ m. (m == 0) || masks_right [] i x m) (none_mask i)
+
+none_row_right : (room : Room) (i : ℕ) (o : Known) (x : Instruction) (n : ℕ) → row_right room [] i o x n ≡ true
+none_row_right room i o x n = ap (λ t. if t then held_right room [] i o x (get_or [] n blank).first && held_right room [] i o x (get_or [] n blank).second else true) (none_inside n)
+
+none_jump_right : (room : Room) (i : ℕ) (o : Known) (x : Instruction) (w : Option ℕ) → jump_right room [] i o x w ≡ true
+none_jump_right room i o x None = refl
+none_jump_right room i o x (Some to) = none_row_right room i o x to
 
 none_all_right : (room : Room) (i : ℕ) (o : Known) (x : Instruction) → all_right room [] i o x ≡ true
 none_all_right room i o x =
-    let each = none_is_right room i o x in
-    both_true (is_right room [] i o x 0) _ (each 0)
-    (both_true (is_right room [] i o x 1) _ (each 1)
-    (both_true (is_right room [] i o x 2) _ (each 2)
-    (both_true (is_right room [] i o x 3) _ (each 3)
-    (both_true (is_right room [] i o x 4) _ (each 4)
-    (both_true (is_right room [] i o x 5) _ (each 5) (both_true (is_right room [] i o x 6) _ (each 6) (each 7)))))))
+    both_true (dead_right [] i x) _ (none_dead_right i x)
+    (both_true (row_right room [] i o x i) _ (none_row_right room i o x i)
+    (both_true (row_right room [] i o x (i + 1)) _ (none_row_right room i o x (i + 1)) (none_jump_right room i o x (jump_of x))))
 
 pub none_right : (room : Room) (list : List Known) (i : ℕ) (xs : List Instruction) → are_right room [] list i xs ≡ true
 none_right room list i [] = refl

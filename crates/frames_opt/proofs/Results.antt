@@ -8,7 +8,7 @@ use Rattle.frames_opt.specs.declared.room.Room.{Room}
 use Rattle.frames_opt.specs.inside.Facts.{nothing}
 use Rattle.frames_opt.specs.inside.Passes.{jump_of, marked_by, marked, is_marked, all_marked, AreMarked, forward}
 use Rattle.frames_opt.specs.declared.facts.Known.{Known}
-use Rattle.frames_opt.specs.declared.statuses.Status.{Status}
+use Rattle.frames_opt.specs.declared.rows.Row.{Row}
 use Rattle.frames_opt.specs.inside.Sweep.{offers, swept, are_right}
 use Rattle.frames_opt.specs.layer.Functions.{IsImproved, IsSimplerCode, stayed, improved}
 use Rattle.frames_opt.proofs.Positions.{all_are_marked}
@@ -37,7 +37,7 @@ marks_kept size list marks code are l =
     subst (λ m. AreMarked m code) (sym whole) are
 
 module _ {V E : Type 0} (items : V → List Instruction) (room : Room) (code : List Instruction) where
-  pub improved_in : (middle : List Instruction) (list : List Known) (marks : List Bool) (states : List (List Status)) → AreMarked marks code → middle ≡ forward room marks 0 nothing code
+  pub improved_in : (middle : List Instruction) (list : List Known) (marks : List Bool) (states : List Row) → AreMarked marks code → middle ≡ forward room marks 0 nothing code
       → list ≡ offers room marks 0 nothing code → are_right room states list 0 middle ≡ true → (r : Result V E) → IfOk r (λ m. items m ≡ swept states 0 middle) → IfOk r (λ m. IsImproved room code (items m))
   improved_in middle list marks states are e e2 right (Ok m) h = record {
     marks = marks;
@@ -49,7 +49,7 @@ module _ {V E : Type 0} (items : V → List Instruction) (room : Room) (code : L
   improved_in middle list marks states are e e2 right (Err x) h = tt
 
   -- by what stands in for each of them
-  pub improved_from : (middle m5 m7 : List Instruction) (list list4 : List Known) (marks marks1 marks2 : List Bool) (states states6 : List (List Status)) → AreMarked marks code → marks1 ≡ marks → marks2 ≡ marks
+  pub improved_from : (middle m5 m7 : List Instruction) (list list4 : List Known) (marks marks1 marks2 : List Bool) (states states6 : List Row) → AreMarked marks code → marks1 ≡ marks → marks2 ≡ marks
       → middle ≡ forward room marks1 0 nothing code → list ≡ offers room marks2 0 nothing code → list4 ≡ list → m5 ≡ middle → are_right room states list4 0 m5 ≡ true → states6 ≡ states → m7 ≡ middle
       → (r : Result V E) → IfOk r (λ m. items m ≡ swept states6 0 m7) → IfOk r (λ m. IsImproved room code (items m))
   improved_from middle m5 m7 list list4 marks marks1 marks2 states states6 are one two e eo four five right six seven r h =

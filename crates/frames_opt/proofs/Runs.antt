@@ -12,6 +12,7 @@ use Rattle.frames_opt.specs.declared.room.Room.{Room}
 use Rattle.frames_opt.specs.inside.Facts.{nothing, room_of}
 use Rattle.frames_opt.specs.inside.Rules.{simpler}
 use Rattle.frames_opt.specs.declared.statuses.Status.{Status}
+use Rattle.frames_opt.specs.declared.rows.Row.{Row}
 use Rattle.frames_opt.specs.inside.Liveness.{written, is_written, reads}
 use Rattle.frames_opt.specs.inside.Sweep.{status_at, is_same, accepts, offer, placed, leads_on, is_given_up, leads, behind_it}
 use Rattle.frames_opt.proofs.Acts.{Holds, name_in, home_in, Follows, follows_same, act_follows}
@@ -20,13 +21,13 @@ use Rattle.frames_opt.proofs.Alike.{Sized, over, Agree, Match}
 use Rattle.frames_opt.proofs.Steps.{Calm, now_in, calm_in, act_alike, left_out_alike}
 
 -- it stays, with an index in place of a reference: it reads only what is the same, and each temporary may be what it is behind it
-pub record Kept (states : List (List Status)) (i : ℕ) (half done : Instruction) : Type 0 where
+pub record Kept (states : List Row) (i : ℕ) (half done : Instruction) : Type 0 where
   pub is : done ≡ placed states i half
   pub same : (k : ℕ) → reads (status_at states i k) k half ≡ true → is_same (status_at states i k) ≡ true
   pub right : (k : ℕ) → leads states i half k (behind_it k half (status_at states i k)) ≡ true
 
 -- it is left out: what it writes is given up
-pub record LeftOut (room : Room) (offered : Known) (states : List (List Status)) (i : ℕ) (half done : Instruction) : Type 0 where
+pub record LeftOut (room : Room) (offered : Known) (states : List Row) (i : ℕ) (half done : Instruction) : Type 0 where
   pub is : done ≡ instruction.Nothing
   pub number : ℕ
   pub writes : written half ≡ Some number
@@ -34,7 +35,7 @@ pub record LeftOut (room : Room) (offered : Known) (states : List (List Status))
   pub given_up : is_given_up (status_at states (i + 1) number) (status_at states i number) offered (leads_on room number (status_at states i number) half) ≡ true
 
 -- instruction i, which is x in the program: simplified by the known facts, and in the end
-pub record Position (room : Room) (kn : ℕ → List Known) (states : List (List Status)) (new : List Instruction) (i : ℕ) (x : Instruction) : Type 0 where
+pub record Position (room : Room) (kn : ℕ → List Known) (states : List Row) (new : List Instruction) (i : ℕ) (x : Instruction) : Type 0 where
   pub half : Instruction
   pub done : Instruction
   pub done_is : slice_get new i ≡ Some done
@@ -43,14 +44,14 @@ pub record Position (room : Room) (kn : ℕ → List Known) (states : List (List
   pub out : Kept states i half done ⊎ LeftOut room (offer room (kn i) half) states i half done
   pub cheap : cost done ≤ cost x
 
-pub record IsSimpler (p q : Program) (kn : ℕ → ℕ → List Known) (states : ℕ → List (List Status)) : Type 0 where
+pub record IsSimpler (p q : Program) (kn : ℕ → ℕ → List Known) (states : ℕ → List Row) : Type 0 where
   pub sized : Sized p q
   pub main : q.main ≡ p.main
   pub starts : (k : ℕ) → kn k 0 ≡ nothing
   pub count : (k : ℕ) → length (function_at q k).code ≡ length (function_at p k).code
   pub each : (k i : ℕ) (x : Instruction) → slice_get (function_at p k).code i ≡ Some x → Position (room_of (function_at p k)) (kn k) (states k) (function_at q k).code i x
 
-module _ (p q : Program) (kn : ℕ → ℕ → List Known) (states : ℕ → List (List Status)) (simple : IsSimpler p q kn states) where
+module _ (p q : Program) (kn : ℕ → ℕ → List Known) (states : ℕ → List Row) (simple : IsSimpler p q kn states) where
   -- what the temporaries are before the next instruction
   abbrev now : State → ℕ → Status
   now = now_in p states

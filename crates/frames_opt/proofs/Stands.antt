@@ -19,7 +19,7 @@ use Rattle.frames_code.specs.declared.code.Operation.TheVariants as operation
 use Rattle.frames_code.specs.declared.code.Instruction.{Instruction}
 use Rattle.frames_code.specs.declared.code.Instruction.TheVariants as instruction
 use Rattle.frames_code.specs.Code.{Program, frame_bytes}
-use Rattle.frames_code.specs.Run.{Value, Values, Bytes, Frame, State, Reference, Progress, running, ended, stuck, word, reference, value, word_at, word_in, reference_in, indexed, set as set_target, with_at, next, past, goes_to, place, memory, with_memory, with_element, element_in, fits, gives, gives_word, operate, converted, loaded, stored, put, got, returned, act, function_at, bytes_of, name_of, changed_among, with_frames, ◌>>=◌}
+use Rattle.frames_code.specs.Run.{Value, Values, Bytes, Frame, State, Reference, Progress, running, ended, stuck, word, reference, value, word_at, word_in, reference_in, indexed, set as set_target, with_at, next, past, goes_to, place, memory, with_memory, with_element, element_in, fits, gives, gives_word, operate, converted, loaded, stored, put, got, returned, act, function_at, name_of, changed_among, with_frames, ◌>>=◌}
 use Rattle.frames_opt.specs.declared.room.Room.{Room}
 use Rattle.frames_opt.specs.declared.facts.Known.{Known}
 use Rattle.frames_opt.specs.declared.facts.Known.TheVariants as known

@@ -22,13 +22,14 @@ use Rattle.frames_opt.specs.declared.room.Room.{Room}
 use Rattle.frames_opt.specs.declared.facts.Known.{Known}
 use Rattle.frames_opt.specs.declared.facts.Known.TheVariants as known
 use Rattle.frames_opt.specs.declared.statuses.Status.{Status}
+use Rattle.frames_opt.specs.declared.rows.Row.{Row}
 use Rattle.frames_opt.specs.declared.statuses.Status.TheVariants as status
 use Rattle.frames_opt.specs.inside.Facts.{known_of, is_target, moved, indexed_from, indexed_if, is_near, is_cheap}
 use Rattle.frames_opt.specs.inside.Liveness.{names, is_through, wants, reads, temporary_of, written, is_number, is_written}
 use Rattle.frames_opt.specs.inside.Sweep.{status_at, is_same, accepts, offer, index_of, place_by, place_at, place_of, placed, on_from, leads_on, is_given_up, leads, behind_it}
 use Rattle.frames_opt.proofs.Acts.{Knows, Holds, name_in, home_in, not_true, known_holds}
 use Rattle.frames_opt.proofs.Stands.{moved_leads, element_knows, Waits}
-use Rattle.frames_opt.proofs.Alike.{Sized, over, Beside, accepted, Agree, Goes, Match, same_some, same_is, same_if, match_bind, match_left, match_if, or_left, or_right, left_true, right_true, value_below, word_at_below, reference_at_below, place_below, base_is, same_where_read, gives_match, move_match, loaded_match, stored_match, none_written, gives_dropped, move_dropped}
+use Rattle.frames_opt.proofs.Alike.{Sized, over, Beside, accepted, Agree, Goes, Match, same_some, same_is, same_if, match_bind, match_left, or_left, or_right, left_true, right_true, value_below, word_at_below, reference_at_below, place_below, base_is, same_where_read, gives_match, move_match, loaded_match, stored_match, none_written, gives_dropped, move_dropped}
 
 or_either : (a b : Bool) → (a || b) ≡ true → (a ≡ true) ⊎ (b ≡ true)
 or_either true b e = inl refl
@@ -324,7 +325,7 @@ module _ (p q : Program) (r : Sized p q) (now : State → ℕ → Status) (s : S
 
 -- ---- jumps
 
-module _ (p q : Program) (r : Sized p q) (now : State → ℕ → Status) (s : State) (u a : Values) (states : List (List Status))
+module _ (p q : Program) (r : Sized p q) (now : State → ℕ → Status) (s : State) (u a : Values) (states : List Row)
     (behind : (s2 : State) → s2.frame.function ≡ s.frame.function → now s2 ≡ (λ k. status_at states s2.frame.at k)) (agree : Agree (name_in p s) (home_in p s) (λ k. status_at states s.frame.at k) s u a) where
   abbrev t2 : State
   t2 = over u a s
@@ -363,10 +364,10 @@ module _ (p q : Program) (r : Sized p q) (now : State → ℕ → Status) (s : S
 -- ---- calls and ends
 
 -- all temporaries may be the same
-abbrev pub Calm : List (List Status) → ℕ → Type 0
+abbrev pub Calm : List Row → ℕ → Type 0
 Calm states i = (k : ℕ) → accepts (status_at states i k) status.Same ≡ true
 
-module _ (p : Program) (states : ℕ → List (List Status)) where
+module _ (p : Program) (states : ℕ → List Row) where
   abbrev pub now_in : State → ℕ → Status
   now_in s k = status_at (states s.frame.function) s.frame.at k
 
@@ -422,8 +423,8 @@ module _ (p : Program) (states : ℕ → List (List Status)) where
 
 -- ---- each instruction
 
-module _ (p q : Program) (r : Sized p q) (states : ℕ → List (List Status)) (s : State) (u a : Values) where
-  abbrev list : List (List Status)
+module _ (p q : Program) (r : Sized p q) (states : ℕ → List Row) (s : State) (u a : Values) where
+  abbrev list : List Row
   list = states s.frame.function
 
   abbrev at : ℕ

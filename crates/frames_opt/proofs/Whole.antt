@@ -10,7 +10,7 @@ use Rattle.frames_opt.specs.declared.facts.Known.{Known}
 use Rattle.frames.specs.Costs.{code_bytes}
 use Rattle.frames_opt.specs.Simplified.{IsSimplified}
 use Rattle.frames_opt.specs.declared.room.Room.{Room}
-use Rattle.frames_opt.specs.declared.statuses.Status.{Status}
+use Rattle.frames_opt.specs.declared.rows.Row.{Row}
 use Rattle.frames_opt.specs.inside.Facts.{nothing, room_of}
 use Rattle.frames_opt.specs.layer.Functions.{IsSimplerCode, stayed, improved, AreSimpler}
 use Rattle.frames_opt.proofs.Alike.{with_code}
@@ -25,7 +25,7 @@ abbrev known_in : (room : Room) (old new : List Instruction) → IsSimplerCode r
 known_in room old new (stayed e) = λ k. nothing
 known_in room old new (improved c) = known_at room c.marks old c.are c.states c.right
 
-abbrev states_in : (room : Room) (old new : List Instruction) → IsSimplerCode room old new → List (List Status)
+abbrev states_in : (room : Room) (old new : List Instruction) → IsSimplerCode room old new → List Row
 states_in room old new (stayed e) = []
 states_in room old new (improved c) = c.states
 
@@ -47,7 +47,7 @@ known_of (f ∷ fs) [] each k = λ i. nothing
 known_of (f ∷ fs) (g ∷ gs) each zero = known_in (room_of f) f.code g.code each.0.code
 known_of (f ∷ fs) (g ∷ gs) each (suc k) = known_of fs gs each.1 k
 
-abbrev states_of : (fs gs : List Function) → AreSimpler fs gs → ℕ → List (List Status)
+abbrev states_of : (fs gs : List Function) → AreSimpler fs gs → ℕ → List Row
 states_of [] [] each k = []
 states_of [] (g ∷ gs) each k = []
 states_of (f ∷ fs) [] each k = []
@@ -62,7 +62,7 @@ start_of (f ∷ fs) (g ∷ gs) each zero = start_in (room_of f) f.code g.code ea
 start_of (f ∷ fs) (g ∷ gs) each (suc k) = start_of fs gs each.1 k
 
 -- both have a function of this number, or neither has
-abbrev IsPair : (ℕ → List Known) → List (List Status) → Option Function → Option Function → Type 0
+abbrev IsPair : (ℕ → List Known) → List Row → Option Function → Option Function → Type 0
 IsPair kn states None None = Unit {0}
 IsPair kn states None (Some g) = ⊥
 IsPair kn states (Some f) None = ⊥
@@ -79,7 +79,7 @@ module _ (p q : Program) (each : AreSimpler p.functions q.functions) (same_stati
   abbrev kn : ℕ → ℕ → List Known
   kn = known_of p.functions q.functions each
 
-  abbrev states : ℕ → List (List Status)
+  abbrev states : ℕ → List Row
   states = states_of p.functions q.functions each
 
   sized_at : (k : ℕ) (o o2 : Option Function) → slice_get p.functions k ≡ o → slice_get q.functions k ≡ o2 → IsPair (kn k) (states k) o o2 → function_at q k ≡ with_code (function_at p k) (function_at q k).code

@@ -5,10 +5,11 @@ ghost use Rattle.frames_opt.specs.inside.Sweep as sweep;
 
 use crate::elements::offer_at;
 use crate::facts::Known;
-use crate::liveness::{dead_at, is_written, masks_of, reads};
+use crate::liveness::{dead_at, is_written, mask_of, masks_of, reads};
 use crate::marks::is_marked;
 use crate::room::Room;
-use crate::statuses::{Status, Statuses, index_of, is_same};
+use crate::rows::{Held, Row};
+use crate::statuses::{Status, index_of, is_same};
 use crate::sweep::{are_right, leads_on, swept};
 use frames_code::{Instruction, Location, Operand, Target};
 use std::alloc::{AllocError, Global};
@@ -103,9 +104,32 @@ fn end_of(
     None
 }
 
-fn put_status(states: &mut [Statuses], place: usize, number: usize, status: Status) {
-    if place < states.len() && number < 8 {
-        states[place][number] = status;
+/// Whether a row has room for one more index.
+fn has_room(states: &[Row], place: usize) -> bool {
+    if place < states.len() {
+        match states[place].second {
+            Held::Nothing => true,
+            Held::Index { .. } => false,
+        }
+    } else {
+        false
+    }
+}
+
+fn held_of(number: usize, status: Status) -> Held {
+    match status {
+        Status::Same => Held::Nothing,
+        Status::Dead => Held::Nothing,
+        Status::Index { base, size } => Held::Index { number, base, size },
+    }
+}
+
+fn put_held(states: &mut [Row], place: usize, held: Held) {
+    if place < states.len() {
+        match states[place].first {
+            Held::Nothing => states[place].first = held,
+            Held::Index { .. } => states[place].second = held,
+        }
     }
 }
 
@@ -118,8 +142,9 @@ fn status_behind(room: Room, number: usize, status: Status, instruction: Instruc
     }
 }
 
-/// Whether all elements are within reach whose index a temporary holds from instruction `first` up to `end`.
-fn are_near(
+/// Whether a temporary may hold an index from instruction `first` up to `end`: all elements are within reach, and each row has room.
+fn may_stay(
+    states: &[Row],
     room: Room,
     code: &[Instruction],
     first: usize,
@@ -131,7 +156,7 @@ fn are_near(
         if let Some(instruction) = code.get(place) {
             status = status_behind(room, number, status, *instruction);
         }
-        if is_same(status) {
+        if is_same(status) || !has_room(states, place) {
             return false;
         }
     }
@@ -140,7 +165,7 @@ fn are_near(
 
 /// Gives a temporary its status before each instruction from `first` up to `end`.
 fn put_from(
-    states: &mut [Statuses],
+    states: &mut [Row],
     room: Room,
     code: &[Instruction],
     first: usize,
@@ -149,7 +174,7 @@ fn put_from(
 ) {
     let (number, mut status) = kept;
     for place in first..end {
-        put_status(states, place, number, status);
+        put_held(states, place, held_of(number, status));
         if let Some(instruction) = code.get(place) {
             status = status_behind(room, number, status, *instruction);
         }
@@ -168,48 +193,46 @@ fn kept_of(offered: Known) -> Option<(usize, Status)> {
     }
 }
 
-/// Lets the indices stay that may.
+/// Lets the indices stay that may. Returns whether there are any.
 fn put_indices(
-    states: &mut [Statuses],
+    states: &mut [Row],
     room: Room,
     marks: &[bool],
     masks: &[u8],
     list: &[Known],
     code: &[Instruction],
-) {
+) -> bool {
+    let mut any = false;
     for number in 0..code.len() {
         if let Some(kept) = kept_of(offer_at(list, number)) {
             let first = number + 1;
             if let Some(end) = end_of(marks, masks, code, first, kept.0) {
-                if are_near(room, code, first, end, kept) {
+                if may_stay(states, room, code, first, end, kept) {
                     put_from(states, room, code, first, end, kept);
+                    any = true;
                 }
             }
         }
     }
+    any
 }
 
-/// Gives the status of dead temporaries before an instruction.
-fn put_dead(states: &mut [Statuses], masks: &[u8], place: usize) {
-    for number in 0..8 {
-        if dead_at(masks, place, number) {
-            put_status(states, place, number, Status::Dead);
-        }
-    }
-}
-
-fn put_all_dead(states: &mut [Statuses], masks: &[u8]) {
+/// Gives each row the dead temporaries.
+fn put_dead(states: &mut [Row], masks: &[u8]) {
     for place in 0..states.len() {
-        put_dead(states, masks, place);
+        states[place].dead = mask_of(masks, place);
     }
 }
 
 /// All temporaries are the same.
-fn all_same(alloc: Global, count: usize) -> Result<Vec<Statuses>, AllocError> {
+fn all_same(alloc: Global, count: usize) -> Result<Vec<Row>, AllocError> {
+    let row = Row {
+        dead: 0,
+        first: Held::Nothing,
+        second: Held::Nothing,
+    };
     let mut states = Vec::with_capacity(alloc, count)?;
-    for _ in 0..count {
-        states.push([Status::Same; 8])?;
-    }
+    states.resize(count, row)?;
     Ok(states)
 }
 
@@ -220,13 +243,16 @@ fn found(
     marks: &[bool],
     list: &[Known],
     code: &[Instruction],
-) -> Result<Vec<Statuses>, AllocError> {
+) -> Result<Vec<Row>, AllocError> {
     let masks = masks_of(alloc, code)?;
     let mut states = all_same(alloc, code.len())?;
-    put_indices(&mut states, room, marks, &masks, list, code);
-    let shorter = swept(alloc, &states, code)?;
-    let later = masks_of(alloc, &shorter)?;
-    put_all_dead(&mut states, &later);
+    if put_indices(&mut states, room, marks, &masks, list, code) {
+        let shorter = swept(alloc, &states, code)?;
+        let later = masks_of(alloc, &shorter)?;
+        put_dead(&mut states, &later);
+    } else {
+        put_dead(&mut states, &masks);
+    }
     Ok(states)
 }
 
@@ -237,7 +263,7 @@ pub fn states_of(
     marks: &[bool],
     list: &[Known],
     code: &[Instruction],
-) -> Result<Vec<Statuses>, AllocError>
+) -> Result<Vec<Row>, AllocError>
     ensures { IfOk result (λ states. sweep.are_right room states.items list.now 0 code.now ≡ true) }
 {
     let states = found(alloc, room, marks, list, code)?;

@@ -9,7 +9,6 @@ ghost use Rattle.frames_opt.specs.layer.Functions.{IsImproved, IsSimplerCode, Is
 
 use crate::analysis::states_of;
 use crate::bytes::is_no_longer;
-use crate::elements::offers;
 use crate::marks::marks_of;
 use crate::passes::forward;
 use crate::room::{Room, room_of};
@@ -22,10 +21,9 @@ fn improved(alloc: Global, room: Room, code: &[Instruction]) -> Result<Vec<Instr
     ensures { IfOk result (λ made. IsImproved room code.now made.items) }
 {
     let marks = marks_of(alloc, code)?;
-    let known = forward(alloc, room, &marks, code)?;
-    let list = offers(alloc, room, &marks, code)?;
-    let states = states_of(alloc, room, &marks, &list, &known)?;
-    swept(alloc, &states, &known)
+    let middle = forward(alloc, room, &marks, code)?;
+    let states = states_of(alloc, room, &marks, &middle.offered, &middle.code)?;
+    swept(alloc, &states, &middle.code)
 }
 
 /// The code by both passes, or as it was where it would have more bytes.

@@ -3,6 +3,7 @@
 
 mod analysis;
 mod bytes;
+mod dead;
 mod elements;
 mod facts;
 mod functions;
@@ -13,6 +14,7 @@ mod marks;
 mod operations;
 mod passes;
 mod room;
+mod rows;
 mod rules;
 mod statuses;
 mod sweep;

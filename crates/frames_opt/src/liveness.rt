@@ -1,7 +1,8 @@
 //! Which temporaries an instruction reads and writes, and liveness of temporaries, a dataflow analysis.
 
-ghost use Rattle.std.specs.Prelude.{◌≡◌, ◌<◌, ◌^◌};
+ghost use Rattle.std.specs.Prelude.{◌≡◌, ◌<◌, ◌^◌, Some};
 ghost use Rattle.frames_opt.specs.inside.Liveness as liveness;
+ghost use Rattle.frames_opt.specs.inside.Sweep as sweep;
 
 use crate::statuses::Status;
 use frames_code::{Instruction, Location, Operand, Target};
@@ -80,7 +81,8 @@ pub fn reads(status: Status, number: usize, instruction: Instruction) -> bool
     }
 }
 
-fn temporary_of(target: Target) -> Option<usize>
+/// The temporary that a target is.
+pub fn temporary_of(target: Target) -> Option<usize>
     ensures { result ≡ liveness.temporary_of target }
 {
     match target {
@@ -123,12 +125,14 @@ pub fn is_written(number: usize, instruction: Instruction) -> bool
 }
 
 /// Whether a temporary is dead by a mask of the first eight.
-pub fn is_dead(mask: u8, number: usize) -> bool {
+pub fn is_dead(mask: u8, number: usize) -> bool
+    ensures { result ≡ sweep.is_dead mask number }
+{
     number < 8 && (mask >> number as u32) % 2 == 1
 }
 
 /// The mask of an instruction; past the last one none is dead.
-pub fn mask_at(masks: &[u8], number: usize) -> u8 {
+pub fn mask_of(masks: &[u8], number: usize) -> u8 {
     if number < masks.len() {
         masks[number]
     } else {
@@ -138,10 +142,13 @@ pub fn mask_at(masks: &[u8], number: usize) -> u8 {
 
 /// Whether a temporary is dead before instruction `at`.
 pub fn dead_at(masks: &[u8], at: usize, number: usize) -> bool {
-    is_dead(mask_at(masks, at), number)
+    is_dead(mask_of(masks, at), number)
 }
 
-fn bit_of(number: usize) -> u8 {
+/// The mask of one temporary, which is empty past the first eight.
+pub fn bit_of(number: usize) -> u8
+    ensures { result ≡ sweep.bit_of (Some number) }
+{
     if number < 8 { 1u8 << number as u32 } else { 0 }
 }
 
@@ -188,11 +195,11 @@ fn bits_read(instruction: Instruction) -> u8 {
 fn mask_before(masks: &[u8], at: usize, instruction: Instruction) -> u8
     requires { at < 2 ^ 62 }
 {
-    let next = mask_at(masks, at + 1);
+    let next = mask_of(masks, at + 1);
     match instruction {
         Instruction::Nothing => next,
-        Instruction::Jump(to) => mask_at(masks, to),
-        Instruction::Branch { to, .. } => next & mask_at(masks, to) & !bits_read(instruction),
+        Instruction::Jump(to) => mask_of(masks, to),
+        Instruction::Branch { to, .. } => next & mask_of(masks, to) & !bits_read(instruction),
         Instruction::Return => !bits_read(instruction),
         _ => match written(instruction) {
             Some(number) => {

@@ -17,24 +17,6 @@ pub enum Status {
     Index { base: Base, size: usize },
 }
 
-/// The statuses of the first eight temporaries, which live in registers.
-pub type Statuses = [Status; 8];
-
-/// The status of a temporary before instruction `at`.
-pub fn status_at(states: &[Statuses], at: usize, number: usize) -> Status
-    ensures { result ≡ sweep.status_at states.now at number }
-{
-    if 0 < at && number < 8 {
-        if at < states.len() {
-            states[at][number]
-        } else {
-            Status::Same
-        }
-    } else {
-        Status::Same
-    }
-}
-
 /// Whether a temporary holds what that of the old code does.
 pub fn is_same(status: Status) -> bool
     ensures { result ≡ sweep.is_same status }

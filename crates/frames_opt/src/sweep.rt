@@ -1,14 +1,17 @@
 //! The second pass over the code of a function: what writes a dead temporary is left out, and an index stays where a reference would be.
 
 ghost use Rattle.std.specs.Prelude.{◌≡◌, ◌<◌, ◌^◌, IfOk};
+ghost use Rattle.frames_opt.specs.inside.Passes as passes;
 ghost use Rattle.frames_opt.specs.inside.Sweep as sweep;
 
+use crate::dead::{dead_leads, is_within, reads_dead};
 use crate::elements::offer_at;
 use crate::facts::{Known, is_target};
 use crate::indices::{further, is_cheap, is_near};
 use crate::liveness::{is_written, reads, written};
 use crate::room::Room;
-use crate::statuses::{Status, Statuses, accepts, index_of, is_same, status_at};
+use crate::rows::{Held, Row, mask_at, status_at};
+use crate::statuses::{Status, accepts, index_of, is_same};
 use frames_code::{Instruction, Location, Operand};
 use std::alloc::{AllocError, Global};
 
@@ -26,7 +29,7 @@ fn place_by(status: Status, number: usize) -> Location
     }
 }
 
-fn place_at(states: &[Statuses], at: usize, operand: Operand) -> Location
+fn place_at(states: &[Row], at: usize, operand: Operand) -> Location
     ensures { result ≡ sweep.place_at states.now at operand }
 {
     match operand {
@@ -37,7 +40,7 @@ fn place_at(states: &[Statuses], at: usize, operand: Operand) -> Location
     }
 }
 
-fn place_of(states: &[Statuses], at: usize, location: Location) -> Location
+fn place_of(states: &[Row], at: usize, location: Location) -> Location
     ensures { result ≡ sweep.place_of states.now at location }
 {
     match location {
@@ -49,7 +52,7 @@ fn place_of(states: &[Statuses], at: usize, location: Location) -> Location
 }
 
 /// The instruction; an access through an index that stayed names the element.
-fn placed(states: &[Statuses], at: usize, instruction: Instruction) -> Instruction
+fn placed(states: &[Row], at: usize, instruction: Instruction) -> Instruction
     ensures { result ≡ sweep.placed states.now at instruction }
 {
     match instruction {
@@ -72,7 +75,7 @@ fn placed(states: &[Statuses], at: usize, instruction: Instruction) -> Instructi
 }
 
 /// Whether the temporary that an instruction writes does not count as the same behind it.
-fn is_left_out(states: &[Statuses], at: usize, instruction: Instruction) -> bool
+fn is_left_out(states: &[Row], at: usize, instruction: Instruction) -> bool
     requires { at < 2 ^ 62 }
     ensures { result ≡ sweep.is_left_out states.now at instruction }
 {
@@ -82,7 +85,7 @@ fn is_left_out(states: &[Statuses], at: usize, instruction: Instruction) -> bool
     }
 }
 
-fn swept_one(states: &[Statuses], at: usize, instruction: Instruction) -> Instruction
+fn swept_one(states: &[Row], at: usize, instruction: Instruction) -> Instruction
     requires { at < 2 ^ 62 }
     ensures { result ≡ sweep.swept_one states.now at instruction }
 {
@@ -96,7 +99,7 @@ fn swept_one(states: &[Statuses], at: usize, instruction: Instruction) -> Instru
 /// The code, by the statuses before each instruction.
 pub fn swept(
     alloc: Global,
-    states: &[Statuses],
+    states: &[Row],
     code: &[Instruction],
 ) -> Result<Vec<Instruction>, AllocError>
     ensures { IfOk result (λ made. made.items ≡ sweep.swept states.now 0 code.now) }
@@ -122,13 +125,7 @@ fn fits(room: Room, number: usize, status: Status) -> bool
 }
 
 /// Whether a temporary may be of this status wherever instruction `at` leads.
-fn leads(
-    states: &[Statuses],
-    at: usize,
-    instruction: Instruction,
-    number: usize,
-    status: Status,
-) -> bool
+fn leads(states: &[Row], at: usize, instruction: Instruction, number: usize, status: Status) -> bool
     requires { at < 2 ^ 62 }
     ensures { result ≡ sweep.leads states.now at instruction number status }
 {
@@ -166,7 +163,7 @@ fn behind(number: usize, instruction: Instruction, status: Status) -> Status
 
 /// Whether an instruction that is not left out reads a temporary of this status only where that is the same, and leads on.
 fn stays_right(
-    states: &[Statuses],
+    states: &[Row],
     at: usize,
     instruction: Instruction,
     number: usize,
@@ -248,7 +245,7 @@ fn is_given_up(next: Status, status: Status, offered: Known, on: Known) -> bool
 
 fn drop_right(
     room: Room,
-    states: &[Statuses],
+    states: &[Row],
     at: usize,
     offered: Known,
     instruction: Instruction,
@@ -274,7 +271,7 @@ fn drop_right(
 /// Whether the status of a temporary before an instruction is right.
 fn is_right(
     room: Room,
-    states: &[Statuses],
+    states: &[Row],
     at: usize,
     offered: Known,
     instruction: Instruction,
@@ -292,9 +289,86 @@ fn is_right(
         }
 }
 
+/// Whether the temporaries of this mask, which are dead before an instruction, stay dead or are written.
+fn masks_right(states: &[Row], at: usize, instruction: Instruction, mask: u8) -> bool
+    requires { at < 2 ^ 62 }
+    ensures { result ≡ sweep.masks_right states.now at instruction mask }
+{
+    if is_left_out(states, at, instruction) {
+        is_within(mask, mask_at(states, at + 1), written(instruction))
+    } else {
+        !reads_dead(mask, instruction) && dead_leads(states, at, instruction, mask)
+    }
+}
+
+/// Whether the temporaries that are dead before an instruction may be so, as far as no index is held.
+fn dead_right(states: &[Row], at: usize, instruction: Instruction) -> bool
+    requires { at < 2 ^ 62 }
+    ensures { result ≡ sweep.dead_right states.now at instruction }
+{
+    let mask = mask_at(states, at);
+    mask == 0 || masks_right(states, at, instruction, mask)
+}
+
+fn held_right(
+    room: Room,
+    states: &[Row],
+    at: usize,
+    offered: Known,
+    instruction: Instruction,
+    held: Held,
+) -> bool
+    requires { at < 2 ^ 62 }
+    ensures { result ≡ sweep.held_right room states.now at offered instruction held }
+{
+    match held {
+        Held::Nothing => true,
+        Held::Index { number, .. } => is_right(room, states, at, offered, instruction, number),
+    }
+}
+
+/// Whether the temporaries that hold an index before instruction `place` are right at instruction `at`.
+fn row_right(
+    room: Room,
+    states: &[Row],
+    at: usize,
+    offered: Known,
+    instruction: Instruction,
+    place: usize,
+) -> bool
+    requires { at < 2 ^ 62 }
+    ensures { result ≡ sweep.row_right room states.now at offered instruction place }
+{
+    if 0 < place && place < states.len() {
+        held_right(room, states, at, offered, instruction, states[place].first)
+            && held_right(room, states, at, offered, instruction, states[place].second)
+    } else {
+        true
+    }
+}
+
+/// Whether the temporaries that hold an index where an instruction jumps to are right.
+fn jump_right(
+    room: Room,
+    states: &[Row],
+    at: usize,
+    offered: Known,
+    instruction: Instruction,
+) -> bool
+    requires { at < 2 ^ 62 }
+    ensures { result ≡ sweep.jump_right room states.now at offered instruction (passes.jump_of instruction) }
+{
+    match instruction {
+        Instruction::Jump(to) => row_right(room, states, at, offered, instruction, to),
+        Instruction::Branch { to, .. } => row_right(room, states, at, offered, instruction, to),
+        _ => true,
+    }
+}
+
+/// Whether all statuses before an instruction are right.
 fn all_right(
     room: Room,
-    states: &[Statuses],
+    states: &[Row],
     at: usize,
     offered: Known,
     instruction: Instruction,
@@ -302,18 +376,14 @@ fn all_right(
     requires { at < 2 ^ 62 }
     ensures { result ≡ sweep.all_right room states.now at offered instruction }
 {
-    is_right(room, states, at, offered, instruction, 0)
-        && is_right(room, states, at, offered, instruction, 1)
-        && is_right(room, states, at, offered, instruction, 2)
-        && is_right(room, states, at, offered, instruction, 3)
-        && is_right(room, states, at, offered, instruction, 4)
-        && is_right(room, states, at, offered, instruction, 5)
-        && is_right(room, states, at, offered, instruction, 6)
-        && is_right(room, states, at, offered, instruction, 7)
+    dead_right(states, at, instruction)
+        && row_right(room, states, at, offered, instruction, at)
+        && row_right(room, states, at, offered, instruction, at + 1)
+        && jump_right(room, states, at, offered, instruction)
 }
 
 /// Whether all statuses are right.
-pub fn are_right(room: Room, states: &[Statuses], list: &[Known], code: &[Instruction]) -> bool
+pub fn are_right(room: Room, states: &[Row], list: &[Known], code: &[Instruction]) -> bool
     ensures { result ≡ sweep.are_right room states.now list.now 0 code.now }
 {
     for number in 0..code.len() {

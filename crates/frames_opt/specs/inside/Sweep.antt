@@ -1,8 +1,7 @@
 -- The second pass: what writes a dead temporary is left out, and an index stays in a temporary where the reference to its element would be.
-use Rattle.std.specs.Prelude.{ℕ, ◌+◌, ◌==◌, ◌&&◌, ◌||◌, nat_lt, not, Bool, true, false, if◌then◌else◌, List, [], ◌∷◌, get_or, Option, Some, None}
+use Rattle.std.specs.Prelude.{ℕ, ◌+◌, ◌/◌, ◌%◌, ◌^◌, ◌==◌, ◌&&◌, ◌||◌, nat_lt, not, Bool, true, false, if◌then◌else◌, List, [], ◌∷◌, length, get_or, bit_and, bit_or, Option, Some, None}
 use Rattle.frames_code.specs.declared.code.Operand.{Operand}
 use Rattle.frames_code.specs.declared.code.Operand.TheVariants as operand
-use Rattle.frames_code.specs.declared.code.Target.{Target}
 use Rattle.frames_code.specs.declared.code.Base.{Base}
 use Rattle.frames_code.specs.declared.code.Base.TheVariants as base
 use Rattle.frames_code.specs.declared.code.Location.{Location}
@@ -14,16 +13,39 @@ use Rattle.frames_opt.specs.declared.facts.Known.{Known}
 use Rattle.frames_opt.specs.declared.facts.Known.TheVariants as known
 use Rattle.frames_opt.specs.declared.statuses.Status.{Status}
 use Rattle.frames_opt.specs.declared.statuses.Status.TheVariants as status
+use Rattle.frames_opt.specs.declared.rows.Held.{Held}
+use Rattle.frames_opt.specs.declared.rows.Held.TheVariants as held
+use Rattle.frames_opt.specs.declared.rows.Row.{Row}
 use Rattle.frames_opt.specs.inside.Facts.{known_of, is_target, is_near, is_cheap, further, indexed_from, behind}
 use Rattle.frames_opt.specs.inside.Rules.{simpler}
-use Rattle.frames_opt.specs.inside.Passes.{is_marked, fresh}
-use Rattle.frames_opt.specs.inside.Liveness.{reads, written, is_written}
+use Rattle.frames_opt.specs.inside.Passes.{jump_of, is_marked, fresh}
+use Rattle.frames_opt.specs.inside.Liveness.{reads, temporary_of, written, is_written}
 
--- ---- what each temporary of the new code holds before each instruction, beside that of the old one; of the first instruction, and of those from the
--- ---- ninth on, the same
+-- ---- what each temporary of the new code holds before each instruction, beside that of the old one: a row for each instruction has a mask of the dead
+-- ---- ones, and up to two that hold an index; before the first instruction all hold the same, and those from the ninth on always
 
-abbrev pub status_at : List (List Status) → (i k : ℕ) → Status
-status_at states i k = if nat_lt 0 i && nat_lt k 8 then get_or (get_or states i []) k status.Same else status.Same
+abbrev pub blank : Row
+blank = record { dead = 0; first = held.Nothing; second = held.Nothing }
+
+abbrev pub is_dead : ℕ → ℕ → Bool
+is_dead m k = nat_lt k 8 && (m / 2 ^ k % 2 == 1)
+
+abbrev pub or_held : Held → ℕ → Status → Status
+or_held held.Nothing k z = z
+or_held (held.Index j b size) k z = if j == k then status.Index b size else z
+
+abbrev pub status_of : Row → ℕ → Status
+status_of r k = if is_dead r.dead k then status.Dead else or_held r.first k (or_held r.second k status.Same)
+
+abbrev pub is_inside : List Row → ℕ → Bool
+is_inside states i = nat_lt 0 i && nat_lt i (length states)
+
+abbrev pub status_at : List Row → (i k : ℕ) → Status
+status_at states i k = if is_inside states i && nat_lt k 8 then status_of (get_or states i blank) k else status.Same
+
+-- the dead ones
+abbrev pub mask_at : List Row → ℕ → ℕ
+mask_at states i = if is_inside states i then (get_or states i blank).dead else 0
 
 abbrev pub is_same : Status → Bool
 is_same status.Same = true
@@ -86,20 +108,20 @@ place_by status.Same k = location.At (operand.Temporary k)
 place_by status.Dead k = location.At (operand.Temporary k)
 place_by (status.Index b size) k = location.Indexed b (operand.Temporary k) size
 
-abbrev pub place_at : List (List Status) → ℕ → Operand → Location
+abbrev pub place_at : List Row → ℕ → Operand → Location
 place_at states i (operand.Temporary k) = place_by (status_at states i k) k
 place_at states i (operand.Cell c) = location.At (operand.Cell c)
 place_at states i (operand.Constant v) = location.At (operand.Constant v)
 place_at states i (operand.Argument k) = location.At (operand.Argument k)
 
-abbrev pub place_of : List (List Status) → ℕ → Location → Location
+abbrev pub place_of : List Row → ℕ → Location → Location
 place_of states i (location.Statics o) = location.Statics o
 place_of states i (location.Frame o) = location.Frame o
 place_of states i (location.At x) = place_at states i x
 place_of states i (location.Indexed b y size) = location.Indexed b y size
 
 -- an access through an index that stayed
-abbrev pub placed : List (List Status) → ℕ → Instruction → Instruction
+abbrev pub placed : List Row → ℕ → Instruction → Instruction
 placed states i instruction.Nothing = instruction.Nothing
 placed states i (instruction.Move d x) = instruction.Move d x
 placed states i (instruction.Compute o d x y) = instruction.Compute o d x y
@@ -117,18 +139,18 @@ placed states i instruction.Exit = instruction.Exit
 placed states i instruction.Return = instruction.Return
 
 -- the temporary that is written does not count as the same behind
-abbrev pub is_lost : List (List Status) → ℕ → Option ℕ → Bool
+abbrev pub is_lost : List Row → ℕ → Option ℕ → Bool
 is_lost states i None = false
 is_lost states i (Some k) = not (is_same (status_at states (i + 1) k))
 
-abbrev pub is_left_out : List (List Status) → ℕ → Instruction → Bool
+abbrev pub is_left_out : List Row → ℕ → Instruction → Bool
 is_left_out states i x = is_lost states i (written x)
 
-abbrev pub swept_one : List (List Status) → ℕ → Instruction → Instruction
+abbrev pub swept_one : List Row → ℕ → Instruction → Instruction
 swept_one states i x = if is_left_out states i x then instruction.Nothing else placed states i x
 
 -- code from instruction i on
-abbrev pub swept : List (List Status) → ℕ → List Instruction → List Instruction
+abbrev pub swept : List Row → ℕ → List Instruction → List Instruction
 swept states i [] = []
 swept states i (x ∷ xs) = swept_one states i x ∷ swept states (i + 1) xs
 
@@ -141,7 +163,7 @@ fits room k status.Dead = true
 fits room k (status.Index b size) = is_near room b && is_cheap room (operand.Temporary k) size
 
 -- wherever instruction i leads, temporary k may be z
-abbrev pub leads : List (List Status) → ℕ → Instruction → ℕ → Status → Bool
+abbrev pub leads : List Row → ℕ → Instruction → ℕ → Status → Bool
 leads states i instruction.Nothing k z = accepts (status_at states (i + 1) k) z
 leads states i (instruction.Move d x) k z = accepts (status_at states (i + 1) k) z
 leads states i (instruction.Compute o d x y) k z = accepts (status_at states (i + 1) k) z
@@ -163,7 +185,7 @@ abbrev pub behind_it : ℕ → Instruction → Status → Status
 behind_it k x z = if is_written k x then status.Same else z
 
 -- such an instruction reads only what is the same
-abbrev pub stays_right : List (List Status) → ℕ → Instruction → ℕ → Status → Bool
+abbrev pub stays_right : List Row → ℕ → Instruction → ℕ → Status → Bool
 stays_right states i x k z = (is_same z || not (reads z k x)) && leads states i x k (behind_it k x z)
 
 -- the element that a reference leads on to from one whose index temporary k holds
@@ -196,26 +218,97 @@ is_given_up status.Dead z o on = true
 is_given_up status.Same z o on = false
 is_given_up (status.Index b size) z o on = (is_same z && accepts (status.Index b size) (index_of o)) || accepts (status.Index b size) (index_of on)
 
-abbrev pub drop_right : Room → List (List Status) → ℕ → Known → Instruction → ℕ → Bool
+abbrev pub drop_right : Room → List Row → ℕ → Known → Instruction → ℕ → Bool
 drop_right room states i o x k =
     if is_written k x then is_given_up (status_at states (i + 1) k) (status_at states i k) o (leads_on room k (status_at states i k) x) else accepts (status_at states (i + 1) k) (status_at states i k)
 
-abbrev pub is_right : Room → List (List Status) → ℕ → Known → Instruction → ℕ → Bool
+abbrev pub is_right : Room → List Row → ℕ → Known → Instruction → ℕ → Bool
 is_right room states i o x k =
     fits room k (status_at states i k) && (if is_left_out states i x then drop_right room states i o x k else stays_right states i x k (status_at states i k))
 
-abbrev pub all_right : Room → List (List Status) → ℕ → Known → Instruction → Bool
+-- ---- all at once: by masks where a temporary is dead, one by one where it holds an index at the instruction or where that leads
+
+abbrev pub bit_of : Option ℕ → ℕ
+bit_of None = 0
+bit_of (Some j) = if nat_lt j 8 then 2 ^ j else 0
+
+-- each of the first mask but the one that is written is of the second
+abbrev pub is_within : ℕ → ℕ → Option ℕ → Bool
+is_within m n w = bit_and m (bit_or n (bit_of w)) == m
+
+abbrev pub names_dead : ℕ → Operand → Bool
+names_dead m (operand.Temporary j) = is_dead m j
+names_dead m (operand.Cell c) = false
+names_dead m (operand.Constant v) = false
+names_dead m (operand.Argument j) = false
+
+abbrev pub through_dead : ℕ → Location → Bool
+through_dead m (location.Statics o) = false
+through_dead m (location.Frame o) = false
+through_dead m (location.At x) = names_dead m x
+through_dead m (location.Indexed b y size) = names_dead m y
+
+-- an instruction reads one of these, of which there are some
+abbrev pub reads_dead : ℕ → Instruction → Bool
+reads_dead m instruction.Nothing = false
+reads_dead m (instruction.Move d x) = names_dead m x
+reads_dead m (instruction.Compute o d x y) = names_dead m x || names_dead m y
+reads_dead m (instruction.Convert c d x) = names_dead m x
+reads_dead m (instruction.Load w d l) = through_dead m l
+reads_dead m (instruction.Store w x l) = names_dead m x || through_dead m l
+reads_dead m (instruction.Address d l) = through_dead m l
+reads_dead m (instruction.Element d x y size) = names_dead m x || names_dead m y
+reads_dead m (instruction.Jump to) = false
+reads_dead m (instruction.Branch t x y to) = names_dead m x || names_dead m y
+reads_dead m (instruction.Call f) = true
+reads_dead m instruction.PutByte = true
+reads_dead m instruction.GetByte = true
+reads_dead m instruction.Exit = true
+reads_dead m instruction.Return = is_dead m 0
+
+-- these are dead wherever instruction i leads, but for the one that it writes
+abbrev pub dead_leads : List Row → ℕ → Instruction → ℕ → Bool
+dead_leads states i instruction.Nothing m = is_within m (mask_at states (i + 1)) None
+dead_leads states i (instruction.Move d x) m = is_within m (mask_at states (i + 1)) (temporary_of d)
+dead_leads states i (instruction.Compute o d x y) m = is_within m (mask_at states (i + 1)) (temporary_of d)
+dead_leads states i (instruction.Convert c d x) m = is_within m (mask_at states (i + 1)) (temporary_of d)
+dead_leads states i (instruction.Load w d l) m = is_within m (mask_at states (i + 1)) (temporary_of d)
+dead_leads states i (instruction.Store w x l) m = is_within m (mask_at states (i + 1)) None
+dead_leads states i (instruction.Address d l) m = is_within m (mask_at states (i + 1)) (temporary_of d)
+dead_leads states i (instruction.Element d x y size) m = is_within m (mask_at states (i + 1)) (temporary_of d)
+dead_leads states i (instruction.Jump to) m = is_within m (mask_at states to) None
+dead_leads states i (instruction.Branch t x y to) m = is_within m (mask_at states (i + 1)) None && is_within m (mask_at states to) None
+dead_leads states i (instruction.Call f) m = is_within m (mask_at states (i + 1)) None
+dead_leads states i instruction.PutByte m = is_within m (mask_at states (i + 1)) None
+dead_leads states i instruction.GetByte m = is_within m (mask_at states (i + 1)) None
+dead_leads states i instruction.Exit m = true
+dead_leads states i instruction.Return m = true
+
+abbrev pub masks_right : List Row → ℕ → Instruction → ℕ → Bool
+masks_right states i x m =
+    if is_left_out states i x then is_within m (mask_at states (i + 1)) (written x) else not (reads_dead m x) && dead_leads states i x m
+
+abbrev pub dead_right : List Row → ℕ → Instruction → Bool
+dead_right states i x = (mask_at states i == 0) || masks_right states i x (mask_at states i)
+
+abbrev pub held_right : Room → List Row → ℕ → Known → Instruction → Held → Bool
+held_right room states i o x held.Nothing = true
+held_right room states i o x (held.Index j b size) = is_right room states i o x j
+
+-- those that hold an index before instruction n are right at instruction i
+abbrev pub row_right : Room → List Row → ℕ → Known → Instruction → ℕ → Bool
+row_right room states i o x n =
+    if is_inside states n then held_right room states i o x (get_or states n blank).first && held_right room states i o x (get_or states n blank).second else true
+
+abbrev pub jump_right : Room → List Row → ℕ → Known → Instruction → Option ℕ → Bool
+jump_right room states i o x None = true
+jump_right room states i o x (Some to) = row_right room states i o x to
+
+abbrev pub all_right : Room → List Row → ℕ → Known → Instruction → Bool
 all_right room states i o x =
-    is_right room states i o x 0
-    && (is_right room states i o x 1
-    && (is_right room states i o x 2
-    && (is_right room states i o x 3
-    && (is_right room states i o x 4
-    && (is_right room states i o x 5
-    && (is_right room states i o x 6
-    && is_right room states i o x 7))))))
+    dead_right states i x && (row_right room states i o x i && (row_right room states i o x (i + 1) && jump_right room states i o x (jump_of x)))
 
 -- of code from instruction i on, by what is offered at each instruction
-abbrev pub are_right : Room → List (List Status) → List Known → ℕ → List Instruction → Bool
+abbrev pub are_right : Room → List Row → List Known → ℕ → List Instruction → Bool
 are_right room states list i [] = true
 are_right room states list i (x ∷ xs) = all_right room states i (get_or list i known.Unknown) x && are_right room states list (i + 1) xs
