@@ -1,5 +1,5 @@
--- An instruction does the same where only temporaries differ that are dead.
-use Rattle.std.proofs.Common.{◌≡◌, ◌⊎◌, inl, inr, ⊎_elim, ℕ, zero, suc, ◌+◌, List, [], ◌∷◌, length, Option, Some, None, Bool, true, false, refl, sym, ap, ◌∙◌, subst}
+-- An instruction does the same where only temporaries differ that are dead, or that keep an index.
+use Rattle.std.proofs.Common.{◌≡◌, ℕ, zero, suc, ◌+◌, List, [], ◌∷◌, length, Option, Some, None, Bool, true, false, refl, sym, ap, ◌∙◌, subst}
 use Rattle.std.specs.Prelude.{◌==◌, ◌&&◌, ◌||◌, if◌then◌else◌}
 use Rattle.std.proofs.lemmas.Bool.{eqb-true, eqb-false, eq-eqb, ne_eqb}
 use Rattle.frames_code.specs.declared.code.Operand.{Operand}
@@ -14,7 +14,11 @@ use Rattle.frames_code.specs.declared.code.Location.TheVariants as location
 use Rattle.frames_code.specs.declared.code.Instruction.{Instruction}
 use Rattle.frames_code.specs.Code.{Function, Program, area_home, frame_bytes}
 use Rattle.frames_code.specs.Run.{Value, Values, Bytes, Frame, State, Reference, Memory, Progress, running, ended, stuck, word, value, word_at, word_in, reference_in, set, with_at, unset, next, past, place, base_of, indexed, arrays, memory, memory_among, changed_among, with_frames, with_memory, with_element, element_in, fits, gives, gives_word, loaded, stored, function_at, bytes_of, name_of, ◌>>=◌}
+use Rattle.frames_opt.specs.declared.statuses.Status.{Status}
+use Rattle.frames_opt.specs.declared.statuses.Status.TheVariants as status
 use Rattle.frames_opt.specs.inside.Liveness.{names, is_through, reads, temporary_of, written, is_number, is_written}
+use Rattle.frames_opt.specs.inside.Sweep.{is_same, is_same_base, accepts}
+use Rattle.frames_opt.proofs.Acts.{base_at, name_in, home_in, not_true}
 
 -- ---- the same functions but for their code
 
@@ -110,38 +114,74 @@ right_true false b e = absurd (subst IsNo e tt)
 pub not_both : (b : Bool) → b ≡ true → b ≡ false → ⊥
 not_both b e g = subst IsNo (sym g ∙ e) tt
 
--- ---- states that differ in dead temporaries
+-- ---- states that differ in temporaries that are dead, or that keep an index
 
-pub record Agree (dead : ℕ → Bool) (s : State) (u a : Values) : Type 0 where
-  pub temporaries : (k : ℕ) → (u k ≡ s.temporaries k) ⊎ (dead k ≡ true)
+-- what a temporary of the new code holds beside that of the old code, where the frame has a name, and its arrays begin `home` bytes above its start
+abbrev pub Beside : (name home : ℕ) → Status → (m n : Option Value) → Type 0
+Beside name home status.Same m n = n ≡ m
+Beside name home status.Dead m n = Unit {0}
+Beside name home (status.Index b size) m n = reference_in m ≡ indexed (base_at name home b) size (word_in n)
+
+pub same_is : (z : Status) → is_same z ≡ true → z ≡ status.Same
+same_is status.Same e = refl
+same_is status.Dead e = absurd (not_true e)
+same_is (status.Index b size) e = absurd (not_true e)
+
+module _ (name home : ℕ) where
+  pub same_if : (z : Status) (m n : Option Value) → is_same z ≡ true → Beside name home z m n → n ≡ m
+  same_if status.Same m n e h = h
+  same_if status.Dead m n e h = absurd (not_true e)
+  same_if (status.Index b size) m n e h = absurd (not_true e)
+
+  base_if : (b c : Base) → is_same_base b c ≡ true → c ≡ b
+  base_if (base.Statics o) (base.Statics u) e = ap base.Statics (sym (eqb-true o u e))
+  base_if (base.Statics o) (base.Frame u) e = absurd (not_true e)
+  base_if (base.Frame o) (base.Statics u) e = absurd (not_true e)
+  base_if (base.Frame o) (base.Frame u) e = ap base.Frame (sym (eqb-true o u e))
+
+  pub accepted : (y z : Status) (m n : Option Value) → accepts y z ≡ true → Beside name home z m n → Beside name home y m n
+  accepted status.Dead z m n e h = tt
+  accepted status.Same status.Same m n e h = h
+  accepted status.Same status.Dead m n e h = absurd (not_true e)
+  accepted status.Same (status.Index c width) m n e h = absurd (not_true e)
+  accepted (status.Index b size) status.Same m n e h = absurd (not_true e)
+  accepted (status.Index b size) status.Dead m n e h = absurd (not_true e)
+  accepted (status.Index b size) (status.Index c width) m n e h =
+      let one : c ≡ b = base_if b c (left_true (is_same_base b c) (size == width) e) in
+      let two : width ≡ size = sym (eqb-true size width (right_true (is_same_base b c) (size == width) e)) in
+      h ∙ (ap (λ d. indexed (base_at name home d) width (word_in n)) one ∙ ap (λ w. indexed (base_at name home b) w (word_in n)) two)
+
+pub record Agree (name home : ℕ) (status : ℕ → Status) (s : State) (u a : Values) : Type 0 where
+  pub temporaries : (k : ℕ) → Beside name home (status k) (s.temporaries k) (u k)
   pub arguments : (k : ℕ) (v : Value) → s.arguments k ≡ Some v → a k ≡ Some v
 
 -- a temporary that the next instruction reads is the same
-pub same_where_read : (y : Instruction) (here : ℕ → Bool) (s : State) (u a : Values) → ((k : ℕ) → here k ≡ true → reads k y ≡ false) → Agree here s u a → (k : ℕ) → reads k y ≡ true → u k ≡ s.temporaries k
-same_where_read y here s u a unread agree k e = ⊎_elim (λ g. g) (λ g. absurd (not_both (reads k y) e (unread k g))) (agree.temporaries k)
+pub same_where_read : (name home : ℕ) (y : Instruction) (here : ℕ → Status) (s : State) (u a : Values) → ((k : ℕ) → reads (here k) k y ≡ true → is_same (here k) ≡ true) → Agree name home here s u a
+    → (k : ℕ) → reads (here k) k y ≡ true → u k ≡ s.temporaries k
+same_where_read name home y here s u a same agree k e = same_if name home (here k) (s.temporaries k) (u k) (same k e) (agree.temporaries k)
 
--- the second has gone on from the first, where it goes on; what is dead is so before the next instruction
-pub record Goes (dead : ℕ → Bool) (s : State) (z : Progress) : Type 0 where
+-- the second has gone on from the first, where it goes on
+pub record Goes (p : Program) (status : ℕ → Status) (s : State) (z : Progress) : Type 0 where
   pub others : Values
   pub given : Values
   pub is : z ≡ running (over others given s)
-  pub agree : Agree dead s others given
+  pub agree : Agree (name_in p s) (home_in p s) status s others given
 
-abbrev pub Match : (State → ℕ → Bool) → Progress → Progress → Type 0
-Match dead (running s) z = Goes (dead s) s z
-Match dead (ended status input trace) z = z ≡ ended status input trace
-Match dead stuck z = Unit {0}
+abbrev pub Match : Program → (State → ℕ → Status) → Progress → Progress → Type 0
+Match p now (running s) z = Goes p (now s) s z
+Match p now (ended status input trace) z = z ≡ ended status input trace
+Match p now stuck z = Unit {0}
 
-module _ (dead : State → ℕ → Bool) where
-  pub match_bind : {A : Type 0} (o o2 : Option A) (go go2 : A → Progress) → ((x : A) → o ≡ Some x → o2 ≡ Some x) → ((x : A) → Match dead (go x) (go2 x)) → Match dead (o >>= go) (o2 >>= go2)
+module _ (p : Program) (now : State → ℕ → Status) where
+  pub match_bind : {A : Type 0} (o o2 : Option A) (go go2 : A → Progress) → ((x : A) → o ≡ Some x → o2 ≡ Some x) → ((x : A) → Match p now (go x) (go2 x)) → Match p now (o >>= go) (o2 >>= go2)
   match_bind None o2 go go2 below each = tt
-  match_bind (Some x) o2 go go2 below each = subst (λ m. Match dead (go x) (m >>= go2)) (sym (below x refl)) (each x)
+  match_bind (Some x) o2 go go2 below each = subst (λ m. Match p now (go x) (m >>= go2)) (sym (below x refl)) (each x)
 
-  pub match_left : {A : Type 0} (o : Option A) (go : A → Progress) (z : Progress) → ((x : A) → Match dead (go x) z) → Match dead (o >>= go) z
+  pub match_left : {A : Type 0} (o : Option A) (go : A → Progress) (z : Progress) → ((x : A) → o ≡ Some x → Match p now (go x) z) → Match p now (o >>= go) z
   match_left None go z each = tt
-  match_left (Some x) go z each = each x
+  match_left (Some x) go z each = each x refl
 
-  pub match_if : (t : Bool) (x x2 : Progress) → Match dead x x2 → Match dead (if t then x else stuck) (if t then x2 else stuck)
+  pub match_if : (t : Bool) (x x2 : Progress) → Match p now x x2 → Match p now (if t then x else stuck) (if t then x2 else stuck)
   match_if true x x2 m = m
   match_if false x x2 m = tt
 
@@ -157,7 +197,7 @@ indexed_below : (r : Reference) (size : ℕ) (o o2 : Option ℕ) → ((n : ℕ) 
 indexed_below r size None o2 below w e = absurd (let x : ⊥ = cc in x)
 indexed_below r size (Some n) o2 below w e = ap (indexed r size) (below n refl) ∙ e
 
-module _ (p q : Program) (r : Sized p q) (dead : State → ℕ → Bool) (s : State) where
+module _ (p q : Program) (r : Sized p q) (s : State) where
   module _ (u a : Values) (args : (k : ℕ) (v : Value) → s.arguments k ≡ Some v → a k ≡ Some v) where
     abbrev t : State
     t = over u a s
@@ -184,6 +224,11 @@ module _ (p q : Program) (r : Sized p q) (dead : State → ℕ → Bool) (s : St
         ap (λ n. reference_to n (area_home (function_at q s.frame.function) + o)) (name_same p q r s.frame s.waiting)
         ∙ ap (λ n. reference_to (name_of p s.frame s.waiting) (n + o)) (home_at p q r s.frame.function)
 
+    -- by its name and where its arrays begin
+    pub base_is : (b : Base) → base_of q t b ≡ base_at (name_in p s) (home_in p s) b
+    base_is (base.Statics o) = refl
+    base_is (base.Frame o) = base_same (base.Frame o)
+
     pub place_below : (l : Location) → Reads (λ k. is_through k l) → (w : Reference) → place p s l ≡ Some w → place q t l ≡ Some w
     place_below (location.Statics o) same w e = e
     place_below (location.Frame o) same w e =
@@ -193,34 +238,110 @@ module _ (p q : Program) (r : Sized p q) (dead : State → ℕ → Bool) (s : St
     place_below (location.Indexed b y size) same w e =
         ap (λ r. indexed r size (word_at t y)) (base_same b) ∙ indexed_below (base_of p s b) size (word_at s y) (word_at t y) (word_at_below y same) w e
 
-  -- ---- an instruction that goes on to the next
+-- ---- the bytes of a list are written
 
-  module _ (u a : Values) (y : Instruction) (here there : ℕ → Bool) (stays : (k : ℕ) → here k ≡ true → is_written k y ≡ false → there k ≡ true) (agree : Agree here s u a)
-      (behind : (s2 : State) → s2.frame.function ≡ s.frame.function → s2.frame.at ≡ s.frame.at + 1 → dead s2 ≡ there) where
-    abbrev t2 : State
-    t2 = over u a s
+module _ (p : Program) where
+  pub bytes_changed : (fs : List Frame) (l : ℕ) (b : Bytes) → bytes_of p (changed_among p fs l b) ≡ bytes_of p fs
+  bytes_changed [] l b = refl
+  bytes_changed (f ∷ fs) l b = on (bytes_changed fs l b) (name_of p f fs == l)
+    where
+      on : bytes_of p (changed_among p fs l b) ≡ bytes_of p fs → (t : Bool) → bytes_of p (if t then record f { area = b } ∷ fs else f ∷ changed_among p fs l b) ≡ bytes_of p (f ∷ fs)
+      on later true = refl
+      on later false = ap (λ n. frame_bytes (function_at p f.function) + n) later
 
-    -- a temporary that is not written
-    kept_agrees : (k : ℕ) → is_written k y ≡ false → (u k ≡ s.temporaries k) ⊎ (there k ≡ true)
-    kept_agrees k w = ⊎_elim (λ g. inl g) (λ g. inr (stays k g w)) (agree.temporaries k)
+  -- a state by what is in front and behind
+  abbrev put_in : State → Bool → ℕ → Bytes → State
+  put_in s c l b = with_frames s (if c then record s.frame { area = b } ∷ s.waiting else s.frame ∷ changed_among p s.waiting (suc l) b)
 
-    -- temporary j is written
-    written_agrees : (j : ℕ) (v : Value) → written y ≡ Some j → (k : ℕ) → (with_at u j v k ≡ with_at s.temporaries j v k) ⊎ (there k ≡ true)
-    written_agrees j v w k = on (k == j) refl
-      where
-        on : (b : Bool) → (k == j) ≡ b → ((if k == j then Some v else u k) ≡ (if k == j then Some v else s.temporaries k)) ⊎ (there k ≡ true)
-        on true e = inl (rw e refl)
-        on false e =
-            let other : is_written k y ≡ false = ap (is_number k) w ∙ ne_eqb j k (λ g. eqb-false k j e (sym g)) in
-            rw e (kept_agrees k other)
+  pub put_function : (s : State) (l : ℕ) (b : Bytes) → (with_memory p s l b).frame.function ≡ s.frame.function
+  put_function s zero b = refl
+  put_function s (suc l) b = on (name_of p s.frame s.waiting == suc l)
+    where
+      on : (c : Bool) → (put_in s c l b).frame.function ≡ s.frame.function
+      on true = refl
+      on false = refl
 
-    pub none_written : written y ≡ None → (k : ℕ) → (u k ≡ s.temporaries k) ⊎ (there k ≡ true)
-    none_written w k = kept_agrees k (ap (is_number k) w)
+  pub put_at : (s : State) (l : ℕ) (b : Bytes) → (with_memory p s l b).frame.at ≡ s.frame.at
+  put_at s zero b = refl
+  put_at s (suc l) b = on (name_of p s.frame s.waiting == suc l)
+    where
+      on : (c : Bool) → (put_in s c l b).frame.at ≡ s.frame.at
+      on true = refl
+      on false = refl
 
-    goes : (s2 : State) (z : Progress) → s2.frame.function ≡ s.frame.function → s2.frame.at ≡ s.frame.at + 1 → Goes there s2 z → Goes (dead s2) s2 z
-    goes s2 z f e g = subst (λ d. Goes d s2 z) (sym (behind s2 f e)) g
+  pub put_temporaries : (s : State) (l : ℕ) (b : Bytes) → (with_memory p s l b).temporaries ≡ s.temporaries
+  put_temporaries s zero b = refl
+  put_temporaries s (suc l) b = on (name_of p s.frame s.waiting == suc l)
+    where
+      on : (c : Bool) → (put_in s c l b).temporaries ≡ s.temporaries
+      on true = refl
+      on false = refl
 
-    pub gives_match : (d : Target) (v : Value) → written y ≡ temporary_of d → Goes (dead (set d v (next s))) (set d v (next s)) (gives d t2 v)
+  pub put_arguments : (s : State) (l : ℕ) (b : Bytes) → (with_memory p s l b).arguments ≡ s.arguments
+  put_arguments s zero b = refl
+  put_arguments s (suc l) b = on (name_of p s.frame s.waiting == suc l)
+    where
+      on : (c : Bool) → (put_in s c l b).arguments ≡ s.arguments
+      on true = refl
+      on false = refl
+
+  pub put_name : (s : State) (l : ℕ) (b : Bytes) → name_in p (with_memory p s l b) ≡ name_in p s
+  put_name s zero b = refl
+  put_name s (suc l) b = on (name_of p s.frame s.waiting == suc l)
+    where
+      on : (c : Bool) → name_in p (put_in s c l b) ≡ name_in p s
+      on true = refl
+      on false = ap (λ n. frame_bytes (function_at p s.frame.function) + n) (bytes_changed s.waiting (suc l) b)
+
+  pub put_home : (s : State) (l : ℕ) (b : Bytes) → home_in p (with_memory p s l b) ≡ home_in p s
+  put_home s l b = ap (λ k. area_home (function_at p k)) (put_function s l b)
+
+-- ---- an instruction that goes on to the next
+
+module _ (p q : Program) (r : Sized p q) (now : State → ℕ → Status) (s : State) (u a : Values) (y : Instruction) (here there : ℕ → Status)
+    (stays : (k : ℕ) → is_written k y ≡ false → accepts (there k) (here k) ≡ true) (agree : Agree (name_in p s) (home_in p s) here s u a)
+    (behind : (s2 : State) → s2.frame.function ≡ s.frame.function → s2.frame.at ≡ s.frame.at + 1 → now s2 ≡ there) where
+  abbrev t2 : State
+  t2 = over u a s
+
+  abbrev name : ℕ
+  name = name_in p s
+
+  abbrev home : ℕ
+  home = home_in p s
+
+  -- a temporary that is not written
+  kept_agrees : (k : ℕ) → is_written k y ≡ false → Beside name home (there k) (s.temporaries k) (u k)
+  kept_agrees k w = accepted name home (there k) (here k) (s.temporaries k) (u k) (stays k w) (agree.temporaries k)
+
+  pub none_written : written y ≡ None → (k : ℕ) → Beside name home (there k) (s.temporaries k) (u k)
+  none_written w k = kept_agrees k (ap (is_number k) w)
+
+  goes : (s2 : State) (z : Progress) → s2.frame.function ≡ s.frame.function → s2.frame.at ≡ s.frame.at + 1 → Goes p there s2 z → Goes p (now s2) s2 z
+  goes s2 z f e g = subst (λ d. Goes p d s2 z) (sym (behind s2 f e)) g
+
+  -- ---- temporary j gets another value in the second
+
+  put_agrees : (j : ℕ) (v : Value) (u2 : Values) → written y ≡ Some j → Beside name home (there j) (Some v) (u2 j) → ((k : ℕ) → (k == j) ≡ false → u2 k ≡ u k)
+      → (k : ℕ) → Beside name home (there k) (with_at s.temporaries j v k) (u2 k)
+  put_agrees j v u2 w put same k = on (k == j) refl
+    where
+      on : (b : Bool) → (k == j) ≡ b → Beside name home (there k) (if k == j then Some v else s.temporaries k) (u2 k)
+      on true e = rw e (subst (λ i. Beside name home (there i) (Some v) (u2 i)) (sym (eqb-true k j e)) put)
+      on false e =
+          let other : is_written k y ≡ false = ap (is_number k) w ∙ ne_eqb j k (λ g. eqb-false k j e (sym g)) in
+          rw e (subst (λ m. Beside name home (there k) (s.temporaries k) m) (sym (same k e)) (kept_agrees k other))
+
+  -- ---- an instruction that stays: what it writes is the same
+
+  module _ (fresh : (j : ℕ) → written y ≡ Some j → accepts (there j) status.Same ≡ true) where
+    written_agrees : (j : ℕ) (v : Value) → written y ≡ Some j → (k : ℕ) → Beside name home (there k) (with_at s.temporaries j v k) (with_at u j v k)
+    written_agrees j v w =
+        let here_too : with_at u j v j ≡ Some v = ap (λ (b : Bool). if b then Some v else u j) (eq-eqb j j refl) in
+        put_agrees j v (with_at u j v) w (accepted name home (there j) status.Same (Some v) (with_at u j v j) (fresh j w) here_too)
+        (λ k e. ap (λ (b : Bool). if b then Some v else u k) e)
+
+    pub gives_match : (d : Target) (v : Value) → written y ≡ temporary_of d → Goes p (now (set d v (next s))) (set d v (next s)) (gives d t2 v)
     gives_match (target.Temporary j) v w =
         goes (set (target.Temporary j) v (next s)) (gives (target.Temporary j) t2 v) refl refl
         (record { others = with_at u j v; given = unset; is = refl; agree = record { temporaries = written_agrees j v w; arguments = λ k v2 e. e } })
@@ -228,7 +349,7 @@ module _ (p q : Program) (r : Sized p q) (dead : State → ℕ → Bool) (s : St
         goes (set (target.Cell c) v (next s)) (gives (target.Cell c) t2 v) refl refl
         (record { others = u; given = unset; is = refl; agree = record { temporaries = none_written w; arguments = λ k v2 e. e } })
 
-    pub move_match : (d : Target) (v : Value) → written y ≡ temporary_of d → Goes (dead (set d v (past s))) (set d v (past s)) (running (set d v (past t2)))
+    pub move_match : (d : Target) (v : Value) → written y ≡ temporary_of d → Goes p (now (set d v (past s))) (set d v (past s)) (running (set d v (past t2)))
     move_match (target.Temporary j) v w =
         goes (set (target.Temporary j) v (past s)) (running (set (target.Temporary j) v (past t2))) refl refl
         (record { others = with_at u j v; given = a; is = refl; agree = record { temporaries = written_agrees j v w; arguments = agree.arguments } })
@@ -236,90 +357,72 @@ module _ (p q : Program) (r : Sized p q) (dead : State → ℕ → Bool) (s : St
         goes (set (target.Cell c) v (past s)) (running (set (target.Cell c) v (past t2))) refl refl
         (record { others = u; given = a; is = refl; agree = record { temporaries = none_written w; arguments = agree.arguments } })
 
-    pub loaded_match : (w : Width) (d : Target) (v : Reference) → written y ≡ temporary_of d → Match dead (loaded p s w d v) (loaded q t2 w d v)
+    pub loaded_match : (w : Width) (d : Target) (v : Reference) → written y ≡ temporary_of d → Match p now (loaded p s w d v) (loaded q t2 w d v)
     loaded_match w d v wr =
-        match_bind dead (memory p s v.list) (memory q t2 v.list)
+        match_bind p now (memory p s v.list) (memory q t2 v.list)
         (λ m. if fits w v.offset m then element_in w m.bytes v.offset >>= gives_word d s else stuck)
         (λ m. if fits w v.offset m then element_in w m.bytes v.offset >>= gives_word d t2 else stuck)
         (λ m e. memory_same p q r s u a v.list ∙ e)
-        (λ m. match_if dead (fits w v.offset m) (element_in w m.bytes v.offset >>= gives_word d s) (element_in w m.bytes v.offset >>= gives_word d t2)
-        (match_bind dead (element_in w m.bytes v.offset) (element_in w m.bytes v.offset) (gives_word d s) (gives_word d t2) (λ k e. e) (λ k. gives_match d (word k) wr)))
+        (λ m. match_if p now (fits w v.offset m) (element_in w m.bytes v.offset >>= gives_word d s) (element_in w m.bytes v.offset >>= gives_word d t2)
+        (match_bind p now (element_in w m.bytes v.offset) (element_in w m.bytes v.offset) (gives_word d s) (gives_word d t2) (λ k e. e) (λ k. gives_match d (word k) wr)))
 
-    put_function : (s2 : State) (l : ℕ) (b : Bytes) → (with_memory p s2 l b).frame.function ≡ s2.frame.function
-    put_function s2 zero b = refl
-    put_function s2 (suc l) b = on (name_of p s2.frame s2.waiting == suc l)
-      where
-        on : (c : Bool) → (with_frames s2 (if c then record s2.frame { area = b } ∷ s2.waiting else s2.frame ∷ changed_among p s2.waiting (suc l) b)).frame.function ≡ s2.frame.function
-        on true = refl
-        on false = refl
+  moved_beside : (name2 home2 : ℕ) (m : Values) → name2 ≡ name → home2 ≡ home → m ≡ s.temporaries → ((k : ℕ) → Beside name home (there k) (s.temporaries k) (u k)) → (k : ℕ) → Beside name2 home2 (there k) (m k) (u k)
+  moved_beside name2 home2 m en eh em f k =
+      subst (λ x. Beside x home2 (there k) (m k) (u k)) (sym en)
+      (subst (λ x. Beside name x (there k) (m k) (u k)) (sym eh) (subst (λ (x : Values). Beside name home (there k) (x k) (u k)) (sym em) (f k)))
 
-    put_at : (s2 : State) (l : ℕ) (b : Bytes) → (with_memory p s2 l b).frame.at ≡ s2.frame.at
-    put_at s2 zero b = refl
-    put_at s2 (suc l) b = on (name_of p s2.frame s2.waiting == suc l)
-      where
-        on : (c : Bool) → (with_frames s2 (if c then record s2.frame { area = b } ∷ s2.waiting else s2.frame ∷ changed_among p s2.waiting (suc l) b)).frame.at ≡ s2.frame.at
-        on true = refl
-        on false = refl
+  memory_match : (l : ℕ) (b : Bytes) → written y ≡ None → Goes p (now (with_memory p (next s) l b)) (with_memory p (next s) l b) (running (with_memory q (next t2) l b))
+  memory_match l b w =
+      let s2 = with_memory p (next s) l b in
+      goes s2 (running (with_memory q (next t2) l b)) (put_function p (next s) l b) (put_at p (next s) l b)
+      (record {
+        others = u;
+        given = unset;
+        is = ap running (memory_put p q r (next s) u unset l b);
+        agree = record {
+          temporaries = moved_beside (name_in p s2) (home_in p s2) s2.temporaries (put_name p (next s) l b) (put_home p (next s) l b) (put_temporaries p (next s) l b) (none_written w);
+          arguments = subst (λ (m : Values). (k : ℕ) (v : Value) → m k ≡ Some v → unset k ≡ Some v) (sym (put_arguments p (next s) l b)) (λ k v e. e);
+        };
+      })
 
-    put_temporaries : (s2 : State) (l : ℕ) (b : Bytes) → (with_memory p s2 l b).temporaries ≡ s2.temporaries
-    put_temporaries s2 zero b = refl
-    put_temporaries s2 (suc l) b = on (name_of p s2.frame s2.waiting == suc l)
-      where
-        on : (c : Bool) → (with_frames s2 (if c then record s2.frame { area = b } ∷ s2.waiting else s2.frame ∷ changed_among p s2.waiting (suc l) b)).temporaries ≡ s2.temporaries
-        on true = refl
-        on false = refl
+  pub stored_match : (w : Width) (n : ℕ) (v : Reference) → written y ≡ None → Match p now (stored p s w n v) (stored q t2 w n v)
+  stored_match w n v wr =
+      match_bind p now (memory p s v.list) (memory q t2 v.list)
+      (λ m. if fits w v.offset m then running (with_memory p (next s) v.list (with_element w m.bytes v.offset n)) else stuck)
+      (λ m. if fits w v.offset m then running (with_memory q (next t2) v.list (with_element w m.bytes v.offset n)) else stuck)
+      (λ m e. memory_same p q r s u a v.list ∙ e)
+      (λ m. match_if p now (fits w v.offset m) (running (with_memory p (next s) v.list (with_element w m.bytes v.offset n))) (running (with_memory q (next t2) v.list (with_element w m.bytes v.offset n)))
+      (memory_match v.list (with_element w m.bytes v.offset n) wr))
 
-    put_arguments : (s2 : State) (l : ℕ) (b : Bytes) → (with_memory p s2 l b).arguments ≡ s2.arguments
-    put_arguments s2 zero b = refl
-    put_arguments s2 (suc l) b = on (name_of p s2.frame s2.waiting == suc l)
-      where
-        on : (c : Bool) → (with_frames s2 (if c then record s2.frame { area = b } ∷ s2.waiting else s2.frame ∷ changed_among p s2.waiting (suc l) b)).arguments ≡ s2.arguments
-        on true = refl
-        on false = refl
+  -- ---- an instruction that is left out: the temporary that it writes may be what it was
 
-    memory_match : (l : ℕ) (b : Bytes) → written y ≡ None → Goes (dead (with_memory p (next s) l b)) (with_memory p (next s) l b) (running (with_memory q (next t2) l b))
-    memory_match l b w =
-        goes (with_memory p (next s) l b) (running (with_memory q (next t2) l b)) (put_function (next s) l b) (put_at (next s) l b)
-        (record {
-          others = u;
-          given = unset;
-          is = ap running (memory_put p q r (next s) u unset l b);
-          agree = record {
-            temporaries = subst (λ (m : Values). (k : ℕ) → (u k ≡ m k) ⊎ (there k ≡ true)) (sym (put_temporaries (next s) l b)) (none_written w);
-            arguments = subst (λ (m : Values). (k : ℕ) (v : Value) → m k ≡ Some v → unset k ≡ Some v) (sym (put_arguments (next s) l b)) (λ k v e. e);
-          };
-        })
+  module _ (j : ℕ) (w : written y ≡ Some j) where
+    dropped_agrees : (v : Value) → Beside name home (there j) (Some v) (u j) → (k : ℕ) → Beside name home (there k) (with_at s.temporaries j v k) (u k)
+    dropped_agrees v put = put_agrees j v u w put (λ k e. refl)
 
-    pub stored_match : (w : Width) (n : ℕ) (v : Reference) → written y ≡ None → Match dead (stored p s w n v) (stored q t2 w n v)
-    stored_match w n v wr =
-        match_bind dead (memory p s v.list) (memory q t2 v.list)
-        (λ m. if fits w v.offset m then running (with_memory p (next s) v.list (with_element w m.bytes v.offset n)) else stuck)
-        (λ m. if fits w v.offset m then running (with_memory q (next t2) v.list (with_element w m.bytes v.offset n)) else stuck)
-        (λ m e. memory_same p q r s u a v.list ∙ e)
-        (λ m. match_if dead (fits w v.offset m) (running (with_memory p (next s) v.list (with_element w m.bytes v.offset n))) (running (with_memory q (next t2) v.list (with_element w m.bytes v.offset n)))
-        (memory_match v.list (with_element w m.bytes v.offset n) wr))
-
-    -- ---- an instruction that is left out, where the temporary that it writes is dead after it
-
-    dropped_agrees : (j : ℕ) (v : Value) → written y ≡ Some j → there j ≡ true → (k : ℕ) → (u k ≡ with_at s.temporaries j v k) ⊎ (there k ≡ true)
-    dropped_agrees j v w lost k = on (k == j) refl
-      where
-        on : (b : Bool) → (k == j) ≡ b → (u k ≡ (if k == j then Some v else s.temporaries k)) ⊎ (there k ≡ true)
-        on true e = inr (subst (λ i. there i ≡ true) (sym (eqb-true k j e)) lost)
-        on false e =
-            let other : is_written k y ≡ false = ap (is_number k) w ∙ ne_eqb j k (λ g. eqb-false k j e (sym g)) in
-            rw e (kept_agrees k other)
-
-    pub gives_dropped : (j : ℕ) → written y ≡ Some j → there j ≡ true → (d : Target) (v : Value) → written y ≡ temporary_of d → Goes (dead (set d v (next s))) (set d v (next s)) (running (past t2))
-    gives_dropped j w lost (target.Temporary i) v e =
+    pub gives_dropped : (d : Target) (v : Value) → written y ≡ temporary_of d → Beside name home (there j) (Some v) (u j) → Goes p (now (set d v (next s))) (set d v (next s)) (running (past t2))
+    gives_dropped (target.Temporary i) v e put =
         let same : i ≡ j = same_some i j (sym e ∙ w) in
         goes (set (target.Temporary i) v (next s)) (running (past t2)) refl refl
-        (record { others = u; given = a; is = refl; agree = record { temporaries = dropped_agrees i v e (subst (λ m. there m ≡ true) (sym same) lost); arguments = λ k v2 g. absurd (none_some v2 g) } })
-    gives_dropped j w lost (target.Cell c) v e = absurd (no_some j (written y) w e)
+        (record {
+          others = u;
+          given = a;
+          is = refl;
+          agree = record {
+            temporaries = subst (λ x. (k : ℕ) → Beside name home (there k) (with_at s.temporaries x v k) (u k)) (sym same) (dropped_agrees v put);
+            arguments = λ k v2 g. absurd (none_some v2 g);
+          };
+        })
+    gives_dropped (target.Cell c) v e put = absurd (no_some j (written y) w e)
 
-    pub move_dropped : (j : ℕ) → written y ≡ Some j → there j ≡ true → (d : Target) (v : Value) → written y ≡ temporary_of d → Goes (dead (set d v (past s))) (set d v (past s)) (running (past t2))
-    move_dropped j w lost (target.Temporary i) v e =
+    pub move_dropped : (d : Target) (v : Value) → written y ≡ temporary_of d → Beside name home (there j) (Some v) (u j) → Goes p (now (set d v (past s))) (set d v (past s)) (running (past t2))
+    move_dropped (target.Temporary i) v e put =
         let same : i ≡ j = same_some i j (sym e ∙ w) in
         goes (set (target.Temporary i) v (past s)) (running (past t2)) refl refl
-        (record { others = u; given = a; is = refl; agree = record { temporaries = dropped_agrees i v e (subst (λ m. there m ≡ true) (sym same) lost); arguments = agree.arguments } })
-    move_dropped j w lost (target.Cell c) v e = absurd (no_some j (written y) w e)
+        (record {
+          others = u;
+          given = a;
+          is = refl;
+          agree = record { temporaries = subst (λ x. (k : ℕ) → Beside name home (there k) (with_at s.temporaries x v k) (u k)) (sym same) (dropped_agrees v put); arguments = agree.arguments };
+        })
+    move_dropped (target.Cell c) v e put = absurd (no_some j (written y) w e)

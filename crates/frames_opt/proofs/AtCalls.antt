@@ -10,10 +10,15 @@ use Rattle.frames_opt.specs.declared.facts.Known.{Known}
 use Rattle.frames_opt.specs.Simplified.{IsAtCall}
 use Rattle.frames_opt.specs.inside.Facts.{known_of, room_of}
 use Rattle.frames_opt.specs.inside.Rules.{simpler_operand, simpler}
-use Rattle.frames_opt.specs.inside.Liveness.{reads, dead_at}
+use Rattle.frames_opt.specs.declared.statuses.Status.{Status}
+use Rattle.frames_opt.specs.declared.rows.Row.{Row}
+use Rattle.frames_opt.specs.inside.Liveness.{reads}
+use Rattle.frames_opt.specs.inside.Sweep.{placed}
+use Rattle.frames_opt.proofs.Acts.{name_in, home_in}
+use Rattle.frames_opt.proofs.Steps.{now_in}
 use Rattle.frames_opt.proofs.Alike.{same_some, over, Agree, same_where_read}
 use Rattle.frames_opt.proofs.Positions.{carried_form, compute_form, element_form}
-use Rattle.frames_opt.proofs.Runs.{Position, IsSimpler, dead, reached}
+use Rattle.frames_opt.proofs.Runs.{Position, IsSimpler, reached}
 
 -- it calls, or returns
 abbrev Leaves : Instruction → Type 0
@@ -54,9 +59,27 @@ stays area facts instruction.GetByte h = absurd h
 stays area facts instruction.Exit h = absurd h
 stays area facts instruction.Return h = refl
 
+-- nor by an index that stayed
+placed_stays : (states : List Row) (i : ℕ) (x : Instruction) → Leaves (placed states i x) → placed states i x ≡ x
+placed_stays states i instruction.Nothing h = absurd h
+placed_stays states i (instruction.Move d x) h = absurd h
+placed_stays states i (instruction.Compute o d x y) h = absurd h
+placed_stays states i (instruction.Convert c d x) h = absurd h
+placed_stays states i (instruction.Load w d l) h = absurd h
+placed_stays states i (instruction.Store w x l) h = absurd h
+placed_stays states i (instruction.Address d l) h = absurd h
+placed_stays states i (instruction.Element d x y size) h = absurd h
+placed_stays states i (instruction.Jump to) h = absurd h
+placed_stays states i (instruction.Branch t x y to) h = absurd h
+placed_stays states i (instruction.Call f) h = refl
+placed_stays states i instruction.PutByte h = absurd h
+placed_stays states i instruction.GetByte h = absurd h
+placed_stays states i instruction.Exit h = absurd h
+placed_stays states i instruction.Return h = refl
+
 -- the second has what the first has in the temporaries that it reads
-abbrev HasWhatIsRead : Instruction → State → State → Type 0
-HasWhatIsRead y s t = (k : ℕ) → reads k y ≡ true → (v : Value) → s.temporaries k ≡ Some v → t.temporaries k ≡ Some v
+abbrev HasWhatIsRead : (ℕ → Status) → Instruction → State → State → Type 0
+HasWhatIsRead here y s t = (k : ℕ) → reads (here k) k y ≡ true → (v : Value) → s.temporaries k ≡ Some v → t.temporaries k ≡ Some v
 
 none_too : (xs ys : List Instruction) (i : ℕ) → length ys ≡ length xs → slice_get xs i ≡ None → slice_get ys i ≡ None
 none_too xs [] i count e = refl
@@ -64,7 +87,7 @@ none_too [] (y ∷ ys) i count e = absurd (omega (arith, count))
 none_too (x ∷ xs) (y ∷ ys) zero count e = absurd (let z : ⊥ = cc in z)
 none_too (x ∷ xs) (y ∷ ys) (suc i) count e = none_too xs ys i (omega (arith, count)) e
 
-module _ (p q : Program) (kn : ℕ → ℕ → List Known) (masks : ℕ → List ℕ) (simple : IsSimpler p q kn masks) (s : State) (u a : Values) (agree : Agree (dead p q kn masks simple s) s u a) where
+module _ (p q : Program) (kn : ℕ → ℕ → List Known) (states : ℕ → List Row) (simple : IsSimpler p q kn states) (s : State) (u a : Values) (agree : Agree (name_in p s) (home_in p s) (now_in p states s) s u a) where
   abbrev k : ℕ
   k = s.frame.function
 
@@ -72,11 +95,11 @@ module _ (p q : Program) (kn : ℕ → ℕ → List Known) (masks : ℕ → List
   i = s.frame.at
 
   module _ (x : Instruction) (is : slice_get (function_at p k).code i ≡ Some x) where
-    abbrev c : Position (room_of (function_at p k)) (kn k) (masks k) (function_at q k).code i x
+    abbrev c : Position (room_of (function_at p k)) (kn k) (states k) (function_at q k).code i x
     c = simple.each k i x is
 
     half_is : Leaves c.done → c.done ≡ c.half
-    half_is leaves = ⊎_elim (λ e. e) (λ d. absurd (subst Leaves d.is leaves)) c.out
+    half_is leaves = ⊎_elim (λ e. e.is ∙ placed_stays (states k) i c.half (subst Leaves e.is leaves)) (λ d. absurd (subst Leaves d.is leaves)) c.out
 
     simplified : (half : Instruction) → half ≡ simpler (function_at p k).area (kn k i) x → Leaves half → half ≡ x
     simplified half e leaves = e ∙ stays (function_at p k).area (kn k i) x (subst Leaves e leaves)
@@ -87,17 +110,18 @@ module _ (p q : Program) (kn : ℕ → ℕ → List Known) (masks : ℕ → List
     whole : Leaves c.done → c.done ≡ x
     whole leaves = half_is leaves ∙ first_is (subst Leaves (half_is leaves) leaves)
 
-    values : HasWhatIsRead c.done s (over u a s)
-    values j read v e = same_where_read c.done (λ m. dead_at (masks k) i m) s u a c.unread agree j read ∙ e
+    values : Leaves c.done → HasWhatIsRead (now_in p states s) c.half s (over u a s)
+    values leaves =
+        ⊎_elim (λ e j read v g. same_where_read (name_in p s) (home_in p s) c.half (now_in p states s) s u a e.same agree j read ∙ g) (λ d. absurd (subst Leaves d.is leaves)) c.out
 
     -- the next instruction of the second is y
-    met : (y : Instruction) → Leaves y → next_of q (over u a s) ≡ Some y → (next_of p s ≡ Some y) × HasWhatIsRead y s (over u a s)
+    met : (y : Instruction) → Leaves y → next_of q (over u a s) ≡ Some y → (next_of p s ≡ Some y) × HasWhatIsRead (now_in p states s) y s (over u a s)
     met y leaves e =
         let same : c.done ≡ y = same_some c.done y (sym c.done_is ∙ e) in
         let here : Leaves c.done = subst Leaves (sym same) leaves in
-        (is ∙ ap Some (sym (whole here) ∙ same), subst (λ z. HasWhatIsRead z s (over u a s)) same values)
+        (is ∙ ap Some (sym (whole here) ∙ same), subst (λ z. HasWhatIsRead (now_in p states s) z s (over u a s)) (sym (half_is here) ∙ same) (values here))
 
-  on : (o : Option Instruction) → slice_get (function_at p k).code i ≡ o → (y : Instruction) → Leaves y → next_of q (over u a s) ≡ Some y → (next_of p s ≡ Some y) × HasWhatIsRead y s (over u a s)
+  on : (o : Option Instruction) → slice_get (function_at p k).code i ≡ o → (y : Instruction) → Leaves y → next_of q (over u a s) ≡ Some y → (next_of p s ≡ Some y) × HasWhatIsRead (now_in p states s) y s (over u a s)
   on None e y leaves h =
       let none : slice_get (function_at q k).code i ≡ None = none_too (function_at p k).code (function_at q k).code i (simple.count k) e in
       let no : None ≡ Some y = sym none ∙ h in
@@ -113,7 +137,7 @@ module _ (p q : Program) (kn : ℕ → ℕ → List Known) (masks : ℕ → List
 same_running : (s t : State) → running s ≡ running t → s ≡ t
 same_running s t e = cc
 
-pub at_calls : (p q : Program) (kn : ℕ → ℕ → List Known) (masks : ℕ → List ℕ) → IsSimpler p q kn masks → (n : ℕ) (input : List ℕ) (s t : State) → run p n (start p input) ≡ running s → run q n (start q input) ≡ running t → IsAtCall p q s t
-at_calls p q kn masks simple n input s t e h =
-    let r = reached p q kn masks simple n input s e in
-    subst (IsAtCall p q s) (same_running (over r.others r.given s) t (sym r.is ∙ h)) (at_call p q kn masks simple s r.others r.given r.agree)
+pub at_calls : (p q : Program) (kn : ℕ → ℕ → List Known) (states : ℕ → List Row) → IsSimpler p q kn states → (n : ℕ) (input : List ℕ) (s t : State) → run p n (start p input) ≡ running s → run q n (start q input) ≡ running t → IsAtCall p q s t
+at_calls p q kn states simple n input s t e h =
+    let r = reached p q kn states simple n input s e in
+    subst (IsAtCall p q s) (same_running (over r.others r.given s) t (sym r.is ∙ h)) (at_call p q kn states simple s r.others r.given r.agree)

@@ -1,5 +1,5 @@
 -- Simpler code is as sound.
-use Rattle.std.proofs.Common.{◌≡◌, ◌<◌, ◌≤◌, ⊎_elim, ℕ, zero, suc, ◌+◌, ◌-◌, ◌*◌, ◌^◌, ◌%◌, List, [], ◌∷◌, length, Option, Some, None, Bool, true, false, refl, sym, ap, ◌∙◌, subst, arith}
+use Rattle.std.proofs.Common.{◌≡◌, ◌<◌, ◌≤◌, ⊎_elim, ℕ, zero, suc, ◌+◌, ◌-◌, ◌*◌, ◌^◌, ◌%◌, List, [], ◌∷◌, length, Some, None, Bool, true, false, refl, sym, ap, ◌∙◌, subst, arith}
 use Rattle.std.specs.Prelude.{◌==◌, slice_get, set, get_or, nat_lt, nat_le, ◌&&◌, if◌then◌else◌}
 use Rattle.std.specs.Int.{w32, trailing_zeros}
 use Rattle.std.proofs.lemmas.Bool.{eqb-true, eqb-false, ltb-true}
@@ -26,11 +26,15 @@ use Rattle.frames_opt.specs.declared.facts.Known.{Known}
 use Rattle.frames_opt.specs.declared.facts.Known.TheVariants as known
 use Rattle.frames_opt.specs.inside.Facts.{nothing, held, known_of, reference_to, is_target, killed, all_killed, learned, room_of, is_index, is_cheap, is_near, indexed_if, from_base, moved, further, indexed_from, result_on, computed, behind}
 use Rattle.frames_opt.specs.inside.Rules.{constant_or, simpler_operand, location_or, simpler_location, carried, with_constant, with_power, is_power, with_word, arranged, compute, within, stepped, statics_or, frame_or, numbered, simpler_element, simpler}
-use Rattle.frames_opt.specs.inside.Liveness.{written, is_dead, kept, kept_by, swept}
+use Rattle.frames_opt.specs.declared.statuses.Status.{Status}
+use Rattle.frames_opt.specs.declared.rows.Row.{Row}
+use Rattle.frames_opt.specs.declared.statuses.Status.TheVariants as status
+use Rattle.frames_opt.specs.inside.Sweep.{status_at, offers, place_by, place_at, place_of, placed, is_left_out, swept_one, swept, fits, all_right, are_right}
 use Rattle.frames_opt.specs.inside.Passes.{is_marked, fresh, forward}
 use Rattle.frames_opt.specs.layer.Functions.{IsSimplerCode, stayed, improved, with_code, IsSimplerFunction}
 use Rattle.frames_opt.proofs.Acts.{power_is, not_true}
 use Rattle.frames_opt.proofs.Alike.{left_true, right_true}
+use Rattle.frames_opt.proofs.Positions.{status_fits}
 use Rattle.frames_opt.proofs.Stands.{held_in, held_map, set_same}
 
 module _ (n : ℕ) (f : Function) where
@@ -352,20 +356,58 @@ module _ (n : ℕ) (f : Function) where
       let fits = fresh_fits (is_marked marks i) facts h in
       forward_fits marks (i + 1) (behind room here (simpler f.area here x)) xs (behind_fits here (simpler f.area here x) fits (simpler_fits here fits x (all 0 x refl))) (λ j. all (suc j)) k y e
 
-  kept_fits : (o : Option ℕ) (mask : ℕ) (x : Instruction) → Fits x → Fits (kept_by o mask x)
-  kept_fits None mask x e = e
-  kept_fits (Some k) mask x e = either_fits (is_dead mask k) instruction.Nothing x tt e
+  module _ (states : List Row) (i : ℕ) (each : (k : ℕ) → fits room k (status_at states i k) ≡ true) where
+    by_fits : (k : ℕ) (z : Status) → fits room k z ≡ true → OperandFits f (operand.Temporary k) → LocationFits f (place_by z k)
+    by_fits k status.Same e h = h
+    by_fits k status.Dead e h = h
+    by_fits k (status.Index b size) e h =
+        let near = left_true (is_near room b) _ e in
+        let rest = right_true (is_index (operand.Temporary k)) _ (right_true (is_near room b) _ e) in
+        let power = left_true (is_power_of_two size) _ rest in
+        let low = right_true (is_power_of_two size) _ rest in
+        (base_fits b near low, h, power, home_fits low)
 
-  swept_fits : (masks : List ℕ) (i : ℕ) (xs : List Instruction) → AllFit xs → AllFit (swept masks i xs)
-  swept_fits masks i [] all k y e = absurd (let z : ⊥ = cc in z)
-  swept_fits masks i (x ∷ xs) all zero y e =
-      let same : kept (get_or masks (i + 1) 0) x ≡ y = cc in
-      subst Fits same (kept_fits (written x) (get_or masks (i + 1) 0) x (all 0 x refl))
-  swept_fits masks i (x ∷ xs) all (suc k) y e = swept_fits masks (i + 1) xs (λ j. all (suc j)) k y e
+    at_fits : (x : Operand) → OperandFits f x → LocationFits f (place_at states i x)
+    at_fits (operand.Temporary k) h = by_fits k (status_at states i k) (each k) h
+    at_fits (operand.Cell c) h = h
+    at_fits (operand.Constant v) h = h
+    at_fits (operand.Argument k) h = h
+
+    of_fits : (l : Location) → LocationFits f l → LocationFits f (place_of states i l)
+    of_fits (location.Statics o) h = h
+    of_fits (location.Frame o) h = h
+    of_fits (location.At x) h = at_fits x h
+    of_fits (location.Indexed b y size) h = h
+
+    placed_fits : (x : Instruction) → Fits x → Fits (placed states i x)
+    placed_fits instruction.Nothing e = e
+    placed_fits (instruction.Move d x) e = e
+    placed_fits (instruction.Compute o d x y) e = e
+    placed_fits (instruction.Convert c d x) e = e
+    placed_fits (instruction.Load w d l) e = (e.0, of_fits l e.1)
+    placed_fits (instruction.Store w x l) e = (e.0, of_fits l e.1)
+    placed_fits (instruction.Address d l) e = e
+    placed_fits (instruction.Element d x y size) e = e
+    placed_fits (instruction.Jump to) e = e
+    placed_fits (instruction.Branch t x y to) e = e
+    placed_fits (instruction.Call g) e = e
+    placed_fits instruction.PutByte e = e
+    placed_fits instruction.GetByte e = e
+    placed_fits instruction.Exit e = e
+    placed_fits instruction.Return e = e
+
+  swept_fits : (states : List Row) (list : List Known) (i : ℕ) (xs : List Instruction) → are_right room states list i xs ≡ true → AllFit xs → AllFit (swept states i xs)
+  swept_fits states list i [] right all k y e = absurd (let z : ⊥ = cc in z)
+  swept_fits states list i (x ∷ xs) right all zero y e =
+      let same : swept_one states i x ≡ y = cc in
+      let here = left_true (all_right room states i (get_or list i known.Unknown) x) _ right in
+      subst Fits same (either_fits (is_left_out states i x) instruction.Nothing (placed states i x) tt (placed_fits states i (status_fits room states i (get_or list i known.Unknown) x here) x (all 0 x refl)))
+  swept_fits states list i (x ∷ xs) right all (suc k) y e =
+      swept_fits states list (i + 1) xs (right_true (all_right room states i (get_or list i known.Unknown) x) _ right) (λ j. all (suc j)) k y e
 
   simpler_code_fits : (new : List Instruction) → IsSimplerCode room f.code new → AllFit f.code → AllFit new
   simpler_code_fits new (stayed e) all = subst AllFit (sym e) all
-  simpler_code_fits new (improved c) all = subst AllFit (sym c.is) (swept_fits c.masks 0 (forward room c.marks 0 nothing f.code) (forward_fits c.marks 0 nothing f.code nothing_fits all))
+  simpler_code_fits new (improved c) all = subst AllFit (sym c.is) (swept_fits c.states (offers room c.marks 0 nothing f.code) 0 (forward room c.marks 0 nothing f.code) c.right (forward_fits c.marks 0 nothing f.code nothing_fits all))
 
 -- ---- as many instructions
 
@@ -373,13 +415,13 @@ forward_length : (r : Room) (marks : List Bool) (i : ℕ) (facts : List Known) (
 forward_length r marks i facts [] = refl
 forward_length r marks i facts (x ∷ xs) = ap suc (forward_length r marks (i + 1) (behind r (fresh (is_marked marks i) facts) (simpler r.area (fresh (is_marked marks i) facts) x)) xs)
 
-swept_length : (masks : List ℕ) (i : ℕ) (xs : List Instruction) → length (swept masks i xs) ≡ length xs
-swept_length masks i [] = refl
-swept_length masks i (x ∷ xs) = ap suc (swept_length masks (i + 1) xs)
+swept_length : (states : List Row) (i : ℕ) (xs : List Instruction) → length (swept states i xs) ≡ length xs
+swept_length states i [] = refl
+swept_length states i (x ∷ xs) = ap suc (swept_length states (i + 1) xs)
 
 pub code_length : (r : Room) (old new : List Instruction) → IsSimplerCode r old new → length new ≡ length old
 code_length r old new (stayed e) = ap length e
-code_length r old new (improved c) = ap length c.is ∙ (swept_length c.masks 0 (forward r c.marks 0 nothing old) ∙ forward_length r c.marks 0 nothing old)
+code_length r old new (improved c) = ap length c.is ∙ (swept_length c.states 0 (forward r c.marks 0 nothing old) ∙ forward_length r c.marks 0 nothing old)
 
 -- ---- functions
 

@@ -10,3 +10,4 @@ pub mod AtCalls
 pub mod Fitting
 pub mod Whole
 pub mod InTurn
+pub mod Forward

@@ -7,7 +7,9 @@ use Rattle.frames.specs.Costs.{code_bytes}
 use Rattle.frames_opt.specs.declared.room.Room.{Room}
 use Rattle.frames_opt.specs.inside.Facts.{nothing}
 use Rattle.frames_opt.specs.inside.Passes.{jump_of, marked_by, marked, is_marked, all_marked, AreMarked, forward}
-use Rattle.frames_opt.specs.inside.Liveness.{swept, are_right}
+use Rattle.frames_opt.specs.declared.facts.Known.{Known}
+use Rattle.frames_opt.specs.declared.rows.Row.{Row}
+use Rattle.frames_opt.specs.inside.Sweep.{offers, swept, are_right}
 use Rattle.frames_opt.specs.layer.Functions.{IsImproved, IsSimplerCode, stayed, improved}
 use Rattle.frames_opt.proofs.Positions.{all_are_marked}
 
@@ -35,23 +37,25 @@ marks_kept size list marks code are l =
     subst (λ m. AreMarked m code) (sym whole) are
 
 module _ {V E : Type 0} (items : V → List Instruction) (room : Room) (code : List Instruction) where
-  pub improved_in : (middle : List Instruction) (marks : List Bool) (masks : List ℕ) → AreMarked marks code → middle ≡ forward room marks 0 nothing code → are_right masks 0 middle ≡ true
-      → (r : Result V E) → IfOk r (λ m. items m ≡ swept masks 0 middle) → IfOk r (λ m. IsImproved room code (items m))
-  improved_in middle marks masks are e right (Ok m) h = record {
+  pub improved_in : (middle : List Instruction) (list : List Known) (marks : List Bool) (states : List Row) → AreMarked marks code → middle ≡ forward room marks 0 nothing code
+      → list ≡ offers room marks 0 nothing code → are_right room states list 0 middle ≡ true → (r : Result V E) → IfOk r (λ m. items m ≡ swept states 0 middle) → IfOk r (λ m. IsImproved room code (items m))
+  improved_in middle list marks states are e e2 right (Ok m) h = record {
     marks = marks;
     are = are;
-    masks = masks;
-    right = ap (are_right masks 0) (sym e) ∙ right;
-    is = h ∙ ap (swept masks 0) e;
+    states = states;
+    right = ap (λ l. are_right room states l 0 (forward room marks 0 nothing code)) (sym e2) ∙ (ap (are_right room states list 0) (sym e) ∙ right);
+    is = h ∙ ap (swept states 0) e;
   }
-  improved_in middle marks masks are e right (Err x) h = tt
+  improved_in middle list marks states are e e2 right (Err x) h = tt
 
-  pub improved_from : (middle middle2 middle3 : List Instruction) (marks marks2 : List Bool) (masks masks2 : List ℕ) → AreMarked marks code → marks2 ≡ marks → middle ≡ forward room marks2 0 nothing code
-      → middle2 ≡ middle → are_right masks 0 middle2 ≡ true → masks2 ≡ masks → middle3 ≡ middle → (r : Result V E) → IfOk r (λ m. items m ≡ swept masks2 0 middle3) → IfOk r (λ m. IsImproved room code (items m))
-  improved_from middle middle2 middle3 marks marks2 masks masks2 are same e same2 right same3 same4 r h =
-      let made : middle3 ≡ forward room marks2 0 nothing code = same4 ∙ e in
-      let right2 : are_right masks2 0 middle3 ≡ true = ap (λ m. are_right m 0 middle3) same3 ∙ (ap (are_right masks 0) (same4 ∙ sym same2) ∙ right) in
-      improved_in middle3 marks2 masks2 (subst (λ m. AreMarked m code) (sym same) are) made right2 r h
+  -- by what stands in for each of them
+  pub improved_from : (middle m5 m7 : List Instruction) (list list4 : List Known) (marks marks1 marks2 : List Bool) (states states6 : List Row) → AreMarked marks code → marks1 ≡ marks → marks2 ≡ marks
+      → middle ≡ forward room marks1 0 nothing code → list ≡ offers room marks2 0 nothing code → list4 ≡ list → m5 ≡ middle → are_right room states list4 0 m5 ≡ true → states6 ≡ states → m7 ≡ middle
+      → (r : Result V E) → IfOk r (λ m. items m ≡ swept states6 0 m7) → IfOk r (λ m. IsImproved room code (items m))
+  improved_from middle m5 m7 list list4 marks marks1 marks2 states states6 are one two e eo four five right six seven r h =
+      let right2 : are_right room states list 0 middle ≡ true = ap (λ l. are_right room states l 0 middle) (sym four) ∙ (ap (are_right room states list4 0) (sym five) ∙ right) in
+      improved_in middle list marks states are (e ∙ ap (λ m. forward room m 0 nothing code) one) (eo ∙ ap (λ m. offers room m 0 nothing code) two) right2 r
+      (subst (λ x. IfOk r (λ m. items m ≡ swept x 0 middle)) six (subst (λ x. IfOk r (λ m. items m ≡ swept states6 0 x)) seven h))
 
   pub stayed_in : (r : Result V E) → IfOk r (λ m. items m ≡ code) → IfOk r (λ m. IsSimplerCode room code (items m))
   stayed_in (Ok m) h = stayed h

@@ -19,14 +19,14 @@ use Rattle.frames_code.specs.declared.code.Operation.TheVariants as operation
 use Rattle.frames_code.specs.declared.code.Instruction.{Instruction}
 use Rattle.frames_code.specs.declared.code.Instruction.TheVariants as instruction
 use Rattle.frames_code.specs.Code.{Program, frame_bytes}
-use Rattle.frames_code.specs.Run.{Value, Values, Bytes, Frame, State, Reference, Progress, running, ended, stuck, word, reference, value, word_at, word_in, reference_in, indexed, set as set_target, with_at, next, past, goes_to, place, memory, with_memory, with_element, element_in, fits, gives, gives_word, operate, converted, loaded, stored, put, got, returned, act, function_at, bytes_of, name_of, changed_among, with_frames, ◌>>=◌}
+use Rattle.frames_code.specs.Run.{Value, Values, Bytes, Frame, State, Reference, Progress, running, ended, stuck, word, reference, value, word_at, word_in, reference_in, indexed, set as set_target, with_at, next, past, goes_to, place, memory, with_memory, with_element, element_in, fits, gives, gives_word, operate, converted, loaded, stored, put, got, returned, act, function_at, name_of, changed_among, with_frames, ◌>>=◌}
 use Rattle.frames_opt.specs.declared.room.Room.{Room}
 use Rattle.frames_opt.specs.declared.facts.Known.{Known}
 use Rattle.frames_opt.specs.declared.facts.Known.TheVariants as known
 use Rattle.frames_opt.specs.inside.Facts.{nothing, held, known_of, reference_to, is_target, killed, all_killed, learned, room_of, is_index, is_cheap, is_near, indexed_if, from_base, moved, further, indexed_from, result_on, computed, behind}
 use Rattle.frames_opt.specs.inside.Passes.{jump_of}
 use Rattle.frames_opt.proofs.Acts.{base_at, index_in, Leads, Knows, Holds, name_in, home_in, word_is, known_holds}
-use Rattle.frames_opt.proofs.Alike.{left_true, right_true}
+use Rattle.frames_opt.proofs.Alike.{left_true, right_true, bytes_changed}
 
 -- ---- where a step leads
 
@@ -199,7 +199,7 @@ module _ (name home : ℕ) where
       let index : is_index y ≡ true = left_true (is_index y) _ (right_true (is_near room b) _ e) in
       record { index = index; is = ap (indexed (base_at name home b) size) (sym ey ∙ word_is s y index) })
 
-  moved_leads : (b : Base) (size k : ℕ) (o : Option ℕ) (r : Reference) → Some r ≡ indexed (base_at name home b) size o → Some (spot r.list (r.offset + k)) ≡ indexed (base_at name home (moved b k)) size o
+  pub moved_leads : (b : Base) (size k : ℕ) (o : Option ℕ) (r : Reference) → Some r ≡ indexed (base_at name home b) size o → Some (spot r.list (r.offset + k)) ≡ indexed (base_at name home (moved b k)) size o
   moved_leads b size k None r e = absurd (let z : ⊥ = cc in z)
   moved_leads (base.Statics o) size k (Some q) r e =
       let same : r ≡ spot 0 (o + q * size) = same_some r (spot 0 (o + q * size)) e in
@@ -222,7 +222,7 @@ module _ (name home : ℕ) where
       (indexed_if_knows s.frame.cells s.temporaries (is_near room (moved b (w * size))) (moved b (w * size)) z width _ (λ e.
       record { index = h.index; is = moved_leads b width (w * size) (index_in s.frame.cells s.temporaries z) r (sym er ∙ h.is) }))
 
-  element_knows : (room : Room) (s : State) (x : Known) (y : Operand) (size n : ℕ) (m : Option Value) (r : Reference)
+  pub element_knows : (room : Room) (s : State) (x : Known) (y : Operand) (size n : ℕ) (m : Option Value) (r : Reference)
       → Knows name home s.frame.cells s.temporaries x m → reference_in m ≡ Some r → word_at s y ≡ Some n
       → Knows name home s.frame.cells s.temporaries (indexed_from room x y size) (Some (reference r.list (r.offset + n * size)))
   element_knows room s known.Unknown y size n m r h er ey = tt
@@ -240,47 +240,41 @@ module _ (name home : ℕ) where
 -- ---- the facts known before each instruction of each function
 
 -- after instruction i, which is y
-pub record Flow (room : Room) (kn : ℕ → List Known) (i : ℕ) (y : Instruction) : Type 0 where
+pub record Flow (room : Room) (kn : ℕ → List Known) (calm : ℕ → Type 0) (i : ℕ) (y : Instruction) : Type 0 where
   pub next : (kn (i + 1) ≡ nothing) ⊎ (kn (i + 1) ≡ behind room (kn i) y)
   pub jumps : (to : ℕ) → jump_of y ≡ Some to → kn to ≡ nothing
+  pub calls : (f : ℕ) → y ≡ instruction.Call f → calm (i + 1)
 
-abbrev pub Waits : (ℕ → ℕ → List Known) → List Frame → Type 0
-Waits kn [] = Unit {0}
-Waits kn (f ∷ fs) = (kn f.function f.at ≡ nothing) × Waits kn fs
+-- what has to be so where calls continue
+abbrev pub Waits : (ℕ → ℕ → List Known) → (ℕ → ℕ → Type 0) → List Frame → Type 0
+Waits kn calm [] = Unit {0}
+Waits kn calm (f ∷ fs) = (kn f.function f.at ≡ nothing) × calm f.function f.at × Waits kn calm fs
 
 -- the known facts hold; nothing is known where waiting calls continue
-abbrev pub Stands : Program → (ℕ → ℕ → List Known) → State → Type 0
-Stands p kn s = Holds (name_in p s) (home_in p s) (kn s.frame.function s.frame.at) s.frame.cells s.temporaries × Waits kn s.waiting
+abbrev pub Stands : Program → (ℕ → ℕ → List Known) → (ℕ → ℕ → Type 0) → State → Type 0
+Stands p kn calm s = Holds (name_in p s) (home_in p s) (kn s.frame.function s.frame.at) s.frame.cells s.temporaries × Waits kn calm s.waiting
 
-module _ (p : Program) (kn : ℕ → ℕ → List Known) where
-  bytes_changed : (fs : List Frame) (l : ℕ) (b : Bytes) → bytes_of p (changed_among p fs l b) ≡ bytes_of p fs
-  bytes_changed [] l b = refl
-  bytes_changed (f ∷ fs) l b = on (bytes_changed fs l b) (name_of p f fs == l)
-    where
-      on : bytes_of p (changed_among p fs l b) ≡ bytes_of p fs → (t : Bool) → bytes_of p (if t then record f { area = b } ∷ fs else f ∷ changed_among p fs l b) ≡ bytes_of p (f ∷ fs)
-      on later true = refl
-      on later false = ap (λ n. frame_bytes (function_at p f.function) + n) later
-
-  waits_changed : (fs : List Frame) (l : ℕ) (b : Bytes) → Waits kn fs → Waits kn (changed_among p fs l b)
+module _ (p : Program) (kn : ℕ → ℕ → List Known) (calm : ℕ → ℕ → Type 0) where
+  waits_changed : (fs : List Frame) (l : ℕ) (b : Bytes) → Waits kn calm fs → Waits kn calm (changed_among p fs l b)
   waits_changed [] l b w = tt
-  waits_changed (f ∷ fs) l b w = on (waits_changed fs l b w.1) (name_of p f fs == l)
+  waits_changed (f ∷ fs) l b w = on (waits_changed fs l b w.2) (name_of p f fs == l)
     where
-      on : Waits kn (changed_among p fs l b) → (t : Bool) → Waits kn (if t then record f { area = b } ∷ fs else f ∷ changed_among p fs l b)
+      on : Waits kn calm (changed_among p fs l b) → (t : Bool) → Waits kn calm (if t then record f { area = b } ∷ fs else f ∷ changed_among p fs l b)
       on later true = w
-      on later false = (w.0, later)
+      on later false = (w.0, w.1, later)
 
-  memory_stands : (r : State) → Stands p kn r → (l : ℕ) (b : Bytes) → Stands p kn (with_memory p r l b)
+  memory_stands : (r : State) → Stands p kn calm r → (l : ℕ) (b : Bytes) → Stands p kn calm (with_memory p r l b)
   memory_stands r g zero b = g
   memory_stands r g (suc l) b = on (name_of p r.frame r.waiting == suc l)
     where
-      on : (t : Bool) → Stands p kn (with_frames r (if t then record r.frame { area = b } ∷ r.waiting else r.frame ∷ changed_among p r.waiting (suc l) b))
+      on : (t : Bool) → Stands p kn calm (with_frames r (if t then record r.frame { area = b } ∷ r.waiting else r.frame ∷ changed_among p r.waiting (suc l) b))
       on true = g
       on false = (
-        subst (λ n. Holds (frame_bytes (function_at p r.frame.function) + n) (home_in p r) (kn r.frame.function r.frame.at) r.frame.cells r.temporaries) (sym (bytes_changed r.waiting (suc l) b)) g.0,
+        subst (λ n. Holds (frame_bytes (function_at p r.frame.function) + n) (home_in p r) (kn r.frame.function r.frame.at) r.frame.cells r.temporaries) (sym (bytes_changed p r.waiting (suc l) b)) g.0,
         waits_changed r.waiting (suc l) b g.1,
       )
 
-  module _ (starts : (k : ℕ) → kn k 0 ≡ nothing) (s : State) (good : Stands p kn s) where
+  module _ (starts : (k : ℕ) → kn k 0 ≡ nothing) (s : State) (good : Stands p kn calm s) where
     abbrev here : ℕ → List Known
     here = kn s.frame.function
 
@@ -305,29 +299,29 @@ module _ (p : Program) (kn : ℕ → ℕ → List Known) where
     at_next : (f : List Known) (c t : Values) → (here (s.frame.at + 1) ≡ nothing) ⊎ (here (s.frame.at + 1) ≡ f) → Holds name home f c t → Holds name home (here (s.frame.at + 1)) c t
     at_next f c t flow h = ⊎_elim (λ e. empty_holds name home (here (s.frame.at + 1)) c t e) (λ e. subst (λ g. Holds name home g c t) (sym e) h) flow
 
-    gives_stands : (d : Target) (v : Value) (told : Known) → (here (s.frame.at + 1) ≡ nothing) ⊎ (here (s.frame.at + 1) ≡ learned facts d told) → Knows name home cells s.temporaries told (Some v) → Stands p kn (set_target d v (next s))
+    gives_stands : (d : Target) (v : Value) (told : Known) → (here (s.frame.at + 1) ≡ nothing) ⊎ (here (s.frame.at + 1) ≡ learned facts d told) → Knows name home cells s.temporaries told (Some v) → Stands p kn calm (set_target d v (next s))
     gives_stands (target.Temporary j) v told flow e =
         (at_next (learned facts (target.Temporary j) told) cells (with_at s.temporaries j v) flow (put_holds name home facts cells s.temporaries j told v good.0 e), good.1)
     gives_stands (target.Cell j) v told flow e =
         (at_next (learned facts (target.Cell j) told) (with_at cells j v) s.temporaries flow (cell_holds name home facts cells s.temporaries j v good.0), good.1)
 
-    past_stands : (d : Target) (v : Value) → Stands p kn (set_target d v (next s)) → Stands p kn (set_target d v (past s))
+    past_stands : (d : Target) (v : Value) → Stands p kn calm (set_target d v (next s)) → Stands p kn calm (set_target d v (past s))
     past_stands (target.Temporary j) v g = g
     past_stands (target.Cell c) v g = g
 
-    next_stands : (here (s.frame.at + 1) ≡ nothing) ⊎ (here (s.frame.at + 1) ≡ facts) → Stands p kn (next s)
+    next_stands : (here (s.frame.at + 1) ≡ nothing) ⊎ (here (s.frame.at + 1) ≡ facts) → Stands p kn calm (next s)
     next_stands flow = (at_next facts cells s.temporaries flow good.0, good.1)
 
-    loaded_stands : (w : Width) (d : Target) (r : Reference) → (here (s.frame.at + 1) ≡ nothing) ⊎ (here (s.frame.at + 1) ≡ learned facts d known.Unknown) → Sat (Stands p kn) (loaded p s w d r)
+    loaded_stands : (w : Width) (d : Target) (r : Reference) → (here (s.frame.at + 1) ≡ nothing) ⊎ (here (s.frame.at + 1) ≡ learned facts d known.Unknown) → Sat (Stands p kn calm) (loaded p s w d r)
     loaded_stands w d r flow =
-        sat_bind (Stands p kn) (memory p s r.list) (λ m. if fits w r.offset m then element_in w m.bytes r.offset >>= gives_word d s else stuck)
-        (λ m e. sat_if (Stands p kn) (fits w r.offset m) (element_in w m.bytes r.offset >>= gives_word d s) stuck
-        (sat_bind (Stands p kn) (element_in w m.bytes r.offset) (gives_word d s) (λ v e2. gives_stands d (word v) known.Unknown flow tt)) tt)
+        sat_bind (Stands p kn calm) (memory p s r.list) (λ m. if fits w r.offset m then element_in w m.bytes r.offset >>= gives_word d s else stuck)
+        (λ m e. sat_if (Stands p kn calm) (fits w r.offset m) (element_in w m.bytes r.offset >>= gives_word d s) stuck
+        (sat_bind (Stands p kn calm) (element_in w m.bytes r.offset) (gives_word d s) (λ v e2. gives_stands d (word v) known.Unknown flow tt)) tt)
 
-    stored_stands : (w : Width) (v : ℕ) (r : Reference) → (here (s.frame.at + 1) ≡ nothing) ⊎ (here (s.frame.at + 1) ≡ facts) → Sat (Stands p kn) (stored p s w v r)
+    stored_stands : (w : Width) (v : ℕ) (r : Reference) → (here (s.frame.at + 1) ≡ nothing) ⊎ (here (s.frame.at + 1) ≡ facts) → Sat (Stands p kn calm) (stored p s w v r)
     stored_stands w v r flow =
-        sat_bind (Stands p kn) (memory p s r.list) (λ m. if fits w r.offset m then running (with_memory p (next s) r.list (with_element w m.bytes r.offset v)) else stuck)
-        (λ m e. sat_if (Stands p kn) (fits w r.offset m) (running (with_memory p (next s) r.list (with_element w m.bytes r.offset v))) stuck
+        sat_bind (Stands p kn calm) (memory p s r.list) (λ m. if fits w r.offset m then running (with_memory p (next s) r.list (with_element w m.bytes r.offset v)) else stuck)
+        (λ m e. sat_if (Stands p kn calm) (fits w r.offset m) (running (with_memory p (next s) r.list (with_element w m.bytes r.offset v))) stuck
         (memory_stands (next s) (next_stands flow) r.list (with_element w m.bytes r.offset v)) tt)
 
     address_knows : (l : Location) (r : Reference) → place p s l ≡ Some r → Knows name home cells s.temporaries (reference_to l) (Some (reference r.list r.offset))
@@ -336,48 +330,48 @@ module _ (p : Program) (kn : ℕ → ℕ → List Known) where
     address_knows (location.At x) r e = tt
     address_knows (location.Indexed b y size) r e = tt
 
-    returned_stands : (ws : List Frame) → Waits kn ws → Sat (Stands p kn) (returned s ws)
-    returned_stands [] w = sat_bind (Stands p kn) (word_at s (operand.Temporary 0)) (λ v. ended (v % 2 ^ 8) s.input s.trace) (λ v e. tt)
-    returned_stands (f ∷ fs) w = (empty_holds _ _ (kn f.function f.at) _ _ w.0, w.1)
+    returned_stands : (ws : List Frame) → Waits kn calm ws → Sat (Stands p kn calm) (returned s ws)
+    returned_stands [] w = sat_bind (Stands p kn calm) (word_at s (operand.Temporary 0)) (λ v. ended (v % 2 ^ 8) s.input s.trace) (λ v e. tt)
+    returned_stands (f ∷ fs) w = (empty_holds _ _ (kn f.function f.at) _ _ w.0, w.2)
 
-    got_stands : here (s.frame.at + 1) ≡ nothing → (input : List ℕ) → Sat (Stands p kn) (got s input)
+    got_stands : here (s.frame.at + 1) ≡ nothing → (input : List ℕ) → Sat (Stands p kn calm) (got s input)
     got_stands e [] = (empty_holds _ _ (here (s.frame.at + 1)) _ _ e, good.1)
     got_stands e (b ∷ rest) = (empty_holds _ _ (here (s.frame.at + 1)) _ _ e, good.1)
 
     emptied : (here (s.frame.at + 1) ≡ nothing) ⊎ (here (s.frame.at + 1) ≡ nothing) → here (s.frame.at + 1) ≡ nothing
     emptied flow = ⊎_elim (λ e. e) (λ e. e) flow
 
-    pub act_stands : (y : Instruction) → Flow room here s.frame.at y → Sat (Stands p kn) (act p s y)
+    pub act_stands : (y : Instruction) → Flow room here (calm s.frame.function) s.frame.at y → Sat (Stands p kn calm) (act p s y)
     act_stands instruction.Nothing flow = next_stands flow.next
     act_stands (instruction.Move d x) flow =
-        sat_bind (Stands p kn) (value s x) (λ v. running (set_target d v (past s)))
+        sat_bind (Stands p kn calm) (value s x) (λ v. running (set_target d v (past s)))
         (λ v e. past_stands d v (gives_stands d v (known_of facts x) flow.next (subst (Knows name home cells s.temporaries (known_of facts x)) e (known_holds p s facts good.0 x))))
     act_stands (instruction.Compute o d x y) flow =
-        sat_bind (Stands p kn) (word_at s x) (λ a. word_at s y >>= λ b. gives_word d s (operate o a b))
-        (λ a ea. sat_bind (Stands p kn) (word_at s y) (λ b. gives_word d s (operate o a b))
+        sat_bind (Stands p kn calm) (word_at s x) (λ a. word_at s y >>= λ b. gives_word d s (operate o a b))
+        (λ a ea. sat_bind (Stands p kn calm) (word_at s y) (λ b. gives_word d s (operate o a b))
         (λ b eb. gives_stands d (word (operate o a b)) (computed o x y) flow.next (computed_knows name home cells s.temporaries s o x y a b ea eb)))
     act_stands (instruction.Convert c d x) flow =
-        sat_bind (Stands p kn) (word_at s x) (λ a. gives_word d s (converted c a)) (λ a e. gives_stands d (word (converted c a)) known.Unknown flow.next tt)
-    act_stands (instruction.Load w d l) flow = sat_bind (Stands p kn) (place p s l) (loaded p s w d) (λ r e. loaded_stands w d r flow.next)
+        sat_bind (Stands p kn calm) (word_at s x) (λ a. gives_word d s (converted c a)) (λ a e. gives_stands d (word (converted c a)) known.Unknown flow.next tt)
+    act_stands (instruction.Load w d l) flow = sat_bind (Stands p kn calm) (place p s l) (loaded p s w d) (λ r e. loaded_stands w d r flow.next)
     act_stands (instruction.Store w x l) flow =
-        sat_bind (Stands p kn) (word_at s x) (λ a. place p s l >>= stored p s w a)
-        (λ a e. sat_bind (Stands p kn) (place p s l) (stored p s w a) (λ r e2. stored_stands w a r flow.next))
+        sat_bind (Stands p kn calm) (word_at s x) (λ a. place p s l >>= stored p s w a)
+        (λ a e. sat_bind (Stands p kn calm) (place p s l) (stored p s w a) (λ r e2. stored_stands w a r flow.next))
     act_stands (instruction.Address d l) flow =
-        sat_bind (Stands p kn) (place p s l) (λ r. gives d s (reference r.list r.offset))
+        sat_bind (Stands p kn calm) (place p s l) (λ r. gives d s (reference r.list r.offset))
         (λ r e. gives_stands d (reference r.list r.offset) (reference_to l) flow.next (address_knows l r e))
     act_stands (instruction.Element d x y size) flow =
-        sat_bind (Stands p kn) (reference_in (value s x)) (λ r. word_at s y >>= λ n. gives d s (reference r.list (r.offset + n * size)))
-        (λ r e. sat_bind (Stands p kn) (word_at s y) (λ n. gives d s (reference r.list (r.offset + n * size)))
+        sat_bind (Stands p kn calm) (reference_in (value s x)) (λ r. word_at s y >>= λ n. gives d s (reference r.list (r.offset + n * size)))
+        (λ r e. sat_bind (Stands p kn calm) (word_at s y) (λ n. gives d s (reference r.list (r.offset + n * size)))
         (λ n e2. gives_stands d (reference r.list (r.offset + n * size)) (indexed_from room (known_of facts x) y size) flow.next
         (element_knows name home room s (known_of facts x) y size n (value s x) r (known_holds p s facts good.0 x) e e2)))
     act_stands (instruction.Jump to) flow = (empty_holds _ _ (here to) _ _ (flow.jumps to refl), good.1)
     act_stands (instruction.Branch t x y to) flow =
-        sat_bind (Stands p kn) (word_at s x) (λ a. word_at s y >>= λ b. running (if compare_of t a b then goes_to s to else next s))
-        (λ a ea. sat_bind (Stands p kn) (word_at s y) (λ b. running (if compare_of t a b then goes_to s to else next s))
-        (λ b eb. sat_either (Stands p kn) (compare_of t a b) (goes_to s to) (next s) (empty_holds _ _ (here to) _ _ (flow.jumps to refl), good.1) (next_stands flow.next)))
-    act_stands (instruction.Call f) flow = (empty_holds _ _ (kn f 0) _ _ (starts f), (emptied flow.next, good.1))
+        sat_bind (Stands p kn calm) (word_at s x) (λ a. word_at s y >>= λ b. running (if compare_of t a b then goes_to s to else next s))
+        (λ a ea. sat_bind (Stands p kn calm) (word_at s y) (λ b. running (if compare_of t a b then goes_to s to else next s))
+        (λ b eb. sat_either (Stands p kn calm) (compare_of t a b) (goes_to s to) (next s) (empty_holds _ _ (here to) _ _ (flow.jumps to refl), good.1) (next_stands flow.next)))
+    act_stands (instruction.Call f) flow = (empty_holds _ _ (kn f 0) _ _ (starts f), (emptied flow.next, flow.calls f refl, good.1))
     act_stands instruction.PutByte flow =
-        sat_bind (Stands p kn) (word_at s (operand.Temporary 0)) (put s) (λ v e. (empty_holds _ _ (here (s.frame.at + 1)) _ _ (emptied flow.next), good.1))
+        sat_bind (Stands p kn calm) (word_at s (operand.Temporary 0)) (put s) (λ v e. (empty_holds _ _ (here (s.frame.at + 1)) _ _ (emptied flow.next), good.1))
     act_stands instruction.GetByte flow = got_stands (emptied flow.next) s.input
-    act_stands instruction.Exit flow = sat_bind (Stands p kn) (word_at s (operand.Temporary 0)) (λ v. ended (v % 2 ^ 8) s.input s.trace) (λ v e. tt)
+    act_stands instruction.Exit flow = sat_bind (Stands p kn calm) (word_at s (operand.Temporary 0)) (λ v. ended (v % 2 ^ 8) s.input s.trace) (λ v e. tt)
     act_stands instruction.Return flow = returned_stands s.waiting good.1

@@ -10,6 +10,7 @@ use Rattle.frames_opt.specs.declared.facts.Known.{Known}
 use Rattle.frames.specs.Costs.{code_bytes}
 use Rattle.frames_opt.specs.Simplified.{IsSimplified}
 use Rattle.frames_opt.specs.declared.room.Room.{Room}
+use Rattle.frames_opt.specs.declared.rows.Row.{Row}
 use Rattle.frames_opt.specs.inside.Facts.{nothing, room_of}
 use Rattle.frames_opt.specs.layer.Functions.{IsSimplerCode, stayed, improved, AreSimpler}
 use Rattle.frames_opt.proofs.Alike.{with_code}
@@ -22,16 +23,16 @@ use Rattle.frames_opt.proofs.Fitting.{code_length, function_fits}
 
 abbrev known_in : (room : Room) (old new : List Instruction) → IsSimplerCode room old new → ℕ → List Known
 known_in room old new (stayed e) = λ k. nothing
-known_in room old new (improved c) = known_at room c.marks old c.are c.masks c.right
+known_in room old new (improved c) = known_at room c.marks old c.are c.states c.right
 
-abbrev masks_in : (room : Room) (old new : List Instruction) → IsSimplerCode room old new → List ℕ
-masks_in room old new (stayed e) = []
-masks_in room old new (improved c) = c.masks
+abbrev states_in : (room : Room) (old new : List Instruction) → IsSimplerCode room old new → List Row
+states_in room old new (stayed e) = []
+states_in room old new (improved c) = c.states
 
-position_in : (room : Room) (old new : List Instruction) (c : IsSimplerCode room old new) (i : ℕ) (x : Instruction) → slice_get old i ≡ Some x → Position room (known_in room old new c) (masks_in room old new c) new i x
+position_in : (room : Room) (old new : List Instruction) (c : IsSimplerCode room old new) (i : ℕ) (x : Instruction) → slice_get old i ≡ Some x → Position room (known_in room old new c) (states_in room old new c) new i x
 position_in room old new (stayed e) i x h = subst (λ m. Position room (λ k. nothing) [] m i x) (sym e) (same_position room old i x h)
 position_in room old new (improved c) i x h =
-    subst (λ m. Position room (known_at room c.marks old c.are c.masks c.right) c.masks m i x) (sym c.is) (position room c.marks old c.are c.masks c.right i x h)
+    subst (λ m. Position room (known_at room c.marks old c.are c.states c.right) c.states m i x) (sym c.is) (position room c.marks old c.are c.states c.right i x h)
 
 start_in : (room : Room) (old new : List Instruction) (c : IsSimplerCode room old new) → known_in room old new c 0 ≡ nothing
 start_in room old new (stayed e) = refl
@@ -46,12 +47,12 @@ known_of (f ∷ fs) [] each k = λ i. nothing
 known_of (f ∷ fs) (g ∷ gs) each zero = known_in (room_of f) f.code g.code each.0.code
 known_of (f ∷ fs) (g ∷ gs) each (suc k) = known_of fs gs each.1 k
 
-abbrev masks_of : (fs gs : List Function) → AreSimpler fs gs → ℕ → List ℕ
-masks_of [] [] each k = []
-masks_of [] (g ∷ gs) each k = []
-masks_of (f ∷ fs) [] each k = []
-masks_of (f ∷ fs) (g ∷ gs) each zero = masks_in (room_of f) f.code g.code each.0.code
-masks_of (f ∷ fs) (g ∷ gs) each (suc k) = masks_of fs gs each.1 k
+abbrev states_of : (fs gs : List Function) → AreSimpler fs gs → ℕ → List Row
+states_of [] [] each k = []
+states_of [] (g ∷ gs) each k = []
+states_of (f ∷ fs) [] each k = []
+states_of (f ∷ fs) (g ∷ gs) each zero = states_in (room_of f) f.code g.code each.0.code
+states_of (f ∷ fs) (g ∷ gs) each (suc k) = states_of fs gs each.1 k
 
 start_of : (fs gs : List Function) (each : AreSimpler fs gs) (k : ℕ) → known_of fs gs each k 0 ≡ nothing
 start_of [] [] each k = refl
@@ -61,13 +62,13 @@ start_of (f ∷ fs) (g ∷ gs) each zero = start_in (room_of f) f.code g.code ea
 start_of (f ∷ fs) (g ∷ gs) each (suc k) = start_of fs gs each.1 k
 
 -- both have a function of this number, or neither has
-abbrev IsPair : (ℕ → List Known) → List ℕ → Option Function → Option Function → Type 0
-IsPair kn masks None None = Unit {0}
-IsPair kn masks None (Some g) = ⊥
-IsPair kn masks (Some f) None = ⊥
-IsPair kn masks (Some f) (Some g) = (g ≡ with_code f g.code) × (length g.code ≡ length f.code) × ((i : ℕ) (x : Instruction) → slice_get f.code i ≡ Some x → Position (room_of f) kn masks g.code i x)
+abbrev IsPair : (ℕ → List Known) → List Row → Option Function → Option Function → Type 0
+IsPair kn states None None = Unit {0}
+IsPair kn states None (Some g) = ⊥
+IsPair kn states (Some f) None = ⊥
+IsPair kn states (Some f) (Some g) = (g ≡ with_code f g.code) × (length g.code ≡ length f.code) × ((i : ℕ) (x : Instruction) → slice_get f.code i ≡ Some x → Position (room_of f) kn states g.code i x)
 
-pair_at : (fs gs : List Function) (each : AreSimpler fs gs) (k : ℕ) → IsPair (known_of fs gs each k) (masks_of fs gs each k) (slice_get fs k) (slice_get gs k)
+pair_at : (fs gs : List Function) (each : AreSimpler fs gs) (k : ℕ) → IsPair (known_of fs gs each k) (states_of fs gs each k) (slice_get fs k) (slice_get gs k)
 pair_at [] [] each k = tt
 pair_at [] (g ∷ gs) each k = absurd each
 pair_at (f ∷ fs) [] each k = absurd each
@@ -78,17 +79,17 @@ module _ (p q : Program) (each : AreSimpler p.functions q.functions) (same_stati
   abbrev kn : ℕ → ℕ → List Known
   kn = known_of p.functions q.functions each
 
-  abbrev masks : ℕ → List ℕ
-  masks = masks_of p.functions q.functions each
+  abbrev states : ℕ → List Row
+  states = states_of p.functions q.functions each
 
-  sized_at : (k : ℕ) (o o2 : Option Function) → slice_get p.functions k ≡ o → slice_get q.functions k ≡ o2 → IsPair (kn k) (masks k) o o2 → function_at q k ≡ with_code (function_at p k) (function_at q k).code
+  sized_at : (k : ℕ) (o o2 : Option Function) → slice_get p.functions k ≡ o → slice_get q.functions k ≡ o2 → IsPair (kn k) (states k) o o2 → function_at q k ≡ with_code (function_at p k) (function_at q k).code
   sized_at k None None e e2 is = rw (e, e2) refl
   sized_at k None (Some g) e e2 is = absurd is
   sized_at k (Some f) None e e2 is = absurd is
   sized_at k (Some f) (Some g) e e2 is = rw (e, e2) is.0
 
-  position_at : (k : ℕ) (o o2 : Option Function) → slice_get p.functions k ≡ o → slice_get q.functions k ≡ o2 → IsPair (kn k) (masks k) o o2
-      → (i : ℕ) (x : Instruction) → slice_get (function_at p k).code i ≡ Some x → Position (room_of (function_at p k)) (kn k) (masks k) (function_at q k).code i x
+  position_at : (k : ℕ) (o o2 : Option Function) → slice_get p.functions k ≡ o → slice_get q.functions k ≡ o2 → IsPair (kn k) (states k) o o2
+      → (i : ℕ) (x : Instruction) → slice_get (function_at p k).code i ≡ Some x → Position (room_of (function_at p k)) (kn k) (states k) (function_at q k).code i x
   position_at k None None e e2 is i x h = let none : (function_at p k).code ≡ [] = rw e refl in let no : None ≡ Some x = ap (λ xs. slice_get xs i) (sym none) ∙ h in absurd (let z : ⊥ = cc in z)
   position_at k None (Some g) e e2 is i x h = absurd is
   position_at k (Some f) None e e2 is i x h = absurd is
@@ -96,16 +97,16 @@ module _ (p q : Program) (each : AreSimpler p.functions q.functions) (same_stati
       let first : function_at p k ≡ f = rw e refl in
       let second : function_at q k ≡ g = rw e2 refl in
       let held : slice_get f.code i ≡ Some x = ap (λ (d : Function). slice_get d.code i) (sym first) ∙ h in
-      let one : Position (room_of f) (kn k) (masks k) (function_at q k).code i x = subst (λ (d : Function). Position (room_of f) (kn k) (masks k) d.code i x) (sym second) (is.2 i x held) in
-      subst (λ (d : Function). Position (room_of d) (kn k) (masks k) (function_at q k).code i x) (sym first) one
+      let one : Position (room_of f) (kn k) (states k) (function_at q k).code i x = subst (λ (d : Function). Position (room_of f) (kn k) (states k) d.code i x) (sym second) (is.2 i x held) in
+      subst (λ (d : Function). Position (room_of d) (kn k) (states k) (function_at q k).code i x) (sym first) one
 
-  count_at : (k : ℕ) (o o2 : Option Function) → slice_get p.functions k ≡ o → slice_get q.functions k ≡ o2 → IsPair (kn k) (masks k) o o2 → length (function_at q k).code ≡ length (function_at p k).code
+  count_at : (k : ℕ) (o o2 : Option Function) → slice_get p.functions k ≡ o → slice_get q.functions k ≡ o2 → IsPair (kn k) (states k) o o2 → length (function_at q k).code ≡ length (function_at p k).code
   count_at k None None e e2 is = rw (e, e2) refl
   count_at k None (Some g) e e2 is = absurd is
   count_at k (Some f) None e e2 is = absurd is
   count_at k (Some f) (Some g) e e2 is = rw (e, e2) is.1
 
-  simpler : IsSimpler p q kn masks
+  simpler : IsSimpler p q kn states
   simpler = record {
     sized = record {
       at = λ k. sized_at k (slice_get p.functions k) (slice_get q.functions k) refl refl (pair_at p.functions q.functions each k);
@@ -172,11 +173,11 @@ pub is_simplified : (p q : Program) → AreSimpler p.functions q.functions → q
 is_simplified p q each statics main =
     let r = simpler p q each statics main in
     let known = known_of p.functions q.functions each in
-    let masks = masks_of p.functions q.functions each in
+    let states = states_of p.functions q.functions each in
     record {
-      runs = runs p q known masks r;
-      at_calls = at_calls p q known masks r;
-      costs = costs p q known masks r;
+      runs = runs p q known states r;
+      at_calls = at_calls p q known states r;
+      costs = costs p q known states r;
       frames = frames_in p.functions q.functions each;
       bytes = bytes_in p.functions q.functions each;
       sound = stays_sound p q each statics main;

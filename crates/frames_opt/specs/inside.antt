@@ -3,3 +3,4 @@ pub mod Facts
 pub mod Rules
 pub mod Liveness
 pub mod Passes
+pub mod Sweep

@@ -7,11 +7,12 @@ ghost use Rattle.frames.specs.Costs.{code_bytes};
 ghost use Rattle.frames_opt.specs.Simplified.{IsSimplified};
 ghost use Rattle.frames_opt.specs.layer.Functions.{IsImproved, IsSimplerCode, IsSimplerFunction, AreSimpler};
 
+use crate::analysis::states_of;
 use crate::bytes::is_no_longer;
-use crate::liveness::{masks_of, swept};
 use crate::marks::marks_of;
 use crate::passes::forward;
 use crate::room::{Room, room_of};
+use crate::sweep::swept;
 use frames_code::{FlatProgram, Function, Instruction};
 use std::alloc::{AllocError, Global};
 
@@ -20,9 +21,9 @@ fn improved(alloc: Global, room: Room, code: &[Instruction]) -> Result<Vec<Instr
     ensures { IfOk result (λ made. IsImproved room code.now made.items) }
 {
     let marks = marks_of(alloc, code)?;
-    let known = forward(alloc, room, &marks, code)?;
-    let masks = masks_of(alloc, &known)?;
-    swept(alloc, &masks, &known)
+    let middle = forward(alloc, room, &marks, code)?;
+    let states = states_of(alloc, room, &marks, &middle.offered, &middle.code)?;
+    swept(alloc, &states, &middle.code)
 }
 
 /// The code by both passes, or as it was where it would have more bytes.

@@ -30,7 +30,7 @@ fn is_power_of_two(size: usize) -> bool
 }
 
 /// Whether an access by this index costs no more than one by a reference.
-fn is_cheap(room: Room, index: Operand, size: usize) -> bool
+pub fn is_cheap(room: Room, index: Operand, size: usize) -> bool
     ensures { result ≡ facts_in.is_cheap room index size }
 {
     is_index(index) && is_power_of_two(size) && room.home <= 0x800
@@ -46,7 +46,8 @@ fn is_reached(home: usize, offset: usize) -> bool
     }
 }
 
-fn is_near(room: Room, base: Base) -> bool
+/// Whether an access may name an element from this base.
+pub fn is_near(room: Room, base: Base) -> bool
     ensures { result ≡ facts_in.is_near room base }
 {
     match base {
@@ -95,7 +96,7 @@ fn from_moved(room: Room, base: Base, bytes: usize, index: Operand, width: usize
 }
 
 /// The element, a constant number of elements of `size` bytes further on.
-fn further(
+pub fn further(
     room: Room,
     base: Base,
     index: Operand,

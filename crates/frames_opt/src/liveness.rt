@@ -1,8 +1,10 @@
-//! Liveness of temporaries, a dataflow analysis, and the elimination of dead stores by it.
+//! Which temporaries an instruction reads and writes, and liveness of temporaries, a dataflow analysis.
 
-ghost use Rattle.std.specs.Prelude.{◌≡◌, ◌<◌, ◌^◌, true, zero, get_or, IfOk};
+ghost use Rattle.std.specs.Prelude.{◌≡◌, ◌<◌, ◌^◌, Some};
 ghost use Rattle.frames_opt.specs.inside.Liveness as liveness;
+ghost use Rattle.frames_opt.specs.inside.Sweep as sweep;
 
+use crate::statuses::Status;
 use frames_code::{Instruction, Location, Operand, Target};
 use std::alloc::{AllocError, Global};
 
@@ -31,17 +33,42 @@ fn is_through(number: usize, location: Location) -> bool
     }
 }
 
-/// Whether an instruction reads a temporary; a call, a byte put or got, and an exit count as reading all, and a return reads the result.
-pub fn reads(number: usize, instruction: Instruction) -> bool
-    ensures { result ≡ liveness.reads number instruction }
+fn is_by(number: usize, location: Location) -> bool
+    ensures { result ≡ liveness.is_by number location }
+{
+    match location {
+        Location::Statics(_) => false,
+        Location::Frame(_) => false,
+        Location::At(_) => false,
+        Location::Indexed { index, .. } => names(number, index),
+    }
+}
+
+/// Whether an access wants what the old code has in a temporary: not the reference, where the index is there in its place.
+fn wants(status: Status, number: usize, location: Location) -> bool
+    ensures { result ≡ liveness.wants status number location }
+{
+    match status {
+        Status::Same => is_through(number, location),
+        Status::Dead => is_through(number, location),
+        Status::Index { .. } => is_by(number, location),
+    }
+}
+
+/// Whether an instruction reads what the old code has in a temporary, where the new code's is of this status; a call, a byte put or got, and an exit count
+/// as reading all, and a return reads the result.
+pub fn reads(status: Status, number: usize, instruction: Instruction) -> bool
+    ensures { result ≡ liveness.reads status number instruction }
 {
     match instruction {
         Instruction::Nothing => false,
         Instruction::Move { source, .. } => names(number, source),
         Instruction::Compute { left, right, .. } => names(number, left) || names(number, right),
         Instruction::Convert { source, .. } => names(number, source),
-        Instruction::Load { from, .. } => is_through(number, from),
-        Instruction::Store { source, to, .. } => names(number, source) || is_through(number, to),
+        Instruction::Load { from, .. } => wants(status, number, from),
+        Instruction::Store { source, to, .. } => {
+            names(number, source) || wants(status, number, to)
+        }
         Instruction::Address { of, .. } => is_through(number, of),
         Instruction::Element { array, index, .. } => names(number, array) || names(number, index),
         Instruction::Jump(_) => false,
@@ -54,7 +81,8 @@ pub fn reads(number: usize, instruction: Instruction) -> bool
     }
 }
 
-fn temporary_of(target: Target) -> Option<usize>
+/// The temporary that a target is.
+pub fn temporary_of(target: Target) -> Option<usize>
     ensures { result ≡ liveness.temporary_of target }
 {
     match target {
@@ -64,7 +92,7 @@ fn temporary_of(target: Target) -> Option<usize>
 }
 
 /// The temporary that an instruction writes.
-fn written(instruction: Instruction) -> Option<usize>
+pub fn written(instruction: Instruction) -> Option<usize>
     ensures { result ≡ liveness.written instruction }
 {
     match instruction {
@@ -97,16 +125,14 @@ pub fn is_written(number: usize, instruction: Instruction) -> bool
 }
 
 /// Whether a temporary is dead by a mask of the first eight.
-fn is_dead(mask: u8, number: usize) -> bool
-    ensures { result ≡ liveness.is_dead mask number }
+pub fn is_dead(mask: u8, number: usize) -> bool
+    ensures { result ≡ sweep.is_dead mask number }
 {
     number < 8 && (mask >> number as u32) % 2 == 1
 }
 
 /// The mask of an instruction; past the last one none is dead.
-fn mask_at(masks: &[u8], number: usize) -> u8
-    ensures { result ≡ get_or masks.now number zero }
-{
+pub fn mask_of(masks: &[u8], number: usize) -> u8 {
     if number < masks.len() {
         masks[number]
     } else {
@@ -114,109 +140,15 @@ fn mask_at(masks: &[u8], number: usize) -> u8
     }
 }
 
-pub fn dead_at(masks: &[u8], at: usize, number: usize) -> bool
-    ensures { result ≡ liveness.dead_at masks.now at number }
-{
-    is_dead(mask_at(masks, at), number)
+/// Whether a temporary is dead before instruction `at`.
+pub fn dead_at(masks: &[u8], at: usize, number: usize) -> bool {
+    is_dead(mask_of(masks, at), number)
 }
 
-/// Whether a temporary is dead wherever instruction `at` leads, if calls and exits are left aside; a return leads nowhere here.
-fn dead_behind(masks: &[u8], at: usize, instruction: Instruction, number: usize) -> bool
-    requires { at < 2 ^ 62 }
-    ensures { result ≡ liveness.dead_behind masks.now at instruction number }
+/// The mask of one temporary, which is empty past the first eight.
+pub fn bit_of(number: usize) -> u8
+    ensures { result ≡ sweep.bit_of (Some number) }
 {
-    match instruction {
-        Instruction::Nothing => dead_at(masks, at + 1, number),
-        Instruction::Move { .. } => dead_at(masks, at + 1, number),
-        Instruction::Compute { .. } => dead_at(masks, at + 1, number),
-        Instruction::Convert { .. } => dead_at(masks, at + 1, number),
-        Instruction::Load { .. } => dead_at(masks, at + 1, number),
-        Instruction::Store { .. } => dead_at(masks, at + 1, number),
-        Instruction::Address { .. } => dead_at(masks, at + 1, number),
-        Instruction::Element { .. } => dead_at(masks, at + 1, number),
-        Instruction::Jump(to) => dead_at(masks, to, number),
-        Instruction::Branch { to, .. } => {
-            dead_at(masks, at + 1, number) && dead_at(masks, to, number)
-        }
-        Instruction::Call(_) => dead_at(masks, at + 1, number),
-        Instruction::PutByte => dead_at(masks, at + 1, number),
-        Instruction::GetByte => dead_at(masks, at + 1, number),
-        Instruction::Exit => dead_at(masks, at + 1, number),
-        Instruction::Return => true,
-    }
-}
-
-/// An instruction, but `Nothing` where it writes a temporary that is dead after it.
-fn kept(mask: u8, instruction: Instruction) -> Instruction
-    ensures { result ≡ liveness.kept mask instruction }
-{
-    match written(instruction) {
-        Some(number) => {
-            if is_dead(mask, number) {
-                Instruction::Nothing
-            } else {
-                instruction
-            }
-        }
-        None => instruction,
-    }
-}
-
-/// The code without dead stores.
-pub fn swept(
-    alloc: Global,
-    masks: &[u8],
-    code: &[Instruction],
-) -> Result<Vec<Instruction>, AllocError>
-    ensures { IfOk result (λ made. made.items ≡ liveness.swept masks.now zero code.now) }
-{
-    let mut made = Vec::with_capacity(alloc, code.len())?;
-    for number in 0..code.len() {
-        made.push(kept(mask_at(masks, number + 1), code[number]))?;
-    }
-    Ok(made)
-}
-
-/// Whether the mask of an instruction is right of a temporary.
-fn is_right(masks: &[u8], at: usize, instruction: Instruction, number: usize) -> bool
-    requires { at < 2 ^ 62 }
-    ensures { result ≡ liveness.is_right masks.now at instruction number }
-{
-    if dead_at(masks, at, number) {
-        !reads(number, kept(mask_at(masks, at + 1), instruction))
-            && (is_written(number, instruction) || dead_behind(masks, at, instruction, number))
-    } else {
-        true
-    }
-}
-
-fn all_right(masks: &[u8], at: usize, instruction: Instruction) -> bool
-    requires { at < 2 ^ 62 }
-    ensures { result ≡ liveness.all_right masks.now at instruction }
-{
-    is_right(masks, at, instruction, 0)
-        && is_right(masks, at, instruction, 1)
-        && is_right(masks, at, instruction, 2)
-        && is_right(masks, at, instruction, 3)
-        && is_right(masks, at, instruction, 4)
-        && is_right(masks, at, instruction, 5)
-        && is_right(masks, at, instruction, 6)
-        && is_right(masks, at, instruction, 7)
-}
-
-/// Whether all masks are right.
-fn are_right(masks: &[u8], code: &[Instruction]) -> bool
-    ensures { result ≡ liveness.are_right masks.now zero code.now }
-{
-    for number in 0..code.len() {
-        if !all_right(masks, number, code[number]) {
-            return false;
-        }
-    }
-    true
-}
-
-fn bit_of(number: usize) -> u8 {
     if number < 8 { 1u8 << number as u32 } else { 0 }
 }
 
@@ -263,11 +195,11 @@ fn bits_read(instruction: Instruction) -> u8 {
 fn mask_before(masks: &[u8], at: usize, instruction: Instruction) -> u8
     requires { at < 2 ^ 62 }
 {
-    let next = mask_at(masks, at + 1);
+    let next = mask_of(masks, at + 1);
     match instruction {
         Instruction::Nothing => next,
-        Instruction::Jump(to) => mask_at(masks, to),
-        Instruction::Branch { to, .. } => next & mask_at(masks, to) & !bits_read(instruction),
+        Instruction::Jump(to) => mask_of(masks, to),
+        Instruction::Branch { to, .. } => next & mask_of(masks, to) & !bits_read(instruction),
         Instruction::Return => !bits_read(instruction),
         _ => match written(instruction) {
             Some(number) => {
@@ -296,8 +228,8 @@ fn go_back(masks: &mut [u8], code: &[Instruction]) -> bool {
     changed
 }
 
-/// The analysis: the dead temporaries before each instruction. No contract depends on it.
-fn found(alloc: Global, code: &[Instruction]) -> Result<Vec<u8>, AllocError> {
+/// The dead temporaries before each instruction, as far as the analysis has found them. No contract depends on it.
+pub fn masks_of(alloc: Global, code: &[Instruction]) -> Result<Vec<u8>, AllocError> {
     let mut masks = Vec::new(alloc);
     masks.resize(code.len(), 255)?;
     for _ in 0..ROUNDS {
@@ -306,16 +238,4 @@ fn found(alloc: Global, code: &[Instruction]) -> Result<Vec<u8>, AllocError> {
         }
     }
     Ok(masks)
-}
-
-/// The dead temporaries before each instruction; where the analysis came to no end, none.
-pub fn masks_of(alloc: Global, code: &[Instruction]) -> Result<Vec<u8>, AllocError>
-    ensures { IfOk result (λ masks. liveness.are_right masks.items zero code.now ≡ true) }
-{
-    let masks = found(alloc, code)?;
-    if are_right(&masks, code) {
-        Ok(masks)
-    } else {
-        Ok(Vec::new(alloc))
-    }
 }

@@ -5,6 +5,7 @@ ghost use Rattle.frames_opt.specs.inside.Passes as passes;
 ghost use Rattle.frames_opt.specs.inside.Passes.{AreMarked};
 
 use crate::liveness::{dead_at, is_written, masks_of, reads};
+use crate::statuses::Status;
 use frames_code::{Instruction, Operand, Target};
 use std::alloc::{AllocError, Global};
 
@@ -122,7 +123,7 @@ fn is_read_twice(masks: &[u8], code: &[Instruction], first: usize, number: usize
             return false;
         }
         if !leads_on(*instruction, number) {
-            if reads(number, *instruction) {
+            if reads(Status::Same, number, *instruction) {
                 if is_read {
                     return true;
                 }

@@ -1,21 +1,22 @@
 -- Functions and programs of simpler code.
-use Rattle.std.specs.Prelude.{◌≡◌, ◌≤◌, ℕ, Bool, true, List, [], ◌∷◌, sum_by}
+use Rattle.std.specs.Prelude.{◌≡◌, ◌≤◌, Bool, true, List, [], ◌∷◌, sum_by}
 use Rattle.frames_code.specs.declared.code.Instruction.{Instruction}
 use Rattle.frames_code.specs.Code.{Function, Program}
 use Rattle.frames.specs.Costs.{code_bytes}
 use Rattle.frames_opt.specs.Simplified.{IsSimplified}
 use Rattle.frames_opt.specs.declared.room.Room.{Room}
 use Rattle.frames_opt.specs.inside.Facts.{nothing, room_of}
-use Rattle.frames_opt.specs.inside.Liveness.{swept, are_right}
+use Rattle.frames_opt.specs.declared.rows.Row.{Row}
 use Rattle.frames_opt.specs.inside.Passes.{AreMarked, forward}
+use Rattle.frames_opt.specs.inside.Sweep.{offers, swept, are_right}
 
 -- code that went through both passes, in a function with this room
 pub record IsImproved (room : Room) (old new : List Instruction) : Type 0 where
   pub marks : List Bool
   pub are : AreMarked marks old
-  pub masks : List ℕ
-  pub right : are_right masks 0 (forward room marks 0 nothing old) ≡ true
-  pub is : new ≡ swept masks 0 (forward room marks 0 nothing old)
+  pub states : List Row
+  pub right : are_right room states (offers room marks 0 nothing old) 0 (forward room marks 0 nothing old) ≡ true
+  pub is : new ≡ swept states 0 (forward room marks 0 nothing old)
 
 pub data IsSimplerCode (room : Room) (old new : List Instruction) : Type 0 where
   stayed : (is : new ≡ old) → IsSimplerCode room old new
