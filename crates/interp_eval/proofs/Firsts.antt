@@ -1,5 +1,5 @@
 -- The results of initialisers.
-use Rattle.std.proofs.Common.{◌≡◌, ◌≤◌, ◌<◌, ℕ, suc, ◌+◌, ◌-◌, ◌*◌, List, [], ◌∷◌, length, map, refl, sym, ap, ◌∙◌, subst, arith}
+use Rattle.std.proofs.Common.{◌≡◌, ◌≤◌, ℕ, suc, ◌+◌, ◌-◌, ◌*◌, List, [], ◌∷◌, length, map, Option, Some, sym, ap, ◌∙◌, subst, arith}
 use Rattle.std.specs.Prelude.{true}
 use Rattle.std.proofs.lemmas.Bool.{and_parts}
 use Rattle.ctypes.specs.declared.types.IntType.{IntType}
@@ -12,9 +12,10 @@ use Rattle.csem.specs.Machine.{State, Run, then_do}
 use Rattle.csem.specs.Statements.{clear}
 use Rattle.interp_store.specs.declared.scene.Scene.{Scene}
 use Rattle.interp_store.specs.layer.Frames.{Found}
-use Rattle.interp_eval.specs.layer.Comes.{Course, Leads, all_initialised, initialised}
+use Rattle.interp_eval.specs.declared.clock.Clock.{Clock}
+use Rattle.interp_eval.specs.layer.Comes.{Course, Leads, Comes, all_initialised, initialised, nothing}
 use Rattle.interp_eval.specs.layer.Quick.{quick_initialiser, quick_initialisers}
-use Rattle.interp_eval.proofs.Comings.{leads_as}
+use Rattle.interp_eval.proofs.Comings.{gone_on, leads_as}
 use Rattle.interp_eval.proofs.Work.{work_initialiser, work_initialisers}
 
 -- the parts of a braced list
@@ -22,24 +23,11 @@ abbrev pub these : List Initialiser → typed.Initialisers
 these xs = initialisers_of (map initialiser_of xs)
 
 module _ (c : Course) (k : ℕ) (scene : Scene) (p : typed.Program) (t : IntType) (r : Reference) (rest : Unit {0} → State → Run Found) where
-  -- the first one, and then the others
-  pub part_first : (n i : ℕ) (inner : List ℕ) (xs : List Initialiser) (x : Initialiser) (more : List Initialiser) → xs ≡ x ∷ more →
-      Leads c k scene (all_initialised (these xs) t n i inner r p) rest →
-      Leads c k scene (λ s. then_do (initialised (initialiser_of x) t inner (into r i) p s) (λ u s. all_initialised (these more) t (n - 1) (suc i) inner r p s)) rest
-  part_first n i inner xs x more e h = let P : List Initialiser → Type 0 = λ xs. Leads c k scene (all_initialised (these xs) t n i inner r p) rest in subst P e h
-
   -- none is left
   pub parts_end : (n i : ℕ) (inner : List ℕ) (xs : List Initialiser) → length xs ≡ 0 → Leads c k scene (all_initialised (these xs) t n i inner r p) rest →
       Leads c k scene (clear n i inner r) rest
   parts_end n i inner [] e h = h
   parts_end n i inner (x ∷ xs) e h = absurd (omega (arith, e))
-
-  -- the same part
-  pub part_as : (x : typed.Initialiser) (lengths other : List ℕ) (to at : Reference) (next : Unit {0} → State → Run (Unit {0})) → other ≡ lengths → at ≡ to →
-      Leads c k scene (λ s. then_do (initialised x t lengths to p s) next) rest → Leads c k scene (λ s. then_do (initialised x t other at p s) next) rest
-  part_as x lengths other to at next e f h =
-      leads_as c k scene (λ s. then_do (initialised x t lengths to p s) next) (λ s. then_do (initialised x t other at p s) next) rest
-      (λ s. ap (λ l. then_do (initialised x t l to p s) next) (sym e) ∙ ap (λ to. then_do (initialised x t other to p s) next) (sym f)) h
 
   -- at the same number
   pub parts_at : (all : typed.Initialisers) (n m i j : ℕ) (inner : List ℕ) → n ≡ m → i ≡ j → Leads c k scene (all_initialised all t n i inner r p) rest →
@@ -58,17 +46,46 @@ pub clears_at : (c : Course) (k : ℕ) (scene : Scene) (r : Reference) (rest : U
 clears_at c k scene r rest n m i j inner e f h =
     leads_as c k scene (clear n i inner r) (clear m j inner r) rest (λ s. ap (λ n. clear n i inner r s) e ∙ ap (λ i. clear m i inner r s) f) h
 
+-- ---- one part more
+
+one_less : (xs : List Initialiser) (x : Initialiser) (more : List Initialiser) → xs ≡ x ∷ more → length xs ≡ suc (length more)
+one_less xs x more e = ap (λ (xs : List Initialiser). length xs) e
+
+module _ (c : Course) (k n : ℕ) (scene : Scene) (p : typed.Program) (t : IntType) (r : Reference) (inner : List ℕ) (rest : Unit {0} → State → Run Found)
+    (all xs : List Initialiser) (x : Initialiser) (more : List Initialiser) (e : xs ≡ x ∷ more)
+    (h : Leads c k scene (all_initialised (these xs) t (n - (length all - length xs)) (length all - length xs) inner r p) rest)
+    (lengths : List ℕ) (to : Reference) (same : lengths ≡ inner) (is : to ≡ into r (length all - length xs)) where
+  abbrev part_of : ℕ → List ℕ → Reference → State → Run (Unit {0})
+  part_of i lengths to s = then_do (initialised (initialiser_of x) t lengths to p s) (λ u s. all_initialised (these more) t (n - i - 1) (suc i) inner r p s)
+
+  split : (i : ℕ) → Leads c k scene (all_initialised (these xs) t (n - i) i inner r p) rest → Leads c k scene (part_of i inner (into r i)) rest
+  split i h = let P : List Initialiser → Type 0 = λ xs. Leads c k scene (all_initialised (these xs) t (n - i) i inner r p) rest in subst P e h
+
+  -- it comes first
+  pub part_first : Leads c k scene (part_of (length all - length xs) lengths to) rest
+  part_first =
+      let i = length all - length xs in
+      leads_as c k scene (part_of i inner (into r i)) (part_of i lengths to) rest
+      (λ s. ap (λ l. part_of i l (into r i) s) (sym same) ∙ ap (λ to. part_of i lengths to s) (sym is)) (split i h)
+
+  -- and the others are left
+  pub parts_left : length xs ≤ length all → (limit : ℕ) (result : Option (Unit {0})) (u : Unit {0}) (new : Clock) (later : Scene) → result ≡ Some u →
+      ((rest2 : Unit {0} → State → Run Found) → Leads c k scene (initialised (initialiser_of x) t lengths to p) rest2 → Comes nothing c rest2 limit result new later) →
+      Leads c new.spent later (all_initialised (these more) t (n - (length all - length more)) (length all - length more) inner r p) rest
+  parts_left below limit result u new later some does =
+      let less = one_less xs x more e in
+      let i = length all - length xs in
+      let left : n - i - 1 ≡ n - (length all - length more) = omega (arith, less, below) in
+      let next : suc i ≡ length all - length more = omega (arith, less, below) in
+      parts_at c new.spent later p t r rest (these more) (n - i - 1) (n - (length all - length more)) (suc i) (length all - length more) inner left next
+      (gone_on nothing c limit k scene (initialised (initialiser_of x) t lengths to p) (λ u s. all_initialised (these more) t (n - i - 1) (suc i) inner r p s) rest
+      result u new later some does part_first)
+
 -- ---- numbers of parts
 
 module _ (xs : List Initialiser) (x : Initialiser) (more : List Initialiser) (e : xs ≡ x ∷ more) where
-  pub one_less : length xs ≡ suc (length more)
-  one_less = ap (λ (xs : List Initialiser). length xs) e
-
-  pub work_first : (n : ℕ) → work_initialisers (these xs) ≤ n → work_initialiser (initialiser_of x) < n + 1
-  work_first n h =
-      let P : List Initialiser → Type 0 = λ xs. work_initialisers (these xs) ≤ n in
-      let all : work_initialiser (initialiser_of x) + work_initialisers (these more) + 1 ≤ n = subst P e h in
-      omega (arith, all)
+  pub one_fewer : (n : ℕ) → length xs ≤ n → length more ≤ n
+  one_fewer n h = let less = one_less xs x more e in omega (arith, less, h)
 
   pub work_more : (n : ℕ) → work_initialisers (these xs) ≤ n → work_initialisers (these more) ≤ n
   work_more n h =

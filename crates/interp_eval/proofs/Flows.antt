@@ -1,10 +1,10 @@
 -- The results of statements.
-use Rattle.std.proofs.Common.{◌≡◌, ◌≤◌, ℕ, List, ◌∷◌, map, Option, Some, None, refl, sym, ap, ◌∙◌, subst, arith, ◌+◌}
+use Rattle.std.proofs.Common.{◌≡◌, ◌≤◌, ℕ, List, ◌∷◌, map, Option, Some, None, sym, ap, ◌∙◌, subst, arith, ◌+◌}
 use Rattle.typing_spec.specs.Types.{ObjectType}
 use Rattle.typing_spec.specs.Program as typed
 use Rattle.ctypes.specs.declared.types.IntType.{IntType}
 use Rattle.csem.specs.Store.{Reference}
-use Rattle.csem.specs.Machine.{State, Run, Goes, Stops, then_do}
+use Rattle.csem.specs.Machine.{State, Run, Goes, then_do}
 use Rattle.csem.specs.Expressions.{evaluate_or}
 use Rattle.csem.specs.Statements.{Flow, Normal, Broken, Continued, Returned, after_body, next_after, own, define_object}
 use Rattle.typed_ast.specs.declared.statements.Statement.{Statement}

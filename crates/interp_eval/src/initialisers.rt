@@ -177,7 +177,7 @@ fn parts(
             ty: of.ty,
             lengths: inner_of(of.lengths),
         };
-        let Some(()) = initialise(scope, scene, clock, x, inner, &to) else {
+        let Some(_) = initialise(scope, scene, clock, x, inner, &to) else {
             return None;
         };
         rest = more;

@@ -1,4 +1,4 @@
-use Rattle.std.proofs.Common.{◌≡◌, Some, sym, ap, refl, ◌∙◌}
+use Rattle.std.proofs.Common.{sym, refl}
 use Rattle.typed_ast.specs.View.{program_of, initialiser_of, object_type_of}
 use Rattle.csem.specs.Machine.{Goes}
 use Rattle.csem.specs.Statements.{Normal}

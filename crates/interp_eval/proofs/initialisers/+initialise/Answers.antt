@@ -1,11 +1,11 @@
-use Rattle.std.proofs.Common.{rules, arith, ◌≡◌, ◌≤◌, ◌-◌, suc, sym, ap, refl, ◌∙◌, length}
-use Rattle.typed_ast.specs.View.{program_of, initialiser_of}
+use Rattle.std.proofs.Common.{rules, arith, ◌≡◌, ◌≤◌, ◌-◌, ap, ◌∙◌, length}
+use Rattle.typed_ast.specs.View.{program_of}
 use Rattle.csem.specs.Store.{into}
 use Rattle.csem.specs.Statements.{first_length, inner_lengths}
 use Rattle.interp_store.specs.View.{reference_of}
-use Rattle.interp_eval.specs.layer.Comes.{nothing, all_initialised}
-use Rattle.interp_eval.proofs.Comings.{after_tick, no_tick, gone_on, gone_none}
-use Rattle.interp_eval.proofs.Firsts.{these, part_first, part_as, parts_at, parts_end, clears_at, one_less, work_first, work_more, quick_first, quick_more}
+use Rattle.interp_eval.specs.layer.Comes.{nothing}
+use Rattle.interp_eval.proofs.Comings.{after_tick, no_tick, gone_none}
+use Rattle.interp_eval.proofs.Firsts.{these, part_first, parts_left, parts_at, parts_end, clears_at, one_fewer, work_more, quick_first, quick_more}
 use Rattle.interp_eval.proofs.initialisers.+initialise.Goals as goal
 
 pub list-returns-then-not-tick-clause-does : goal.list-returns-then-not-tick-clause-does
@@ -48,72 +48,48 @@ pub parts-returns-in_default-initialise-clause-does : goal.parts-returns-in_defa
 parts-returns-in_default-initialise-clause-does t c = λ run rest h.
     let l = c.loop-x in
     let p = program_of c.args.scope.now.program.now in
-    let i = length c.args.all.now - length l.rest.now in
     let number = ap (into (reference_of c.args.r.now)) (search (rules)) in
     gone_none nothing run c.args.scope.now.limit l.clock.spent l.scene _ _ rest c.initialise.result c.initialise.new.clock c.initialise.new.scene c.in_default-initialise.is (c.initialise.ensures.does run)
-    (part_as run l.clock.spent l.scene p c.args.of.ty (reference_of c.args.r.now) rest (initialiser_of c.in-Some.x.now) (inner_lengths c.args.of.lengths.now) c.inner_of.result.now
-    (into (reference_of c.args.r.now) i) (reference_of c.in-Ok.to) _ c.inner_of.ensures (c.in-Ok.ensures.ok ∙ number)
-    (part_first run l.clock.spent l.scene p c.args.of.ty (reference_of c.args.r.now) rest (first_length c.args.of.lengths.now - i) i (inner_lengths c.args.of.lengths.now)
-    l.rest.now c.in-Some.x.now c.in-Some.more.now c.in-Some.ensures.cases.0 (l.invariant.leads run rest h)))
+    (part_first run l.clock.spent (first_length c.args.of.lengths.now) l.scene p c.args.of.ty (reference_of c.args.r.now) (inner_lengths c.args.of.lengths.now) rest
+    c.args.all.now l.rest.now c.in-Some.x.now c.in-Some.more.now c.in-Some.ensures.cases.0 (l.invariant.leads run rest h)
+    c.inner_of.result.now (reference_of c.in-Ok.to) c.inner_of.ensures (c.in-Ok.ensures.ok ∙ number))
 
 pub parts-returns-in_default-initialise-clause-here : goal.parts-returns-in_default-initialise-clause-here
 parts-returns-in_default-initialise-clause-here t c = λ q none.
     c.initialise.ensures.here (quick_first c.loop-x.rest.now c.in-Some.x.now c.in-Some.more.now c.in-Some.ensures.cases.0 (c.loop-x.invariant.here q)) c.in_default-initialise.is
 
-pub parts-loop-x-preserved-in-Some-initialise : goal.parts-loop-x-preserved-in-Some-initialise
-parts-loop-x-preserved-in-Some-initialise t c =
-    let l = c.loop-x in
-    let p = program_of c.args.scope.now.program.now in
-    let all = length c.args.all.now in
-    let k = first_length c.args.of.lengths.now in
-    let i = all - length l.rest.now in
-    let less = one_less l.rest.now c.in-Some.x.now c.in-Some.more.now c.in-Some.ensures.cases.0 in
-    let left : k - i - 1 ≡ k - (all - length c.in-Some.more.now) = omega (arith, less, l.invariant.fewer) in
-    let next : suc i ≡ all - length c.in-Some.more.now = omega (arith, less, l.invariant.fewer) in
-    let fewer : length c.in-Some.more.now ≤ all = omega (arith, less, l.invariant.fewer) in
-    let spent : c.args.clock.now.spent ≤ c.initialise.new.clock.spent = omega (arith, l.invariant.spends.0, c.initialise.ensures.spends.0) in
-    let number = ap (into (reference_of c.args.r.now)) (search (rules)) in
-    record {
-      spends = (spent, c.initialise.ensures.spends.1);
-      below = work_more l.rest.now c.in-Some.x.now c.in-Some.more.now c.in-Some.ensures.cases.0 _ l.invariant.below;
-      fewer = fewer;
-      here = λ q. quick_more l.rest.now c.in-Some.x.now c.in-Some.more.now c.in-Some.ensures.cases.0 (l.invariant.here q);
-      leads = λ run rest h. parts_at run c.initialise.new.clock.spent c.initialise.new.scene p c.args.of.ty (reference_of c.args.r.now) rest (these c.in-Some.more.now) _ _ _ _
-          (inner_lengths c.args.of.lengths.now) left next
-          (gone_on nothing run c.args.scope.now.limit l.clock.spent l.scene _ _ rest c.initialise.result c.in-Some-initialise.field-0 c.initialise.new.clock c.initialise.new.scene c.in-Some-initialise.is
-          (c.initialise.ensures.does run)
-          (part_as run l.clock.spent l.scene p c.args.of.ty (reference_of c.args.r.now) rest (initialiser_of c.in-Some.x.now) (inner_lengths c.args.of.lengths.now) c.inner_of.result.now
-          (into (reference_of c.args.r.now) i) (reference_of c.in-Ok.to) _ c.inner_of.ensures (c.in-Ok.ensures.ok ∙ number)
-          (part_first run l.clock.spent l.scene p c.args.of.ty (reference_of c.args.r.now) rest (k - i) i (inner_lengths c.args.of.lengths.now)
-          l.rest.now c.in-Some.x.now c.in-Some.more.now c.in-Some.ensures.cases.0 (l.invariant.leads run rest h))));
-    }
-
 pub parts-loop-x-preserved : goal.parts-loop-x-preserved
 parts-loop-x-preserved t c =
     let l = c.loop-x in
     let p = program_of c.args.scope.now.program.now in
-    let all = length c.args.all.now in
-    let k = first_length c.args.of.lengths.now in
-    let i = all - length l.rest.now in
-    let less = one_less l.rest.now c.in-Some.x.now c.in-Some.more.now c.in-Some.ensures.cases.0 in
-    let left : k - i - 1 ≡ k - (all - length c.in-Some.more.now) = omega (arith, less, l.invariant.fewer) in
-    let next : suc i ≡ all - length c.in-Some.more.now = omega (arith, less, l.invariant.fewer) in
-    let fewer : length c.in-Some.more.now ≤ all = omega (arith, less, l.invariant.fewer) in
     let spent : c.args.clock.now.spent ≤ c.initialise.new.clock.spent = omega (arith, l.invariant.spends.0, c.initialise.ensures.spends.0) in
     let number = ap (into (reference_of c.args.r.now)) (search (rules)) in
     record {
       spends = (spent, c.initialise.ensures.spends.1);
       below = work_more l.rest.now c.in-Some.x.now c.in-Some.more.now c.in-Some.ensures.cases.0 _ l.invariant.below;
-      fewer = fewer;
+      fewer = one_fewer l.rest.now c.in-Some.x.now c.in-Some.more.now c.in-Some.ensures.cases.0 _ l.invariant.fewer;
       here = λ q. quick_more l.rest.now c.in-Some.x.now c.in-Some.more.now c.in-Some.ensures.cases.0 (l.invariant.here q);
-      leads = λ run rest h. parts_at run c.initialise.new.clock.spent c.initialise.new.scene p c.args.of.ty (reference_of c.args.r.now) rest (these c.in-Some.more.now) _ _ _ _
-          (inner_lengths c.args.of.lengths.now) left next
-          (gone_on nothing run c.args.scope.now.limit l.clock.spent l.scene _ _ rest c.initialise.result c.in-Some-initialise.field-0 c.initialise.new.clock c.initialise.new.scene c.in-Some-initialise.is
-          (c.initialise.ensures.does run)
-          (part_as run l.clock.spent l.scene p c.args.of.ty (reference_of c.args.r.now) rest (initialiser_of c.in-Some.x.now) (inner_lengths c.args.of.lengths.now) c.inner_of.result.now
-          (into (reference_of c.args.r.now) i) (reference_of c.in-Ok.to) _ c.inner_of.ensures (c.in-Ok.ensures.ok ∙ number)
-          (part_first run l.clock.spent l.scene p c.args.of.ty (reference_of c.args.r.now) rest (k - i) i (inner_lengths c.args.of.lengths.now)
-          l.rest.now c.in-Some.x.now c.in-Some.more.now c.in-Some.ensures.cases.0 (l.invariant.leads run rest h))));
+      leads = λ run rest h. parts_left run l.clock.spent (first_length c.args.of.lengths.now) l.scene p c.args.of.ty (reference_of c.args.r.now) (inner_lengths c.args.of.lengths.now) rest
+          c.args.all.now l.rest.now c.in-Some.x.now c.in-Some.more.now c.in-Some.ensures.cases.0 (l.invariant.leads run rest h)
+          c.inner_of.result.now (reference_of c.in-Ok.to) c.inner_of.ensures (c.in-Ok.ensures.ok ∙ number)
+          l.invariant.fewer c.args.scope.now.limit c.initialise.result c.in-Some-initialise.field-0 c.initialise.new.clock c.initialise.new.scene c.in-Some-initialise.is (c.initialise.ensures.does run);
+    }
+
+pub parts-loop-x-preserved-in-Some-initialise : goal.parts-loop-x-preserved-in-Some-initialise
+parts-loop-x-preserved-in-Some-initialise t c =
+    let l = c.loop-x in
+    let p = program_of c.args.scope.now.program.now in
+    let spent : c.args.clock.now.spent ≤ c.initialise.new.clock.spent = omega (arith, l.invariant.spends.0, c.initialise.ensures.spends.0) in
+    let number = ap (into (reference_of c.args.r.now)) (search (rules)) in
+    record {
+      spends = (spent, c.initialise.ensures.spends.1);
+      below = work_more l.rest.now c.in-Some.x.now c.in-Some.more.now c.in-Some.ensures.cases.0 _ l.invariant.below;
+      fewer = one_fewer l.rest.now c.in-Some.x.now c.in-Some.more.now c.in-Some.ensures.cases.0 _ l.invariant.fewer;
+      here = λ q. quick_more l.rest.now c.in-Some.x.now c.in-Some.more.now c.in-Some.ensures.cases.0 (l.invariant.here q);
+      leads = λ run rest h. parts_left run l.clock.spent (first_length c.args.of.lengths.now) l.scene p c.args.of.ty (reference_of c.args.r.now) (inner_lengths c.args.of.lengths.now) rest
+          c.args.all.now l.rest.now c.in-Some.x.now c.in-Some.more.now c.in-Some.ensures.cases.0 (l.invariant.leads run rest h)
+          c.inner_of.result.now (reference_of c.in-Ok.to) c.inner_of.ensures (c.in-Ok.ensures.ok ∙ number)
+          l.invariant.fewer c.args.scope.now.limit c.initialise.result c.in-Some-initialise.field-0 c.initialise.new.clock c.initialise.new.scene c.in-Some-initialise.is (c.initialise.ensures.does run);
     }
 
 pub parts-returns-clause-does : goal.parts-returns-clause-does

@@ -1,5 +1,4 @@
-use Rattle.std.proofs.Common.{rules, ◌≡◌, ◌-◌, ◌*◌, ap, refl, sym, ◌∙◌}
-use Rattle.typing_spec.specs.Types.{elements_in}
+use Rattle.std.proofs.Common.{rules, ◌≡◌, ◌-◌, ap, refl, sym, ◌∙◌}
 use Rattle.csem.specs.Machine.{Goes}
 use Rattle.csem.specs.Statements.{first_length, inner_lengths, zeros}
 use Rattle.interp_store.specs.View.{reference_of}
