@@ -1,8 +1,8 @@
 -- The result of a part that is done.
-use Rattle.std.proofs.Common.{◌≡◌, ℕ, suc, ◌+◌, Option, Some, None, refl, sym, ap, subst, ◌∙◌, arith}
+use Rattle.std.proofs.Common.{◌≡◌, ◌<◌, ◌≤◌, ℕ, zero, suc, ◌+◌, ◌-◌, Option, Some, None, refl, sym, ap, subst, ◌∙◌, arith}
 use Rattle.std.specs.Prelude.{Bool, true, false, Result, Ok, Err}
 use Rattle.std.specs.Bool.{OnTrue, OnFalse}
-use Rattle.csem.specs.Machine.{State, Run, Goes, Stops, then_do, tick}
+use Rattle.csem.specs.Machine.{State, Run, Goes, Stops, TicksUsed, then_do, tick, ticks}
 use Rattle.interp_store.specs.declared.scene.Scene.{Scene}
 use Rattle.interp_store.specs.declared.stop.Stop.{Stop}
 use Rattle.interp_store.specs.declared.stop.Stop.TheVariants as stop
@@ -49,6 +49,54 @@ pub no_tick : {A : Type 0} (c : Course) (limit k : ℕ) (new : Clock) (scene : S
     OnFalse b (Idles new.why new.spent limit) → OnFalse b (new.spent ≡ k) → Leads c k scene (λ s. tick s part) rest → StopsBy c limit new.why new.spent scene
 no_tick c limit k new scene part rest b off i e h =
     idles c limit k new.spent scene part rest (on_false (new.spent ≡ k) b off e) h new.why (on_false (Idles new.why new.spent limit) b off i)
+
+-- ---- a number of ticks
+
+paid : (n m j : ℕ) (s : State) → j ≡ n + m → ticks n (record s { clock = j }) ≡ Goes tt (record s { clock = m })
+paid zero m j s e = ap (λ j. Goes tt (record s { clock = j })) (omega (arith, e))
+paid (suc n) m zero s e = absurd (omega (arith, e))
+paid (suc n) m (suc j) s e = paid n m j s (omega (arith, e))
+
+unpaid : (n j : ℕ) (s : State) → j < n → ticks n (record s { clock = j }) ≡ Stops TicksUsed (record s { clock = 0 })
+unpaid zero j s h = absurd (omega (arith, h))
+unpaid (suc n) zero s h = refl
+unpaid (suc n) (suc j) s h = unpaid n j s (omega (arith, h))
+
+module _ {A : Type 0} (c : Course) (k n : ℕ) (scene : Scene) (next : Unit {0} → State → Run A) (rest : A → State → Run Found)
+    (h : Leads c k scene (λ s. then_do (ticks n s) next) rest) where
+  all_taken : (k2 : ℕ) → k2 ≡ k + n → Leads c k2 scene (next tt) rest
+  all_taken k2 e = record {
+    is_left = λ m.
+        let same : (n + m) + k ≡ m + k2 = omega (arith, e) in
+        ap (λ r. then_do (then_do r next) rest) (sym (paid n m (n + m) (state_at c scene m) refl)) ∙ h.is_left (n + m) ∙ ap c.whole same;
+  }
+
+  -- are taken
+  pub after_ticks : (k2 : ℕ) (b : Bool) → b ≡ true → OnTrue b (k2 ≡ k + n) → Leads c k2 scene (next tt) rest
+  after_ticks k2 b on t = all_taken k2 (on_true (k2 ≡ k + n) b on t)
+
+  too_few : (limit : ℕ) → k ≤ limit → limit < k + n → c.whole limit ≡ Stops TicksUsed (state_at c scene 0)
+  too_few limit below short =
+      let same : (limit - k) + k ≡ limit = omega (arith, below) in
+      let few : limit - k < n = omega (arith, below, short) in
+      sym (ap c.whole same) ∙ sym (h.is_left (limit - k)) ∙ ap (λ r. then_do (then_do r next) rest) (unpaid n (limit - k) (state_at c scene 0) few)
+
+  idles_at : (limit spent : ℕ) → c.whole limit ≡ Stops TicksUsed (state_at c scene 0) → (w : Why) → Idles w spent limit → StopsBy c limit w spent scene
+  idles_at limit spent e why.Ticks i = (i, ap c.whole i ∙ e)
+  idles_at limit spent e (why.Undefined act at) i = absurd i
+  idles_at limit spent e why.Memory i = absurd i
+  idles_at limit spent e why.Elsewhere i = absurd i
+
+  -- or too few are left
+  pub no_ticks : (limit : ℕ) (new : Clock) (b : Bool) → b ≡ false → OnFalse b (Idles new.why new.spent limit) → OnFalse b (limit < k + n) → k ≤ limit →
+      StopsBy c limit new.why new.spent scene
+  no_ticks limit new b off i short below =
+      idles_at limit new.spent (too_few limit below (on_false (limit < k + n) b off short)) new.why (on_false (Idles new.why new.spent limit) b off i)
+
+-- the same number
+pub ticks_as : {A : Type 0} (c : Course) (k : ℕ) (scene : Scene) (next : Unit {0} → State → Run A) (rest : A → State → Run Found) (n m : ℕ) → n ≡ m →
+    Leads c k scene (λ s. then_do (ticks n s) next) rest → Leads c k scene (λ s. then_do (ticks m s) next) rest
+ticks_as c k scene next rest n m e h = record { is_left = λ i. ap (λ n. then_do (then_do (ticks n (state_at c scene i)) next) rest) (sym e) ∙ h.is_left i }
 
 -- ---- a part
 

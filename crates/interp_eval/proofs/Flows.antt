@@ -1,25 +1,20 @@
 -- The results of statements.
-use Rattle.std.proofs.Common.{◌≡◌, rules, ◌≤◌, ℕ, ℤ, List, ◌∷◌, map, Option, Some, None, refl, sym, ap, ◌∙◌, subst, arith, ◌+◌}
+use Rattle.std.proofs.Common.{◌≡◌, ◌≤◌, ℕ, List, ◌∷◌, map, Option, Some, None, sym, ap, ◌∙◌, subst, arith, ◌+◌}
 use Rattle.typing_spec.specs.Types.{ObjectType}
 use Rattle.typing_spec.specs.Program as typed
 use Rattle.ctypes.specs.declared.types.IntType.{IntType}
-use Rattle.ctypes.specs.Types.{converted}
 use Rattle.csem.specs.Store.{Reference}
-use Rattle.csem.specs.Machine.{State, Run, Goes, Stops, then_do, tick, stored}
+use Rattle.csem.specs.Machine.{State, Run, Goes, then_do}
 use Rattle.csem.specs.Expressions.{evaluate_or}
 use Rattle.csem.specs.Statements.{Flow, Normal, Broken, Continued, Returned, after_body, next_after, own, define_object}
 use Rattle.typed_ast.specs.declared.statements.Statement.{Statement}
-use Rattle.typed_ast.specs.declared.expressions.Value.{Value}
-use Rattle.typed_ast.specs.declared.initialisers.Initialiser.{Initialiser, the_lemmas}
-use Rattle.typed_ast.specs.declared.initialisers.Initialiser as I
-use Rattle.typed_ast.specs.View.{value_of, initialiser_of, statement_of, statements_of}
+use Rattle.typed_ast.specs.View.{statement_of, statements_of}
 use Rattle.interp_store.specs.declared.scene.Scene.{Scene}
 use Rattle.interp_store.specs.layer.Frames.{Found}
 use Rattle.interp_store.specs.layer.Presents.{call_in, loop, tested}
 use Rattle.interp_store.specs.layer.Agrees.{Outside, state_in}
 use Rattle.interp_store.proofs.Adequate.{real}
-use Rattle.interp_store.proofs.Resumes.{tick_then_of}
-use Rattle.interp_eval.specs.layer.Comes.{Course, Leads, valued, executed, all_executed, way_out}
+use Rattle.interp_eval.specs.layer.Comes.{Course, Leads, initialised, executed, all_executed, way_out}
 use Rattle.interp_eval.proofs.Work.{work_all, work_statement}
 use Rattle.interp_eval.proofs.Comings.{leads_as}
 
@@ -81,32 +76,23 @@ leads_there c k scene part part2 rest e h = record {
   is_left = λ n. ap (λ r. then_do r rest) (sym (e (record { clock = n; input = c.input; history = c.history }))) ∙ h.is_left n;
 }
 
-given_first : (r : Run ℤ) (u : IntType) (at : Reference) →
-    then_do (then_do r (λ v s. tick s (λ s. Goes tt (stored at (converted u v) s)))) (λ (z : Unit {0}) s. Goes Normal s) ≡ then_do r (λ v s. tick s (λ s. Goes Normal (stored at (converted u v) s)))
-given_first (Goes v s) u at = tick_then_of s.clock s (λ s. Goes tt (stored at (converted u v) s)) (λ z s. Goes Normal s)
-given_first (Stops e s) u at = refl
-
--- a single value
-pub defines : (c : Course) (k : ℕ) (scene : Scene) (p : typed.Program) (objects : List ObjectType) (n : ℕ) (o : Option ObjectType) (t : ObjectType)
-    (u : IntType) (e : typed.Value) (i : typed.Initialiser) (r : Reference)
-    (rest : Flow → State → Run Found) → o ≡ Some t → i ≡ typed.one_value u e → ((o : Outside) → r ≡ own n (state_in scene o)) →
+-- a type, and these are its elements
+pub defines : (c : Course) (k : ℕ) (scene : Scene) (p : typed.Program) (objects : List ObjectType) (n : ℕ) (o : Option ObjectType) (u : IntType) (lengths : List ℕ)
+    (t : ObjectType) (i : typed.Initialiser) (r : Reference) (rest : Flow → State → Run Found) → o ≡ Some t → u ≡ t.element → lengths ≡ t.lengths →
+    ((o : Outside) → r ≡ own n (state_in scene o)) →
     Leads c k scene (λ s. define_object p (call_in p) objects o n i s) rest →
-    Leads c k scene (λ s. then_do (valued e p s) (λ v s. tick s (λ s. Goes Normal (stored r (converted u v) s)))) rest
-defines c k scene p objects n o t u e i r rest is what at h =
-    leads_there c k scene (λ s. define_object p (call_in p) objects o n i s) _ rest
+    Leads c k scene (λ s. then_do (initialised i u lengths r p s) (λ z s. Goes Normal s)) rest
+defines c k scene p objects n o u lengths t i r rest is element same at h =
+    leads_there c k scene (λ s. define_object p (call_in p) objects o n i s) (λ s. then_do (initialised i u lengths r p s) (λ z s. Goes Normal s)) rest
     (λ x.
     let s = state_in scene x in
-    ap (λ o. define_object p (call_in p) objects o n i s) is ∙ ap (λ i. define_object p (call_in p) objects (Some t) n i s) what
-    ∙ given_first (valued e p s) u (own n s) ∙ ap (λ r. then_do (valued e p s) (λ v s. tick s (λ s. Goes Normal (stored r (converted u v) s)))) (sym (at x))) h
+    ap (λ o. define_object p (call_in p) objects o n i s) is
+    ∙ ap (λ r. then_do (initialised i t.element t.lengths r p s) (λ (z : Unit {0}) s. Goes Normal s)) (sym (at x))
+    ∙ ap (λ u. then_do (initialised i u t.lengths r p s) (λ (z : Unit {0}) s. Goes Normal s)) (sym element)
+    ∙ ap (λ l. then_do (initialised i u l r p s) (λ (z : Unit {0}) s. Goes Normal s)) (sym same)) h
 
 -- no type
 pub defines_none : (c : Course) (k : ℕ) (scene : Scene) (p : typed.Program) (objects : List ObjectType) (n : ℕ) (o : Option ObjectType) (i : typed.Initialiser)
     (rest : Flow → State → Run Found) → o ≡ None → Leads c k scene (λ s. define_object p (call_in p) objects o n i s) rest → Leads c k scene (λ s. Goes Normal s) rest
 defines_none c k scene p objects n o i rest is h =
     leads_there c k scene (λ s. define_object p (call_in p) objects o n i s) (λ s. Goes Normal s) rest (λ x. ap (λ o. define_object p (call_in p) objects o n i (state_in scene x)) is) h
-
-one_is : (t : IntType) (e : Value) → initialiser_of (I.One t e) ≡ typed.one_value t (value_of e)
-one_is t e = search (rules, the_lemmas)
-
-pub sees_one : (i : Initialiser) (t : IntType) (e : Value) → i ≡ I.One t e → initialiser_of i ≡ typed.one_value t (value_of e)
-sees_one i t e is = ap initialiser_of is ∙ one_is t e

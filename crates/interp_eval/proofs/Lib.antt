@@ -1,5 +1,6 @@
 pub mod Comings
 pub mod Endings
+pub mod Firsts
 pub mod Flows
 pub mod Here
 pub mod Leaves

@@ -1,7 +1,7 @@
--- A measure of the parts of an expression, so that evaluating one ends.
+-- A measure of the parts of expressions, initialisers and statements, so that evaluating one ends.
 use Rattle.std.specs.Prelude.{ℕ, ◌+◌}
 use Rattle.typing_spec.specs.Program as typed
-use Rattle.typing_spec.specs.Program.{Place, Value, Statement, Statements}
+use Rattle.typing_spec.specs.Program.{Place, Value, Initialiser, Initialisers, Statement, Statements}
 
 abbrev mutual
   pub work_place : Place → ℕ
@@ -23,6 +23,17 @@ abbrev mutual
   work (typed.cast t e) = work e + 3
   work (typed.discarded e) = work e + 3
   work (typed.call at callee result used arguments) = 1
+
+abbrev mutual
+  pub work_initialiser : Initialiser → ℕ
+  work_initialiser (typed.one_value t e) = 1
+  work_initialiser (typed.text n) = 1
+  work_initialiser (typed.in_braces i) = work_initialiser i + 3
+  work_initialiser (typed.list all) = work_initialisers all + 3
+
+  pub work_initialisers : Initialisers → ℕ
+  work_initialisers typed.no_initialisers = 1
+  work_initialisers (typed.and_initialiser i more) = work_initialiser i + work_initialisers more + 1
 
 abbrev mutual
   pub work_statement : Statement → ℕ

@@ -1,6 +1,6 @@
 //! The ticks of a run, and why a part of it stopped.
 
-ghost use Rattle.std.specs.Prelude.{◌≡◌, ◌≢◌, ◌+◌, ◌≤◌, IfErr, true, false};
+ghost use Rattle.std.specs.Prelude.{◌≡◌, ◌≢◌, ◌+◌, ◌<◌, ◌≤◌, IfErr, true, false};
 ghost use Rattle.std.specs.Bool.{OnTrue, OnFalse};
 ghost use Rattle.interp_eval.specs.declared.clock.Why.TheVariants as why;
 ghost use Rattle.interp_eval.specs.layer.Comes.{Gives, GoesOn, Idles, Spends, StaysHere, StoppedBy};
@@ -56,6 +56,26 @@ impl Clock {
             self.spent += 1;
             true
         } else {
+            self.why = Why::Ticks;
+            false
+        }
+    }
+
+    /// A number of ticks, if they are left. If they are not, all that are left are taken.
+    pub fn ticks(&mut self, limit: u64, n: usize) -> bool
+        requires room { self.old.spent ≤ limit }
+        ensures taken { OnTrue result (self.new.spent ≡ self.old.spent + n) }
+        ensures idle { OnFalse result (Idles self.new.why self.new.spent limit) }
+        ensures short { OnFalse result (limit < self.old.spent + n) }
+        ensures here { result ≡ false → self.new.why ≢ why.Elsewhere }
+        ensures spends { Spends self.old.spent self.new.spent limit }
+    {
+        let n = n as u64;
+        if n <= limit - self.spent {
+            self.spent += n;
+            true
+        } else {
+            self.spent = limit;
             self.why = Why::Ticks;
             false
         }

@@ -1,36 +1,21 @@
-//! Definitions of automatic objects with one value (6.7.9p11).
+//! Definitions of automatic objects with an initialiser (6.7.9).
 
 ghost use Rattle.std.specs.Prelude.{◌≡◌, ◌<◌, ◌≤◌, IfSome, None, slice_get};
 ghost use Rattle.typing_spec.specs.Program as typed;
-ghost use Rattle.typed_ast.specs.View.{initialiser_of, value_of};
-ghost use Rattle.csem.specs.Machine.{Goes, then_do, tick, stored};
+ghost use Rattle.typed_ast.specs.View.{initialiser_of};
 ghost use Rattle.csem.specs.Statements as meaning;
-ghost use Rattle.ctypes.specs.Types.{converted};
-ghost use Rattle.interp_store.specs.View.{reference_of};
 ghost use Rattle.interp_store.specs.layer.Presents.{call_in};
 ghost use Rattle.interp_store.specs.layer.Views.{flow_of};
 ghost use Rattle.interp_eval.specs.declared.clock.Why.TheVariants as why;
-ghost use Rattle.interp_eval.specs.layer.Comes.{Does, Spends, StaysHere, executed, objects_in, valued};
-ghost use Rattle.interp_eval.specs.layer.Quick.{quick, quick_initialiser};
+ghost use Rattle.interp_eval.specs.layer.Comes.{Does, Spends, StaysHere, executed, objects_in};
+ghost use Rattle.interp_eval.specs.layer.Quick.{quick_initialiser};
 
 use crate::clock::{Clock, Scope, Why};
-use crate::expressions::value;
-use ctypes::{IntType, convert};
+use crate::initialisers::{Elements, initialise};
 use interp_steps::objects::type_of;
-use interp_store::Reference;
 use interp_store::frames::Flow;
 use interp_store::scene::Scene;
-use typed_ast::{Initialiser, Value};
-
-/// A part that is not evaluated here.
-pub fn left_out(clock: &mut Clock) -> Option<Flow>
-    ensures none { result ≡ None }
-    ensures why { clock.new.why ≡ why.Elsewhere }
-    ensures spent { clock.new.spent ≡ clock.old.spent }
-{
-    clock.why = Why::Elsewhere;
-    None
-}
+use typed_ast::Initialiser;
 
 /// The host's memory ran out.
 pub fn out_of_memory(clock: &mut Clock) -> Option<Flow>
@@ -40,33 +25,6 @@ pub fn out_of_memory(clock: &mut Clock) -> Option<Flow>
 {
     clock.why = Why::Memory;
     None
-}
-
-/// The element at `r` gets its first value.
-fn first_value(
-    scope: &Scope<'_>,
-    scene: &mut Scene,
-    clock: &mut Clock,
-    r: &Reference,
-    ty: IntType,
-    e: &Value,
-) -> Option<Flow>
-    requires room { clock.old.spent ≤ scope.now.limit }
-    ensures does { Does flow_of scope.now (λ p s. then_do (valued (value_of e.now) p s) (λ v s. tick s (λ s. Goes meaning.Normal (stored (reference_of r.now) (converted ty v) s))))
-        clock.old scene.old result clock.new scene.new }
-    ensures here { StaysHere (quick (value_of e.now)) result clock.new.why }
-    ensures spends { Spends clock.old.spent clock.new.spent scope.now.limit }
-{
-    let Some(v) = value(scope, scene, clock, e) else {
-        return None;
-    };
-    if !clock.tick(scope.limit) {
-        return None;
-    }
-    match scene.set(r, convert(ty, v)) {
-        Ok(()) => Some(Flow::Normal),
-        Err(_) => out_of_memory(clock),
-    }
 }
 
 /// An automatic object that has just begun gets its first value (6.7.9).
@@ -83,17 +41,19 @@ fn initialised(
     ensures here { StaysHere (quick_initialiser (initialiser_of i.now)) result clock.new.why }
     ensures spends { Spends clock.old.spent clock.new.spent scope.now.limit }
 {
-    let Some(_) = type_of(scope.objects, n) else {
+    let Some(ty) = type_of(scope.objects, n) else {
         return Some(Flow::Normal);
     };
     let Ok(r) = scene.own(n) else {
         return out_of_memory(clock);
     };
-    match i {
-        Initialiser::One(ty, e) => first_value(scope, scene, clock, &r, *ty, e),
-        Initialiser::Text(_) => left_out(clock),
-        Initialiser::InBraces(_) => left_out(clock),
-        Initialiser::List(_) => left_out(clock),
+    let of = Elements {
+        ty: ty.element,
+        lengths: ty.lengths.as_slice(),
+    };
+    match initialise(scope, scene, clock, i, of, &r) {
+        None => None,
+        Some(()) => Some(Flow::Normal),
     }
 }
 

@@ -4,6 +4,7 @@
 pub mod clock;
 pub mod definitions;
 pub mod expressions;
+pub mod initialisers;
 pub mod objects;
 pub mod parts;
 pub mod quick;

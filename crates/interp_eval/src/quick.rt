@@ -1,9 +1,9 @@
 //! Which parts are evaluated here: those that call nothing.
 
 ghost use Rattle.std.specs.Prelude.{◌≡◌, map};
-ghost use Rattle.typed_ast.specs.View.{initialiser_of, option_value, place_of, statement_of, statements_of, value_of};
+ghost use Rattle.typed_ast.specs.View.{initialiser_of, initialisers_of, option_value, place_of, statement_of, statements_of, value_of};
 ghost use Rattle.interp_store.specs.layer.Views.{node_of};
-ghost use Rattle.interp_eval.specs.layer.Quick.{quick, quick_all, quick_control, quick_initialiser, quick_node, quick_or, quick_place, quick_statement};
+ghost use Rattle.interp_eval.specs.layer.Quick.{quick, quick_all, quick_control, quick_initialiser, quick_initialisers, quick_node, quick_or, quick_place, quick_statement};
 
 use interp_store::frames::Node;
 use typed_ast::{Initialiser, Place, Statement, Value};
@@ -59,15 +59,31 @@ fn is_quick_control(start: &Option<Value>, test: &Option<Value>, step: &Option<V
     is_quick_or(start) && is_quick_or(test) && is_quick_or(step)
 }
 
-/// Whether an initialiser is a single value, and calls nothing.
+/// Whether all parts of a braced list call nothing.
+#[cycle(quick_initialisers)]
+fn are_quick_parts(all: &[Initialiser]) -> bool
+    ensures { result ≡ quick_initialisers (initialisers_of (map initialiser_of all.now)) }
+{
+    let mut rest = all;
+    while let Some((i, more)) = rest.split_first() {
+        if !is_quick_initialiser(i) {
+            return false;
+        }
+        rest = more;
+    }
+    true
+}
+
+/// Whether an initialiser calls nothing.
+#[cycle(quick_initialisers)]
 fn is_quick_initialiser(i: &Initialiser) -> bool
     ensures { result ≡ quick_initialiser (initialiser_of i.now) }
 {
     match i {
         Initialiser::One(_, e) => is_quick(e),
-        Initialiser::Text(_) => false,
-        Initialiser::InBraces(_) => false,
-        Initialiser::List(_) => false,
+        Initialiser::Text(_) => true,
+        Initialiser::InBraces(i) => is_quick_initialiser(i),
+        Initialiser::List(all) => are_quick_parts(all),
     }
 }
 
@@ -86,7 +102,7 @@ fn are_quick(all: &[Statement]) -> bool
     true
 }
 
-/// Whether a statement is done here: it calls nothing, and it has no initialiser but single values.
+/// Whether a statement is done here: it calls nothing.
 #[cycle(quick_statements)]
 pub fn is_quick_statement(a: &Statement) -> bool
     ensures { result ≡ quick_statement (statement_of a.now) }

@@ -1,4 +1,4 @@
-//! Statements that call nothing (6.8). An initialiser that is no single value is not among them yet.
+//! Statements that call nothing (6.8).
 
 ghost use Rattle.std.specs.Prelude.{◌≡◌, ◌&&◌, ◌<◌, ◌≤◌, IfSome, true, map, option_map};
 ghost use Rattle.typing_spec.specs.Program as typed;

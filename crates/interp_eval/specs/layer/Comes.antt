@@ -1,5 +1,6 @@
 -- The result of a part of a program that is evaluated at once: the rest of the run after it.
 use Rattle.std.specs.Prelude.{◌≡◌, ◌≢◌, ◌≤◌, Bool, true, ℕ, ◌+◌, ◌-◌, ℤ, List, length, map, nat_lt, Option, Some, None, Result, Ok, Err, ⊤}
+use Rattle.ctypes.specs.declared.types.IntType.{IntType}
 use Rattle.typing_spec.specs.Program as typed
 use Rattle.typed_ast.specs.View.{program_of, object_type_of}
 use Rattle.csem.specs.History.{Entry}
@@ -13,7 +14,7 @@ use Rattle.interp_store.specs.layer.Agrees.{state_in}
 use Rattle.interp_store.specs.layer.Presents.{call_in}
 use Rattle.csem.specs.Store.{Reference, whole}
 use Rattle.csem.specs.Expressions.{find, evaluate}
-use Rattle.csem.specs.Statements.{Flow, Normal, Broken, Continued, Returned, after_switch, labels_at, labels_of, label_for, execute, execute_all, execute_from}
+use Rattle.csem.specs.Statements.{Flow, Normal, Broken, Continued, Returned, after_switch, labels_at, labels_of, label_for, initialise, initialise_all, execute, execute_all, execute_from}
 use Rattle.typing_spec.specs.Types.{ObjectType}
 use Rattle.interp_eval.specs.declared.clock.Clock.{Clock}
 use Rattle.interp_eval.specs.declared.clock.Scope.{Scope}
@@ -102,6 +103,16 @@ executed objects a p s = execute p (call_in p) objects a s
 
 abbrev pub all_executed : List ObjectType → typed.Statements → typed.Program → State → Run Flow
 all_executed objects all p s = execute_all p (call_in p) objects all s
+
+-- a first value is given, which has no result
+abbrev pub nothing : Unit {0} → Unit {0}
+nothing u = u
+
+abbrev pub initialised : typed.Initialiser → IntType → List ℕ → Reference → typed.Program → State → Run (Unit {0})
+initialised i t lengths r p s = initialise p (call_in p) i t lengths r s
+
+abbrev pub all_initialised : typed.Initialisers → IntType → ℕ → ℕ → List ℕ → Reference → typed.Program → State → Run (Unit {0})
+all_initialised all t k i lengths r p s = initialise_all p (call_in p) all t k i lengths r s
 
 abbrev pub objects_in : Scope → List ObjectType
 objects_in s = map object_type_of s.objects.now

@@ -1,7 +1,7 @@
--- Which parts are evaluated at once: those that call nothing, and have no initialiser but single values.
+-- Which parts are evaluated at once: those that call nothing.
 use Rattle.std.specs.Prelude.{Bool, true, false, ◌&&◌, Option, Some, None}
 use Rattle.typing_spec.specs.Program as typed
-use Rattle.typing_spec.specs.Program.{Place, Value, Initialiser, Statement, Statements}
+use Rattle.typing_spec.specs.Program.{Place, Value, Initialiser, Initialisers, Statement, Statements}
 use Rattle.interp_store.specs.layer.Frames as on
 use Rattle.interp_store.specs.layer.Frames.{Node}
 
@@ -33,11 +33,16 @@ quick_or (Some e) = quick e
 abbrev pub quick_control : (start test step : Option Value) → Bool
 quick_control start test step = quick_or start && quick_or test && quick_or step
 
-abbrev pub quick_initialiser : Initialiser → Bool
-quick_initialiser (typed.one_value t e) = quick e
-quick_initialiser (typed.text n) = false
-quick_initialiser (typed.in_braces i) = false
-quick_initialiser (typed.list all) = false
+abbrev mutual
+  pub quick_initialiser : Initialiser → Bool
+  quick_initialiser (typed.one_value t e) = quick e
+  quick_initialiser (typed.text n) = true
+  quick_initialiser (typed.in_braces i) = quick_initialiser i
+  quick_initialiser (typed.list all) = quick_initialisers all
+
+  pub quick_initialisers : Initialisers → Bool
+  quick_initialisers typed.no_initialisers = true
+  quick_initialisers (typed.and_initialiser i more) = quick_initialiser i && quick_initialisers more
 
 abbrev mutual
   pub quick_statement : Statement → Bool

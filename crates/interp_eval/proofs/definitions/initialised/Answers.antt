@@ -1,13 +1,13 @@
-use Rattle.std.proofs.Common.{sym, ap, refl, ◌∙◌}
-use Rattle.typed_ast.specs.View.{program_of, value_of, initialiser_of}
+use Rattle.std.proofs.Common.{sym, refl}
+use Rattle.typed_ast.specs.View.{program_of, initialiser_of, object_type_of}
+use Rattle.csem.specs.Machine.{Goes}
 use Rattle.csem.specs.Statements.{Normal}
 use Rattle.interp_store.specs.View.{reference_of}
 use Rattle.interp_store.specs.layer.Views.{flow_of}
 use Rattle.interp_store.specs.declared.frames.Flow.TheVariants as flow
-use Rattle.interp_eval.specs.layer.Comes.{objects_in}
-use Rattle.interp_eval.proofs.Comings.{gave_now}
-use Rattle.interp_eval.proofs.Flows.{defines, defines_none, sees_one}
-use Rattle.interp_eval.specs.layer.Quick.{quick_initialiser}
+use Rattle.interp_eval.specs.layer.Comes.{nothing, objects_in}
+use Rattle.interp_eval.proofs.Comings.{gave_now, gone_on, gone_none}
+use Rattle.interp_eval.proofs.Flows.{defines, defines_none}
 use Rattle.interp_eval.proofs.definitions.initialised.Goals as goal
 
 pub returns-in_default-clause-does : goal.returns-in_default-clause-does
@@ -16,12 +16,20 @@ returns-in_default-clause-does c = λ run rest h.
     (defines_none run c.args.clock.now.spent c.args.scene.now (program_of c.args.scope.now.program.now) (objects_in c.args.scope.now) c.args.n _
     (initialiser_of c.args.i.now) rest (sym c.in_default.ensures) h)
 
-pub returns-in-One-clause-does : goal.returns-in-One-clause-does
-returns-in-One-clause-does c = λ run rest h.
-    c.first_value.ensures.does run rest (defines run c.args.clock.now.spent c.args.scene.now (program_of c.args.scope.now.program.now)
-    (objects_in c.args.scope.now) c.args.n _ _ c.in-One.ty (value_of c.in-One.e) (initialiser_of c.args.i.now) (reference_of c.in-Ok.r) rest
-    (sym c.in-Some.ensures)
-    (sees_one c.args.i.now c.in-One.ty c.in-One.e c.in-One.is) (λ o. c.in-Ok.ensures.ok o) h)
+pub returns-in-None-clause-does : goal.returns-in-None-clause-does
+returns-in-None-clause-does c = λ run rest h.
+    gone_none nothing run c.args.scope.now.limit c.args.clock.now.spent c.args.scene.now _ (λ u s. Goes Normal s) rest c.initialise.result c.initialise.new.clock c.initialise.new.scene
+    c.in-None.is (c.initialise.ensures.does run)
+    (defines run c.args.clock.now.spent c.args.scene.now (program_of c.args.scope.now.program.now) (objects_in c.args.scope.now) c.args.n _ c.in-Some.ty.now.element c.as_slice.result.now
+    (object_type_of c.in-Some.ty.now) (initialiser_of c.args.i.now) (reference_of c.in-Ok.r) rest (sym c.in-Some.ensures) refl c.as_slice.ensures.value (λ o. c.in-Ok.ensures.ok o) h)
 
-pub returns-in-One-clause-here : goal.returns-in-One-clause-here
-returns-in-One-clause-here c = λ q. c.first_value.ensures.here (sym (ap quick_initialiser (sees_one c.args.i.now c.in-One.ty c.in-One.e c.in-One.is)) ∙ q)
+pub returns-in-None-clause-here : goal.returns-in-None-clause-here
+returns-in-None-clause-here c = λ q none. c.initialise.ensures.here q c.in-None.is
+
+pub returns-clause-does : goal.returns-clause-does
+returns-clause-does c = λ run rest h.
+    gave_now flow_of run c.args.scope.now.limit c.initialise.new.scene Normal rest flow.Normal c.initialise.new.clock refl
+    (gone_on nothing run c.args.scope.now.limit c.args.clock.now.spent c.args.scene.now _ (λ u s. Goes Normal s) rest c.initialise.result c.in-Some-initialise.field-0 c.initialise.new.clock c.initialise.new.scene
+    c.in-Some-initialise.is (c.initialise.ensures.does run)
+    (defines run c.args.clock.now.spent c.args.scene.now (program_of c.args.scope.now.program.now) (objects_in c.args.scope.now) c.args.n _ c.in-Some.ty.now.element c.as_slice.result.now
+    (object_type_of c.in-Some.ty.now) (initialiser_of c.args.i.now) (reference_of c.in-Ok.r) rest (sym c.in-Some.ensures) refl c.as_slice.ensures.value (λ o. c.in-Ok.ensures.ok o) h))
