@@ -10,4 +10,4 @@ mod statements;
 mod values;
 mod walker;
 
-pub use checking::program_warnings;
+pub use checking::{Findings, program_findings};

@@ -122,15 +122,45 @@ fn signed(op: PrefixOp, ty: IntType, operand: Span) -> Span {
         PrefixOp::Plus => operand,
         PrefixOp::Minus => Span::one(0).operated(BinOp::Sub, operand, ty),
         PrefixOp::Complement => Span::of_type(ty),
-        PrefixOp::Not => truth(),
+        PrefixOp::Not => turned(operand),
     }
+}
+
+/// The values of `!`.
+fn turned(operand: Span) -> Span {
+    if !operand.is_one() {
+        truth()
+    } else if operand.least == 0 {
+        Span::one(1)
+    } else {
+        Span::one(0)
+    }
+}
+
+/// The values of a comparison: one where both operands have one value.
+fn compared(op: BinOp, left: Span, right: Span) -> Span {
+    if !left.is_one() || !right.is_one() {
+        return truth();
+    }
+    let holds = match op {
+        BinOp::Less => left.least < right.least,
+        BinOp::Greater => left.least > right.least,
+        BinOp::LessEqual => left.least <= right.least,
+        BinOp::GreaterEqual => left.least >= right.least,
+        BinOp::Equal => left.least == right.least,
+        BinOp::NotEqual => left.least != right.least,
+        _ => return truth(),
+    };
+    if holds { Span::one(1) } else { Span::one(0) }
 }
 
 /// The values of an operation whose left operand is converted.
 fn binary_range(op: BinOp, ty: IntType, left: Span, right: Span) -> Span {
     match op {
-        BinOp::Less | BinOp::Greater | BinOp::LessEqual | BinOp::GreaterEqual => truth(),
-        BinOp::Equal | BinOp::NotEqual => truth(),
+        BinOp::Less | BinOp::Greater | BinOp::LessEqual | BinOp::GreaterEqual => {
+            compared(op, left, right.converted(ty))
+        }
+        BinOp::Equal | BinOp::NotEqual => compared(op, left, right.converted(ty)),
         BinOp::BitAnd => left.masked(right.converted(ty), ty),
         BinOp::Shl | BinOp::Shr => Span::of_type(ty),
         _ => left.operated(op, right.converted(ty), ty),

@@ -1,6 +1,7 @@
 //! Expressions, in the order in which they are evaluated.
 
 use crate::paths::Point;
+use crate::ranges::span_of;
 use crate::walker::Walker;
 use std::alloc::AllocError;
 use tree::PrefixOp;
@@ -42,13 +43,13 @@ impl Walker {
             }
             Value::Unary(_, _, _, operand) => {
                 self.value(operand, false)?;
-                self.split(is_condition)
+                self.decided(value, is_condition)
             }
             Value::Binary(pos, op, ty, left, right) => {
                 self.value(left, false)?;
                 self.value(right, false)?;
                 self.note_comparison(*pos, *op, *ty, left, right)?;
-                self.split(is_condition)
+                self.decided(value, is_condition)
             }
             Value::BothTrue(left, right) => {
                 let first = self.value(left, true)?;
@@ -76,7 +77,7 @@ impl Walker {
             }
             Value::Cast(_, operand) => {
                 self.value(operand, false)?;
-                self.split(is_condition)
+                self.decided(value, is_condition)
             }
             Value::Discarded(operand) => {
                 self.value(operand, false)?;
@@ -114,6 +115,16 @@ impl Walker {
             }
         }
         Ok(())
+    }
+
+    /// The end of an operation: one that has a single value is a constant.
+    fn decided(&mut self, value: &Value, is_condition: bool) -> Result<Point, AllocError> {
+        let values = span_of(value);
+        if values.is_one() {
+            self.constant(values.least, is_condition)
+        } else {
+            self.split(is_condition)
+        }
     }
 
     /// A constant: as a condition it leads one way.

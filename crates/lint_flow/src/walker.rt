@@ -33,6 +33,8 @@ pub(crate) struct Walker {
     pub(crate) has_effect: bool,
     /// The same of the functions before it.
     pub(crate) effects: Vec<bool>,
+    /// The names of the functions whose ends no path reaches.
+    pub(crate) endless: Vec<usize>,
 }
 
 impl Walker {
@@ -51,6 +53,7 @@ impl Walker {
             told: Vec::new(alloc),
             has_effect: false,
             effects: Vec::new(alloc),
+            endless: Vec::new(alloc),
         })
     }
 

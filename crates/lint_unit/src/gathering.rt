@@ -1,8 +1,8 @@
 //! The warnings of all phases.
 
 use lexer::{Token, tokens};
-use lint::Warning;
-use lint_flow::program_warnings;
+use lint::{Kind, Warning};
+use lint_flow::program_findings;
 use lint_tree::unit_warnings;
 use parser::parse;
 use pp::preprocess;
@@ -36,21 +36,35 @@ fn with_program(
 ) -> Result<Option<Vec<Warning>>, AllocError> {
     let found = unit_warnings(alloc, &unit, names)?;
     match program_of(alloc, unit, main, stack, names)? {
-        Some(program) => with_flow(alloc, found, &program),
+        Some(program) => with_flow(alloc, found.as_slice(), &program),
         None => Ok(None),
     }
 }
 
-/// The warnings, and those of the typed program.
+/// The warnings, and those of the typed program. The tree does not know the values of constants: a function whose end no path of the typed program reaches
+/// has no warning about its end.
 fn with_flow(
     alloc: Global,
-    found: Vec<Warning>,
+    found: &[Warning],
     program: &Program,
 ) -> Result<Option<Vec<Warning>>, AllocError> {
-    let mut all = found;
-    let further = program_warnings(alloc, program)?;
-    all.extend_from_slice(further.as_slice())?;
+    let findings = program_findings(alloc, program)?;
+    let mut all = Vec::new(alloc);
+    for warning in found {
+        if !is_refuted(*warning, findings.endless.as_slice()) {
+            all.push(*warning)?;
+        }
+    }
+    all.extend_from_slice(findings.warnings.as_slice())?;
     Ok(Some(all))
+}
+
+/// Whether a warning is about the end of a function whose end no path reaches.
+fn is_refuted(warning: Warning, endless: &[usize]) -> bool {
+    match warning.name {
+        Some(name) => warning.kind == Kind::ReturnType && endless.contains(&name),
+        None => false,
+    }
 }
 
 /// The tree of the sources.
