@@ -27,7 +27,9 @@ use interp_steps::nodes::enter;
 use interp_steps::objects::renew_all;
 use interp_store::Reference;
 use interp_store::expressions::ask;
-use interp_store::frames::{Asked, Flow, Frame, Node, OperandFrame, Passed, Step};
+use interp_store::frames::{
+    Asked, Compound, Flow, Frame, Node, OperandFrame, Passed, PlaceFrame, Step,
+};
 use interp_store::machine::Machine;
 use interp_store::stop::Stop;
 use srcset::Pos;
@@ -39,6 +41,23 @@ struct Operation {
     at: Pos,
     op: BinOp,
     ty: IntType,
+}
+
+/// What an assignment is, with its place and the type of its object.
+#[derive(Clone, Copy)]
+struct Store {
+    at: Pos,
+    ty: IntType,
+}
+
+/// The place in the source of an element that is read: its name or its `[`.
+fn position_of(place: &Place) -> Pos
+    ensures { result ≡ meaning.position_of (place_of place.now) }
+{
+    match place {
+        Place::Named(at, _) => *at,
+        Place::Element(at, _, _) => *at,
+    }
 }
 
 /// The value of an expression that calls nothing, on the spot.
@@ -320,6 +339,75 @@ fn binary<'p>(
     )
 }
 
+/// An assignment, after its tick (6.5.16).
+#[cycle(descending)]
+fn assigned<'p>(
+    machine: &mut Machine<'p>,
+    clock: &mut Clock,
+    limit: u64,
+    store: Store,
+    a: &'p Place,
+    e: &'p Value,
+) -> Option<Step<'p>>
+    requires room { clock.old.spent ≤ limit }
+    ensures does { Sweeps (λ x. steps_to (step_of x)) limit (λ p s. waits (on.assigns store.at store.ty (value_of e.now)) (on.place (place_of a.now)) s) clock.old machine.old result clock.new machine.new }
+    ensures here { StaysHere true result clock.new.why }
+    ensures program { machine.new.program ≡ machine.old.program }
+    ensures spends { Spends clock.old.spent clock.new.spent limit }
+{
+    let Store { at, ty } = store;
+    if !is_quick_place(a) {
+        if !wait_in(machine, clock, Frame::Place(PlaceFrame::Assigns(at, ty, e))) {
+            return None;
+        }
+        return Some(Step::Enters(Node::Place(a)));
+    }
+    let Some(r) = place_here(machine, clock, limit, a) else {
+        return None;
+    };
+    later(
+        machine,
+        clock,
+        limit,
+        Frame::Operand(OperandFrame::Stores(at, ty, r)),
+        e,
+    )
+}
+
+/// A compound assignment, after its tick (6.5.16.2).
+#[cycle(descending)]
+fn combined<'p>(
+    machine: &mut Machine<'p>,
+    clock: &mut Clock,
+    limit: u64,
+    c: Compound,
+    a: &'p Place,
+    e: &'p Value,
+) -> Option<Step<'p>>
+    requires room { clock.old.spent ≤ limit }
+    ensures does { Sweeps (λ x. steps_to (step_of x)) limit (λ p s. waits (on.compounds c.at c.op c.ty c.of c.read_at (value_of e.now)) (on.place (place_of a.now)) s) clock.old machine.old result clock.new machine.new }
+    ensures here { StaysHere true result clock.new.why }
+    ensures program { machine.new.program ≡ machine.old.program }
+    ensures spends { Spends clock.old.spent clock.new.spent limit }
+{
+    if !is_quick_place(a) {
+        if !wait_in(machine, clock, Frame::Place(PlaceFrame::Compounds(c, e))) {
+            return None;
+        }
+        return Some(Step::Enters(Node::Place(a)));
+    }
+    let Some(r) = place_here(machine, clock, limit, a) else {
+        return None;
+    };
+    later(
+        machine,
+        clock,
+        limit,
+        Frame::Operand(OperandFrame::Combines(c, r)),
+        e,
+    )
+}
+
 /// An expression that calls, up to its next call, from its tick on (6.5).
 #[cycle(descending)]
 pub fn descend<'p>(
@@ -341,8 +429,20 @@ pub fn descend<'p>(
     match e {
         Value::Constant(_, _) => enter_slowly(machine, clock, Node::Value(e)),
         Value::Read(_, _) => enter_slowly(machine, clock, Node::Value(e)),
-        Value::Assigned(_, _, _, _) => enter_slowly(machine, clock, Node::Value(e)),
-        Value::Compound(_, _, _, _, _, _) => enter_slowly(machine, clock, Node::Value(e)),
+        Value::Assigned(at, ty, a, e) => {
+            let store = Store { at: *at, ty: *ty };
+            assigned(machine, clock, limit, store, a, e)
+        }
+        Value::Compound(at, op, ty, of, a, e) => {
+            let c = Compound {
+                at: *at,
+                op: *op,
+                ty: *ty,
+                of: *of,
+                read_at: position_of(a),
+            };
+            combined(machine, clock, limit, c, a, e)
+        }
         Value::Stepped(_, _, _, _, _, _) => enter_slowly(machine, clock, Node::Value(e)),
         Value::Unary(at, op, ty, e) => later(
             machine,

@@ -11,3 +11,9 @@ decreases-later l = work (value_of l.e.now) + 1
 
 abbrev pub decreases-binary : goal.decreases-binary
 decreases-binary l = work (value_of l.a.now) + work (value_of l.b.now) + 2
+
+abbrev pub decreases-assigned : goal.decreases-assigned
+decreases-assigned l = work (value_of l.e.now) + 2
+
+abbrev pub decreases-combined : goal.decreases-combined
+decreases-combined l = work (value_of l.e.now) + 2
