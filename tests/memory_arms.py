@@ -48,7 +48,6 @@ OPEN = {
     ('tac/src/initialisers.rt', 'ahead_of'),
     ('tac/src/initialisers.rt', 'put_word'),
     ('typing_expressions/src/literals.rt', 'next_number'),
-    ('typing_scopes/src/scopes.rt', 'inside'),
 }
 
 WORD = re.compile(r"'\w+(?!')|\w+!?|=>|->|::|[-+*/%&|^<>=!]=|&&|\|\||[^\s\w]")
