@@ -24,7 +24,6 @@ OPEN = {
     ('cabs/src/first_objects.rt', 'laid_cells'),
     ('cabs/src/first_objects.rt', 'literal_object'),
     ('const_expr/src/measures.rt', 'size_is'),
-    ('decls_initialisers/src/parts.rt', 'next_number'),
     ('forms/src/items_form.rt', 'listing_of'),
     ('interp_steps/src/elements.rt', 'clear'),
     ('interp_steps/src/initialisers.rt', 'element_count'),
