@@ -24,9 +24,6 @@ OPEN = {
     ('cabs/src/first_objects.rt', 'laid_cells'),
     ('cabs/src/first_objects.rt', 'literal_object'),
     ('const_expr/src/measures.rt', 'size_is'),
-    ('decls/src/finished_objects.rt', 'array_within'),
-    ('decls_initialisers/src/element_values.rt', 'pad'),
-    ('decls_initialisers/src/parts.rt', 'next_number'),
     ('forms/src/items_form.rt', 'listing_of'),
     ('interp_steps/src/elements.rt', 'clear'),
     ('interp_steps/src/initialisers.rt', 'element_count'),
@@ -42,20 +39,18 @@ OPEN = {
     ('lower_ops/src/row_sizes.rt', 'times'),
     ('lower_ops/src/waiting.rt', 'next'),
     ('lower_ops/src/writing.rt', 'put'),
-    ('pp/src/places.rt', 'place'),
     ('tac/src/counts.rt', 'one_more'),
     ('tac/src/elements.rt', 'limit_of'),
     ('tac/src/initialisers.rt', 'ahead_of'),
     ('tac/src/initialisers.rt', 'put_word'),
     ('typing_expressions/src/literals.rt', 'next_number'),
-    ('typing_scopes/src/scopes.rt', 'inside'),
 }
 
 WORD = re.compile(r"'\w+(?!')|\w+!?|=>|->|::|[-+*/%&|^<>=!]=|&&|\|\||[^\s\w]")
 HEADS = (';', '{', '}', 'let', 'if', 'while', 'match', 'fn', 'for', 'loop', 'impl', '=>')
 CLOSERS = {')': '(', ']': '[', '}': '{'}
 # Calls of std whose only error is that a growth was refused.
-GROWS = {'push', 'push_str', 'reserve', 'try_reserve', 'extend_from_slice', 'extend_from_within', 'with_capacity', 'from_elem', 'to_vec', 'insert', 'insert_full', 'format!', 'vec!',
+GROWS = {'push', 'push_str', 'reserve', 'try_reserve', 'resize', 'extend_from_slice', 'extend_from_within', 'with_capacity', 'from_elem', 'to_vec', 'insert', 'insert_full', 'format!', 'vec!',
          'Box::new', 'Rc::new', 'BufWriter::new', 'BufReader::new', 'String::from_str', 'Vec::from_slice'}
 # Functions that are called where a growth was refused: the first one's calls are places, and the second prints.
 GIVEN = {'out_of_memory', 'say_memory'}

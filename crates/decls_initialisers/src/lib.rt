@@ -4,6 +4,7 @@
 mod constancy;
 mod element_values;
 mod forms;
+mod literal_counts;
 mod literals;
 mod parts;
 mod typing;
@@ -12,4 +13,4 @@ pub use constancy::constant_parts;
 pub use element_values::values;
 pub use forms::{Wanted, count_of, has_characters, is_character, text_alone, wanted_object};
 pub use literals::past_init;
-pub use typing::{initialiser, initialiser_behind};
+pub use typing::initialiser;

@@ -15,6 +15,7 @@ ghost use Rattle.typing_expressions.specs.Forms.{checked_of};
 ghost use Rattle.typing_expressions.specs.Numbered.{numbered};
 
 use crate::forms::{exceeds, has_characters, string_literal};
+use crate::literal_counts::LiteralCount;
 use const_expr::expression;
 use ctypes::IntType;
 use srcset::{Code, Names, Pos, Refusal};
@@ -44,7 +45,7 @@ pub(crate) fn number_from(
     alloc: Global,
     names: &Names,
     scope: &Scope,
-    literals: &mut usize,
+    literals: &mut LiteralCount,
     element: IntType,
     e: &Expr,
 ) -> Result<Initialiser, Refusal>
@@ -52,9 +53,13 @@ pub(crate) fn number_from(
     ensures err { IfErr result (λ r. Tells r (typed.number_from (numbered names.now literals.old scope.now) element (tree_of e.now))) }
     ensures count { OnOk result (literals.new ≡ literals.old + length (strings (tree_of e.now))) }
 {
-    let x = match expression(alloc, names, scope, literals, e) {
+    let mut number = literals.get();
+    let x = match expression(alloc, names, scope, &mut number, e) {
         Ok(x) => x,
         Err(refusal) => return Err(refusal),
+    };
+    let Ok(()) = literals.reach(number) else {
+        return Err(Refusal::Memory);
     };
     let pos = place_of(&x);
     match valued(alloc, Code::VoidAssigned, pos, x) {
@@ -79,7 +84,7 @@ pub(crate) fn number_in_braces(
     alloc: Global,
     names: &Names,
     scope: &Scope,
-    literals: &mut usize,
+    literals: &mut LiteralCount,
     pos: Pos,
     element: IntType,
     parts: &[Init],
@@ -115,24 +120,10 @@ fn character_count(names: &Names, name: usize) -> usize
     }
 }
 
-/// The number of the next literal.
-fn next_number(literals: &mut usize) -> Result<usize, Refusal>
-    ensures ok { IfOk result (λ n. n ≡ literals.old) }
-    ensures count { OnOk result (literals.new ≡ literals.old + 1) }
-    ensures err { IfErr result (λ r. r ≡ Memory) }
-{
-    let number = *literals;
-    let Some(next) = number.checked_add(1) else {
-        return Err(Refusal::Memory);
-    };
-    *literals = next;
-    Ok(number)
-}
-
 /// The characters of a string literal (6.7.9p14).
 pub(crate) fn text_from(
     names: &Names,
-    literals: &mut usize,
+    literals: &mut LiteralCount,
     pos: Pos,
     room: Option<usize>,
     name: usize,
@@ -144,9 +135,9 @@ pub(crate) fn text_from(
     if exceeds(character_count(names, name), room) {
         return Err(broken(Code::TooManyInitialisers, pos));
     }
-    match next_number(literals) {
+    match literals.next() {
         Ok(number) => Ok(Initialiser::Text(number)),
-        Err(refusal) => Err(refusal),
+        Err(_) => Err(Refusal::Memory),
     }
 }
 
@@ -163,7 +154,7 @@ fn not_braced(top: bool, pos: Pos) -> Refusal
 /// A string literal for an array of characters, if it is one.
 fn text_if(
     names: &Names,
-    literals: &mut usize,
+    literals: &mut LiteralCount,
     characters: bool,
     top: bool,
     pos: Pos,
@@ -184,7 +175,7 @@ fn text_if(
 /// An array from an expression without braces (6.7.9p14).
 pub(crate) fn array_from(
     names: &Names,
-    literals: &mut usize,
+    literals: &mut LiteralCount,
     pos: Pos,
     element: IntType,
     room: Option<usize>,
