@@ -41,7 +41,6 @@ OPEN = {
     ('lower_ops/src/changes.rt', 'put_call'),
     ('lower_ops/src/row_sizes.rt', 'times'),
     ('lower_ops/src/waiting.rt', 'next'),
-    ('lower_ops/src/writing.rt', 'put'),
     ('pp/src/places.rt', 'place'),
     ('tac/src/counts.rt', 'one_more'),
     ('tac/src/elements.rt', 'limit_of'),
