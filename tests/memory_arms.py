@@ -41,7 +41,6 @@ OPEN = {
     ('lower_ops/src/row_sizes.rt', 'times'),
     ('lower_ops/src/waiting.rt', 'next'),
     ('pp/src/places.rt', 'place'),
-    ('tac/src/counts.rt', 'one_more'),
     ('tac/src/elements.rt', 'limit_of'),
     ('tac/src/initialisers.rt', 'ahead_of'),
     ('tac/src/initialisers.rt', 'put_word'),
