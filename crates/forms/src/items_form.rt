@@ -1,7 +1,10 @@
 //! The items that the file is assembled from, an item a line.
 
+ghost use Rattle.std.specs.Prelude.{◌⊎◌, []};
 ghost use Rattle.memory_map.specs.MemoryMap.{text_start};
-ghost use Rattle.asm.specs.Layout.{IsLow};
+ghost use Rattle.srcset.specs.declared.code.Code.TheVariants.{CannotWrite};
+ghost use Rattle.srcset.specs.Fault.{IsFault, IsMemoryFault};
+ghost use Rattle.asm.specs.Layout.{AllReach, IsLow};
 ghost use Rattle.typed_ast.specs.View.{program_of};
 ghost use Rattle.cc_backend.specs.Made.{IsReady};
 
@@ -11,7 +14,7 @@ use cc_backend::{code_map, items};
 use forms_text::{Style, Writer};
 use memory_map::TEXT_START;
 use rv32::Test;
-use srcset::{Names, Pos};
+use srcset::{Fault, Names, Pos};
 use std::alloc::{AllocError, Global};
 use typed_ast::Program;
 
@@ -69,15 +72,14 @@ pub(crate) fn items_text(
     let made = items(alloc, program, stack)?;
     let map = code_map(alloc, program, stack)?;
     let mut out = Writer::new(alloc, names, style);
-    if made.is_low(TEXT_START) {
-        let placed = lay_out(alloc, &made, &map)?;
-        put_items(alloc, &mut out, names, program, made.as_slice(), &placed)?;
-    }
+    let placed = lay_out(alloc, &made, &map)?;
+    put_items(alloc, &mut out, names, program, made.as_slice(), &placed)?;
     out.into_text()
 }
 
 fn lay_out(alloc: Global, items: &Items, map: &CodeMap) -> Result<Placed, AllocError>
-    requires { IsLow text_start items.now }
+    requires low { IsLow text_start items.now }
+    requires reach { AllReach text_start items.now }
 {
     Ok(Placed {
         addresses: item_addresses(alloc, items, TEXT_START)?,
@@ -86,13 +88,23 @@ fn lay_out(alloc: Global, items: &Items, map: &CodeMap) -> Result<Placed, AllocE
     })
 }
 
+/// The fault 801, out of memory, or 803, which a vector gives only where it cannot grow.
+fn want_of_memory(fault: Fault) -> AllocError
+    requires { IsMemoryFault fault ⊎ IsFault fault CannotWrite [] 0 }
+{
+    drop(fault);
+    AllocError
+}
+
+/// Each jump reaches its label, so that only memory is refused.
 fn listing_of(alloc: Global, items: &Items) -> Result<Vec<u8>, AllocError>
-    requires { IsLow text_start items.now }
+    requires low { IsLow text_start items.now }
+    requires reach { AllReach text_start items.now }
 {
     let mut listing = Vec::new(alloc);
     match list(alloc, items, TEXT_START, &mut listing) {
         Ok(()) => Ok(listing),
-        Err(_) => Err(AllocError),
+        Err(fault) => Err(want_of_memory(fault)),
     }
 }
 

@@ -1,7 +1,5 @@
 -- Parts of code, one after the other.
-use Rattle.std.proofs.Common.{◌≡◌, ℕ, ◌+◌, ◌<◌, ◌≤◌, List, [], ◌∷◌, ◌++◌, length, slice_get, Some, Bool, true, refl, ap, sym, ◌∙◌, subst, append_assoc, append-nil, length-append, arith}
-use Rattle.std.specs.Prelude.{nat_lt}
-use Rattle.std.proofs.lemmas.Bool.Decides.{nat_tests}
+use Rattle.std.proofs.Common.{◌≡◌, ℕ, ◌+◌, ◌<◌, ◌≤◌, List, [], ◌∷◌, ◌++◌, length, slice_get, Some, refl, ap, sym, ◌∙◌, subst, append_assoc, append-nil, length-append, arith}
 use Rattle.tac_code.specs.declared.code.Instruction.{Instruction}
 use Rattle.lower_correct.specs.Code.{One}
 use Rattle.lower_ops.specs.layer.Parts.{plus, Begins, Wrote}
@@ -36,9 +34,6 @@ reach_four e l n m o p k h g b =
 pub reach_five : (e l n m o p q k : ℕ) → e ≡ plus l (plus n (plus m (plus o (plus p q)))) → k ≡ l + (n + (m + (o + (p + q)))) → k < 4611686018427387904 → e ≡ k
 reach_five e l n m o p q k h g b =
     reach_four e l n m o (plus p q) k h (g ∙ ap (λ x. l + (n + (m + (o + x)))) (sym (plus_is p q k (omega (arith, g)) b))) b
-
-pub room_left : (n : ℕ) (has : Bool) → has ≡ nat_lt n 4611686018427387902 → has ≡ true → n < 4611686018427387902
-room_left n has is h = grind (arith, nat_tests)
 
 -- ---- beginnings
 

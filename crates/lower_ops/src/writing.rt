@@ -1,6 +1,6 @@
 //! Code that grows.
 
-ghost use Rattle.std.specs.Prelude.{◌≡◌, ◌<◌, OnOk, length, nat_lt};
+ghost use Rattle.std.specs.Prelude.{◌≡◌, ◌<◌, OnOk, length};
 ghost use Rattle.lower_correct.specs.Code.{One};
 ghost use Rattle.lower_ops.specs.layer.Parts as parts;
 ghost use Rattle.lower_ops.specs.layer.Parts.{Wrote};
@@ -16,20 +16,12 @@ pub struct Code {
     ghost short: { length list.items < 4611686018427387904 },
 }
 
-/// Whether one more instruction keeps the code that short: apart from a lack of memory only this is refused.
-fn has_room(code: &Code) -> bool
-    ensures { result ≡ nat_lt (length code.now.list.items) 4611686018427387902 }
-{
-    code.list.len() < 0x3fff_ffff_ffff_fffe
-}
-
-/// One more instruction.
+/// One more instruction. A list in memory has fewer than 2^63 bytes, and so room for it in the count.
 pub fn put(code: &mut Code, instruction: Instruction) -> Result<(), AllocError>
     ensures { OnOk result (Wrote (λ w p q. One w instruction p q) 1 code.old.list.items code.new.list.items) }
 {
-    if !has_room(code) {
-        return Err(AllocError);
-    }
+    let length = code.list.as_slice().len();
+    prove!(length < 0x3fff_ffff_ffff_fffe);
     code.list.push(instruction)?;
     Ok(())
 }

@@ -1,6 +1,6 @@
 -- The statements that a value of the code holds, level by level.
 use Rattle.std.proofs.Common.{◌≡◌, ℕ, ℤ, map, rules, ap, ◌∙◌, Global}
-use Rattle.std.specs.Prelude.{Option, Box, Vec}
+use Rattle.std.specs.Prelude.{Box, Vec}
 use Rattle.srcset.specs.declared.refusal.Pos.{Pos}
 use Rattle.ctypes.specs.declared.types.IntType.{IntType}
 use Rattle.typed_ast.specs.declared.expressions.Value.{Value}

@@ -7,3 +7,6 @@ pub mod Stretches
 pub mod Filled
 pub mod Counted
 pub mod Firsts
+pub mod NamedParts
+pub mod NamedValues
+pub mod NamedStatements

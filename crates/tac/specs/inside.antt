@@ -6,3 +6,4 @@ pub mod Sizes
 pub mod Places
 pub mod Written
 pub mod Functions
+pub mod Few

@@ -7,6 +7,7 @@ ghost use Rattle.tac_code.specs.Code as three_address;
 ghost use Rattle.lower_correct.specs.Bodies as relation;
 ghost use Rattle.lower_ops.specs.layer.Parts.{Wrote};
 ghost use Rattle.tac.specs.layer.Functions.{IsBodyOf, IsFunctionWith};
+ghost use Rattle.tac.specs.inside.Few.{AreFew};
 
 use crate::block_sizes::statement_size;
 use crate::copies::copied_objects;
@@ -76,7 +77,8 @@ fn body_of(
     function: &Function,
     is_main: bool,
 ) -> Result<Vec<Instruction>, AllocError>
-    ensures { IfOk result (λ code. IsBodyOf (program_of program.now) is_main (function_of function.now) code.items) }
+    ensures body { IfOk result (λ code. IsBodyOf (program_of program.now) is_main (function_of function.now) code.items) }
+    ensures few { IfOk result (λ code. AreFew code.items) }
 {
     let scope = Scope { program, function };
     let mut code = Code {
@@ -115,8 +117,8 @@ pub fn lower_function(
     ensures { IfOk result (λ g. IsFunctionWith (program_of program.now) is_main (function_of function.now) (three_address.function_of g)) }
 {
     let code = body_of(alloc, program, function, is_main)?;
-    let temporaries = most_temporaries(&program.functions, &code)?;
-    let kept = most_slots(&code)?;
+    let temporaries = most_temporaries(&program.functions, &code);
+    let kept = most_slots(&code);
     Ok(tac_code::Function {
         code,
         parameters: kinds(alloc, &function.function_type.parameters)?,

@@ -1,5 +1,5 @@
 -- Functions as they are written, before the program that they are part of is there.
-use Rattle.std.specs.Prelude.{◌≡◌, ℕ, suc, Bool, true, false, max, List, length, map, Option, Some, None, slice_get, nat_eq}
+use Rattle.std.specs.Prelude.{◌≡◌, ℕ, suc, Bool, max, List, length, map, Option, Some, None, slice_get, nat_eq}
 use Rattle.typing_spec.specs.Program as typed
 use Rattle.tac_code.specs.declared.code.Instruction.{Instruction}
 use Rattle.tac_code.specs.declared.code.Instruction.TheVariants as instruction
