@@ -15,7 +15,7 @@ use Rattle.interp_store.specs.declared.frames.Passed.{Passed}
 use Rattle.csem.specs.History.{Entry}
 use Rattle.io_ports.specs.Port.{PortView}
 use Rattle.csem.specs.Machine as machine
-use Rattle.csem.specs.Machine.{State, Goes, Stops, tick, then_do}
+use Rattle.csem.specs.Machine.{State, Goes, Stops, choose, tick, then_do}
 use Rattle.interp_store.specs.declared.machine.Machine.{Machine}
 use Rattle.interp_store.specs.declared.scene.Scene.{Scene}
 use Rattle.interp_store.specs.declared.frames.Step.{Step}
@@ -48,6 +48,12 @@ on_true P b e h = let Q : Bool → Type 0 = λ b. OnTrue b P in subst Q e h
 
 pub on_false : (P : Type 0) (b : Bool) → b ≡ false → OnFalse b P → P
 on_false P b e h = let Q : Bool → Type 0 = λ b. OnFalse b P in subst Q e h
+
+pub picks_true : (b : Bool) (x y : Moved) → b ≡ true → choose b x y ≡ x
+picks_true b x y e = ap (λ b. choose b x y) e
+
+pub picks_false : (b : Bool) (x y : Moved) → b ≡ false → choose b x y ≡ y
+picks_false b x y e = ap (λ b. choose b x y) e
 
 abbrev outside_at : Course → ℕ → Outside
 outside_at c n = record { clock = n; input = c.input; history = c.history }
