@@ -28,7 +28,6 @@ OPEN = {
     ('decls_initialisers/src/element_values.rt', 'pad'),
     ('decls_initialisers/src/parts.rt', 'next_number'),
     ('forms/src/items_form.rt', 'listing_of'),
-    ('interp_steps/src/elements.rt', 'clear'),
     ('interp_steps/src/initialisers.rt', 'element_count'),
     ('interp_steps/src/initialisers.rt', 'next_part'),
     ('interp_steps/src/labels.rt', 'seek'),
