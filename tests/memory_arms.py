@@ -33,7 +33,6 @@ OPEN = {
     ('interp_store/src/grid.rt', 'fill'),
     ('interp_store/src/grid.rt', 'set'),
     ('interp_store/src/scene.rt', 'object_behind'),
-    ('interp_transitions/src/tally.rt', 'begin'),
     ('lower_ops/src/changes.rt', 'put_call'),
     ('lower_ops/src/row_sizes.rt', 'times'),
     ('lower_ops/src/waiting.rt', 'next'),
