@@ -35,7 +35,7 @@ use typed_ast::{Initialiser, Value};
 /// How many elements `count` rows of these lengths have.
 ///
 /// Errors: memory ran out, where they are more than it has numbers.
-pub fn element_count(count: usize, lengths: &[u32]) -> Result<usize, Stop>
+fn element_count(count: usize, lengths: &[u32]) -> Result<usize, Stop>
     ensures ok { IfOk result (λ n. n ≡ count * elements_in lengths.now) }
     ensures err { IfErr result (λ e. e ≡ Memory) }
 {
