@@ -23,7 +23,6 @@ OPEN = {
     ('cabs/src/acting.rt', 'put'),
     ('cabs/src/first_objects.rt', 'laid_cells'),
     ('cabs/src/first_objects.rt', 'literal_object'),
-    ('const_expr/src/measures.rt', 'size_is'),
     ('interp_steps/src/elements.rt', 'clear'),
     ('interp_steps/src/initialisers.rt', 'element_count'),
     ('interp_steps/src/initialisers.rt', 'next_part'),
@@ -40,7 +39,6 @@ OPEN = {
     ('tac/src/elements.rt', 'limit_of'),
     ('tac/src/initialisers.rt', 'ahead_of'),
     ('tac/src/initialisers.rt', 'put_word'),
-    ('typing_expressions/src/literals.rt', 'next_number'),
 }
 
 WORD = re.compile(r"'\w+(?!')|\w+!?|=>|->|::|[-+*/%&|^<>=!]=|&&|\|\||[^\s\w]")
