@@ -22,6 +22,6 @@ returns-in-Ok-expression-clause-err c =
     (sym (value_rule c.args.names.now c.behind-literals.result c.args.scope.now (tree_of c.args.e.now) (checked_of c.in-Ok-expression.x) (c.behind-literals.ensures ∙ ap length c.literals.ensures) c.in-Ok.ensures.ok c.in-Ok-expression.ensures.ok))
     c.constant_worth.ensures.err
 
-pub returns-in-Err-expression-clause-err : goal.returns-in-Err-expression-clause-err
-returns-in-Err-expression-clause-err c =
+pub returns-clause-err : goal.returns-clause-err
+returns-clause-err c =
     value_typing c.args.names.now c.behind-literals.result c.args.scope.now (tree_of c.args.e.now) c.in-Err-expression.refusal (c.behind-literals.ensures ∙ ap length c.literals.ensures) c.in-Ok.ensures.ok c.in-Err-expression.ensures.err
