@@ -23,7 +23,6 @@ OPEN = {
     ('cabs/src/acting.rt', 'put'),
     ('cabs/src/first_objects.rt', 'laid_cells'),
     ('cabs/src/first_objects.rt', 'literal_object'),
-    ('const_expr/src/measures.rt', 'size_is'),
     ('interp_steps/src/initialisers.rt', 'element_count'),
     ('interp_store/src/element_tree.rt', 'fill'),
     ('interp_store/src/grid.rt', 'fill'),
@@ -35,7 +34,6 @@ OPEN = {
     ('tac/src/elements.rt', 'limit_of'),
     ('tac/src/initialisers.rt', 'ahead_of'),
     ('tac/src/initialisers.rt', 'put_word'),
-    ('typing_expressions/src/literals.rt', 'next_number'),
 }
 
 WORD = re.compile(r"'\w+(?!')|\w+!?|=>|->|::|[-+*/%&|^<>=!]=|&&|\|\||[^\s\w]")
