@@ -353,15 +353,18 @@ fn open_next<'p>(
     let mut next = first;
     loop {
         match next {
-            Step::Enters(Node::Statement(objects, a)) => {
-                if is_quick_statement(a) {
-                    return Some(Step::Enters(Node::Statement(objects, a)));
+            Step::Enters(node) => match node {
+                Node::Statement(objects, a) => {
+                    if is_quick_statement(a) {
+                        return Some(Step::Enters(Node::Statement(objects, a)));
+                    }
+                    match open(machine, clock, limit, objects, a) {
+                        None => return None,
+                        Some(step) => next = step,
+                    }
                 }
-                match open(machine, clock, limit, objects, a) {
-                    None => return None,
-                    Some(step) => next = step,
-                }
-            }
+                other => return Some(Step::Enters(other)),
+            },
             other => return Some(other),
         }
     }

@@ -232,8 +232,9 @@ picked-returns-clause-does t c = λ run h.
     let p = program_of m.program.now in
     let v = c.in-Some.v in
     let same : to_z w64 (of_z w64 v) ≡ v = search (rules, to_z-of_z) in
-    after_as run p c.value_here.new.clock.spent (frames_of new) new.scene (λ s. goes (on.a_value (meaning.converted_or_none c.args.ty v)) s) (λ s. goes (on.a_value (to_z w64 c.converted_or_none.result)) s)
-    (λ s. ap (λ w. goes (on.a_value w) s) (ap (λ v. meaning.converted_or_none c.args.ty v) (sym same) ∙ sym c.converted_or_none.ensures)) (c.in-Some.ensures.does run (on.converts c.args.ty) h)
+    let whole : to_z w64 (of_z w64 c.converted_or_none.result) ≡ c.converted_or_none.result = search (rules, to_z-of_z) in
+    after_as run p c.value_here.new.clock.spent (frames_of new) new.scene (λ s. goes (on.a_value (meaning.converted_or_none c.args.ty v)) s) (λ s. goes (on.a_value (to_z w64 (of_z w64 c.converted_or_none.result))) s)
+    (λ s. ap (λ w. goes (on.a_value w) s) (ap (λ v. meaning.converted_or_none c.args.ty v) (sym same) ∙ sym c.converted_or_none.ensures ∙ sym whole)) (c.in-Some.ensures.does run (on.converts c.args.ty) h)
 
 pub descend-returns-then-not-tick-clause-does : goal.descend-returns-then-not-tick-clause-does
 descend-returns-then-not-tick-clause-does t c = λ run h.
