@@ -15,7 +15,7 @@ use Rattle.select_correct.proofs.Reaching.{jumps_reach}
 
 -- for (; a0 != 7;) {} return a0;
 abbrev waits : Function
-waits = record { code = instruction.Branch test.Equal (operand.Temporary 0) (operand.Constant 7) 2 ∷ instruction.Jump 0 ∷ instruction.Return ∷ []; cells = 0; resident = 0; area = 0; outgoing = 0 }
+waits = record { code = instruction.Branch test.Equal (operand.Temporary 0) (operand.Constant 7) 2 ∷ instruction.Jump 0 ∷ instruction.Return ∷ []; cells = 0; resident = 0; area = 0; outgoing = 0; gives = true }
 
 abbrev whole : Program
 whole = record { functions = waits ∷ []; statics = []; main = 0 }
