@@ -112,9 +112,10 @@ module _ (p : typed.Program) (f : flat.Program) (input : List ℕ) (made : IsFla
               let two = c.2.3.calls g one.0 in
               (two.0, λ j w ew. one.1 j (flat_run.word w) (two.1 j w ew));
           returns = λ h.
-              let one = better.returns (same.1 h) in
+              let there = same.1 h in
+              let one = better.returns there.0 in
               let two = c.2.3.returns one.0 in
-              (two.0, λ w ew. one.1 (flat_run.word w) (two.1 w ew));
+              (two.0, λ some w ew. there.1 ∙ one.1 (flat_run.word w) (two.1 some w ew));
         };
       })
 

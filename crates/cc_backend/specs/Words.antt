@@ -15,7 +15,7 @@ use Rattle.frames.specs.Flattened.{before, behind, IsAtCall}
 use Rattle.cc_backend.specs.Made.{IsFlatCodeOf}
 
 -- To a state of flat code f belongs one of three-address code q, at some step of its run, whose history is the beginning of this one: the same calls are active,
--- and where f is about to call or to return, q is too, with the same words in its temporaries.
+-- and where f is about to call or to return, q is too, with the same words in its temporaries, or the same result.
 pub record IsAsMeant (q : tac.Program) (f : flat.Program) (input : List ℕ) (history : List Entry) (s : flat_run.State) : Type 0 where
   pub step : ℕ
   pub state : tac_run.State
