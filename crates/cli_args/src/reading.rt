@@ -224,6 +224,26 @@ fn is_definition(text: &str) -> bool {
         && !text.contains('\r')
         && !text.ends_with("\\")
         && !text.ends_with("??/")
+        && !opens_comment(text)
+}
+
+/// Whether a comment begins in a text, outside of its strings, and does not end there: it would go on in the next line (6.4.9p1).
+fn opens_comment(text: &str) -> bool {
+    match text.rsplit_once("/*") {
+        Some((before, behind)) => !is_in_string(before) && behind.split_once("*/").is_none(),
+        None => false,
+    }
+}
+
+/// Whether a string is open at the end of a text.
+fn is_in_string(text: &str) -> bool {
+    let mut is_open = false;
+    for letter in text.chars() {
+        if letter == '"' {
+            is_open = !is_open;
+        }
+    }
+    is_open
 }
 
 /// The name at the beginning of a macro.

@@ -170,8 +170,21 @@ fn is_c_file(word: Word<'_>) -> bool {
 
 /// Whether a file of the set includes that of this name, as far as is known.
 fn is_included(rt: &HostRuntime, sources: &Sources<'_>, name: &str) -> bool {
+    if has_other_name(rt, sources, name) {
+        return true;
+    }
     for number in 0..sources.files.len() {
         if may_include(rt, sources, number, name) {
+            return true;
+        }
+    }
+    false
+}
+
+/// Whether the set has the file at this path under another name, which an `#include` has.
+fn has_other_name(rt: &HostRuntime, sources: &Sources<'_>, path: &str) -> bool {
+    for file in &sources.files {
+        if file.name.as_str() != path && is_same(rt, file.path.as_str(), path) {
             return true;
         }
     }

@@ -99,7 +99,8 @@ fn in_directive(tokens: &Tokens<'_>, hash: usize, code: u16) -> Option<usize> {
     let number = match code {
         201 | 202 | 204 | 205 | 208 | 232 | 704 | 705 => second,
         203 => stray_hash(tokens, hash)?,
-        221..=223 => lone_operand(tokens, hash)?,
+        221 => wrong_operand(tokens, hash)?,
+        222 | 223 => lone_operand(tokens, hash)?,
         235 => wrong_line(tokens, hash)?,
         _ => hash.saturating_add(1),
     };
@@ -146,14 +147,18 @@ fn lone_operand(tokens: &Tokens<'_>, hash: usize) -> Option<usize> {
         return Some(hash.saturating_add(1));
     }
     if is_behind(tokens, first.saturating_add(1)) {
-        return wrong_operand(tokens, first);
+        return None;
     }
     Some(first)
 }
 
-/// The first token from this one on that no condition has, where no name is before it.
-fn wrong_operand(tokens: &Tokens<'_>, first: usize) -> Option<usize> {
-    for number in first..tokens.spots.len() {
+/// The one token of a condition, or the first that no condition has, where no name is before it.
+fn wrong_operand(tokens: &Tokens<'_>, hash: usize) -> Option<usize> {
+    let lone = lone_operand(tokens, hash);
+    if lone.is_some() {
+        return lone;
+    }
+    for number in hash.saturating_add(2)..tokens.spots.len() {
         if !is_behind(tokens, number) || is_name(tokens.spelling(number)) {
             return None;
         }

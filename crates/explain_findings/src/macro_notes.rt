@@ -62,9 +62,12 @@ pub fn put_first_definition(
     for file in 0..sources.files.len() {
         put_others(alloc, sources, file, place, &mut found)?;
     }
-    match found.as_slice() {
-        [(file, start)] => put_definition(alloc, sources, *file, *start, noted),
-        _ => Ok(()),
+    if found.len() != 1 {
+        return Ok(());
+    }
+    match found.first().copied() {
+        Some((file, start)) => put_definition(alloc, sources, file, start, noted),
+        None => Ok(()),
     }
 }
 

@@ -147,11 +147,19 @@ fn parameter_before(words: &Words<'_>, number: usize) -> Option<usize> {
     for place in (open..number).rev() {
         let is_named = words.at(place) == words.at(number)
             && matches!(words.at(place.saturating_add(1)), b"," | b"[");
-        if is_named && matches!(open_before(words, place), Some(around) if around == open) {
+        if is_named && is_inside(words, place, open) {
             return Some(place);
         }
     }
     None
+}
+
+/// Whether the token with this number is between the parentheses that open there, and in no others.
+fn is_inside(words: &Words<'_>, number: usize, open: usize) -> bool {
+    match open_before(words, number) {
+        Some(around) => around == open,
+        None => false,
+    }
 }
 
 /// Whether the declaration of the name with this number has a body or an initialiser.

@@ -30,11 +30,10 @@ pub fn element_type(words: &Words<'_>, front: usize) -> Option<ElementType> {
     for number in front..words.list.len() {
         let token = words.at(number);
         if !is_type_word(token) {
-            return if number > front && is_declarator(words, number) {
-                Some(found)
-            } else {
-                None
-            };
+            if number > front && is_declarator(words, number) {
+                return Some(found);
+            }
+            return None;
         }
         found = with_word(found, token)?;
     }

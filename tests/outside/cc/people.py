@@ -70,7 +70,7 @@ def habits():
         ('-x c main.c -o out', 3), ('-xc main.c -o out', 3), ('-funsigned-char -finput-charset=UTF-8 -mlittle-endian main.c -o out', 3), ('build -ffreestanding -nostdlib -static -fno-common main.c -o out', 3),
         ('build -pipe -w -v main.c -o out', 3), ('-DN=4 n.c -o out', 4), ('build n.c -D N=5 -o out', 5), ('build n.c -DN -o out', 1), ('build n.c -o out -UM', 9),
         ('build n.c -DN=6 -UN -o out', 9), ('build n.c -UN -DN=6 -o out', 6), ('build n.c -DN=6 -U N -D N=5 -o out', 5), ('build n.c -UN -DN=6 -UN -o out', 9),
-        ('-pthread -static-libgcc --specs=nano.specs -specs=nosys.specs -no-pie -trigraphs -undef main.c -o out', 3), ('build twice.c -DTWICE(x)=((x)+(x)) -o out', 8),
+        ('-pthread -static-libgcc --specs=nano.specs -specs=nosys.specs -no-pie -trigraphs -undef main.c -o out', 3), ('build twice.c -DTWICE(x)=((x)+(x)) -o out', 8), ('build n.c -DN=/*one*/7 -o out', 7), ('build n.c -DN=sizeof"/*" -o out', 3),
         ('build -I. in.c -o out', 7), ('build -I . in.c -o out', 7), ('build -Iinclude far.c -o out', 11), ('build -isystem include far.c -o out', 11),
         ('build -iquote include far.c -o out', 11), ('build -I none -I include far.c -o out', 11), ('build in.c near.h -o out', 7),
         ('build --stack 8K main.c -o out', 3), ('build --stack 1M main.c -o out', 3), ('build --stack=65536 main.c -o out', 3),
@@ -105,6 +105,8 @@ def habits():
         ('build main.c -D +=2 -o out', 'error: a macro is written -D NAME, -D NAME=VALUE or -U NAME, on one line\n'),
         ('build main.c -D A=\\ -o out', 'error: a macro is written -D NAME, -D NAME=VALUE or -U NAME, on one line\n'),
         ('build main.c -D A=2??/ -o out', 'error: a macro is written -D NAME, -D NAME=VALUE or -U NAME, on one line\n'),
+        ('build main.c -DA=1/* -o out', 'error: a macro is written -D NAME, -D NAME=VALUE or -U NAME, on one line\n'),
+        ('build main.c -DA=/**/1/*/ -o out', 'error: a macro is written -D NAME, -D NAME=VALUE or -U NAME, on one line\n'),
         ('build main.c -U A=2 -o out', 'error: a macro is written -D NAME, -D NAME=VALUE or -U NAME, on one line\n'),
         ('run out -I include', 'error: --stack, -I, -D and -U are for --map here\n'),
     ]
