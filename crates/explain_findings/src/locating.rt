@@ -159,7 +159,7 @@ fn wrong_operand(tokens: &Tokens<'_>, hash: usize) -> Option<usize> {
         return lone;
     }
     for number in hash.saturating_add(2)..tokens.spots.len() {
-        if !is_behind(tokens, number) || is_name(tokens.spelling(number)) {
+        if !is_behind(tokens, number) || is_made(tokens, number) {
             return None;
         }
         if is_no_operand(tokens.spelling(number)) {
@@ -167,6 +167,11 @@ fn wrong_operand(tokens: &Tokens<'_>, hash: usize) -> Option<usize> {
         }
     }
     None
+}
+
+/// Whether the token with this number is a name in a directive, which may be a macro.
+fn is_made(tokens: &Tokens<'_>, number: usize) -> bool {
+    is_behind(tokens, number) && is_name(tokens.spelling(number))
 }
 
 /// Whether a token begins as a name does.
@@ -203,7 +208,7 @@ fn is_no_operand(token: &[u8]) -> bool {
 fn wrong_line(tokens: &Tokens<'_>, hash: usize) -> Option<usize> {
     let first = hash.saturating_add(2);
     let (second, third) = (first.saturating_add(1), first.saturating_add(2));
-    if is_name(tokens.spelling(first)) || is_name(tokens.spelling(second)) {
+    if is_made(tokens, first) || is_made(tokens, second) {
         return None;
     }
     if !is_line_number(tokens.spelling(first)) || !is_behind(tokens, second) {
