@@ -182,6 +182,9 @@ def others():
     check('an included file beside, as JSON', notes == [dict(topic='hint', text=help)], notes)
     check('an included file beside, with -I', run(beside, ['explain', 'build', 'main.c', '-I', '.'])[:3] == (0, '', ''))
     check('an included file that is nowhere', 'it lies beside' not in run({'main.c': beside['main.c']}, ['explain', 'build', 'main.c'])[2])
+    wide = {'main.c': 'int main(void) { /*' + 'a' * 4096 + '*/ return x; }\n'}
+    said = run(wide, ['explain', 'build', 'main.c'])[2]
+    check('a line that is too long to be shown', said == "main.c:1:4126: 528 undeclared name 'x'\n", said[:200])
     many = {'main.c': ''.join('int f%d(void) { return a; }\n' % n for n in range(9)) + 'int main(void) { return 0; }\n'}
     check('--errors', run(many, ['explain', 'build', 'main.c', '--errors', '3'])[2].count(' 528 ') == 3)
     mended = json.loads(run({'main.c': 'int main(void) {\n    return 0\n}\n'}, ['explain', 'build', '--json', 'main.c'])[1])['fix']
