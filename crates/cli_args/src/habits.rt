@@ -72,6 +72,8 @@ const NO_WRAP: &str =
 const NO_MARKERS: &str =
     "zkc pp MAIN prints the tokens without markers: write it in place of -E -P";
 
+const NO_PASSING: &str = "write the options that follow -Wp, as words of their own";
+
 const ONE_ERROR: &str = "write --warn=NAME --werror for a warning that is an error";
 
 const NO_RULE_HERE: &str = "only zkc build writes a rule for make: leave -MD and its like out";
@@ -400,6 +402,21 @@ const HABITS: &[Habit] = &[
     Habit {
         text: "-Wa,",
         is_whole: false,
+        act: Act::Refuse(NO_LINKER),
+    },
+    Habit {
+        text: "-Wp,",
+        is_whole: false,
+        act: Act::Refuse(NO_PASSING),
+    },
+    Habit {
+        text: "-Xlinker",
+        is_whole: true,
+        act: Act::Refuse(NO_LINKER),
+    },
+    Habit {
+        text: "-rdynamic",
+        is_whole: true,
         act: Act::Refuse(NO_LINKER),
     },
     Habit {

@@ -88,6 +88,7 @@ def habits():
         ('-ftrapv main.c -o out', 'error: an overflow does not stop a program: zkc interp MAIN tells each undefined act at its line\n'),
         ('-finput-charset=utf-16 main.c -o out', OTHER_CHARSET), ('-fwrapv main.c -o out', NO_WRAP), ('interp -fwrapv main.c', NO_WRAP), ('verify -fno-strict-overflow main.c', NO_WRAP),
         ('-static-pie main.c -o out', NO_LINKER), ('--specs=rdimon.specs main.c -o out', NO_LINKER),
+        ('-Wp,-MD,x.d main.c -o out', 'error: write the options that follow -Wp, as words of their own\n'), ('-Xlinker -s main.c -o out', NO_LINKER),
         ('-E -P main.c', 'error: zkc pp MAIN prints the tokens without markers: write it in place of -E -P\n'),
         ('build main.c -o out -isystem', 'error: the folder is missing: -isystem DIR\n'), ('pp main.c -iquote', 'error: the folder is missing: -iquote DIR\n'),
         ('check main.c -idirafter', 'error: the folder is missing: -idirafter DIR\n'), ('build main.c -o out -MF', 'error: the file of the rule is missing: -MF FILE\n'),
