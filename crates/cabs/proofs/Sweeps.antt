@@ -322,3 +322,13 @@ module _ (c : Course) (p : typed.Program) where
       After c p k fs scene (steps_to (enters x)) → OnFalse b (StopsBy c limit new.why new.spent scene)
   unticked_if limit k new fs scene x true i e h = tt
   unticked_if limit k new fs scene x false i e h = unticked c p limit k new fs scene x false refl i e h
+
+-- ---- what comes next, by its kind
+
+pub comes_some : {A : Type 0} (view : A → State → Moved) (c : Course) (p : typed.Program) (limit : ℕ) (r : Option A) (a : A) (clock : Clock) (m : Machine) → r ≡ Some a → ComesTo view c p limit r clock m →
+    After c p clock.spent (frames_of m) m.scene (view a)
+comes_some view c p limit r a clock m e h = let P : Option _ → Type 0 = λ r. ComesTo view c p limit r clock m in subst P e h
+
+pub comes_none : {A : Type 0} (view : A → State → Moved) (c : Course) (p : typed.Program) (limit : ℕ) (r : Option A) (clock : Clock) (m : Machine) → r ≡ None → ComesTo view c p limit r clock m →
+    StopsBy c limit clock.why clock.spent m.scene
+comes_none view c p limit r clock m e h = let P : Option _ → Type 0 = λ r. ComesTo view c p limit r clock m in subst P e h

@@ -337,6 +337,59 @@ fn go_on<'p>(
     }
 }
 
+/// A step, and the statements that call and that are entered next, one in another, up to the next call.
+fn open_next<'p>(
+    machine: &mut Machine<'p>,
+    clock: &mut Clock,
+    limit: u64,
+    first: Step<'p>,
+) -> Option<Step<'p>>
+    requires room { clock.old.spent ≤ limit }
+    ensures does { Sweeps (λ x. steps_to (step_of x)) limit (λ p s. steps_to (step_of first.entry) s) clock.old machine.old result clock.new machine.new }
+    ensures here { StaysHere true result clock.new.why }
+    ensures program { machine.new.program ≡ machine.old.program }
+    ensures spends { Spends clock.old.spent clock.new.spent limit }
+{
+    let mut next = first;
+    loop {
+        match next {
+            Step::Enters(node) => match node {
+                Node::Statement(objects, a) => {
+                    if is_quick_statement(a) {
+                        return Some(Step::Enters(Node::Statement(objects, a)));
+                    }
+                    match open(machine, clock, limit, objects, a) {
+                        None => return None,
+                        Some(step) => next = step,
+                    }
+                }
+                other => return Some(Step::Enters(other)),
+            },
+            other => return Some(other),
+        }
+    }
+}
+
+/// A node, and the statements that call and that it enters, up to the next call.
+fn go_far<'p>(
+    machine: &mut Machine<'p>,
+    clock: &mut Clock,
+    limit: u64,
+    node: Node<'p>,
+) -> Option<Step<'p>>
+    requires room { clock.old.spent ≤ limit }
+    ensures does { Sweeps (λ x. steps_to (step_of x)) limit (λ p s. steps_to (on.enters (node_of node.entry)) s) clock.old machine.old result clock.new machine.new }
+    ensures here { StaysHere true result clock.new.why }
+    ensures program { machine.new.program ≡ machine.old.program }
+    ensures spends { Spends clock.old.spent clock.new.spent limit }
+    ensures takes { IfSome result (λ _. clock.old.spent < clock.new.spent) }
+{
+    match go_on(machine, clock, limit, node) {
+        None => None,
+        Some(step) => open_next(machine, clock, limit, step),
+    }
+}
+
 /// A node that calls, with its ticks, up to the next call.
 ///
 /// Errors: how the run stops before it.
@@ -357,7 +410,7 @@ pub fn sweep<'p>(
         spent: *spent,
         why: Why::Ticks,
     };
-    let next = go_on(&mut interpreter.machine, &mut clock, limit, node);
+    let next = go_far(&mut interpreter.machine, &mut clock, limit, node);
     *spent = clock.spent;
     match next {
         Some(step) => Ok(step),

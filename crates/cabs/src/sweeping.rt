@@ -31,7 +31,7 @@ use interp_store::frames::{
     Asked, Compound, Flow, Found, Frame, Node, OperandFrame, Passed, PlaceFrame, Step,
 };
 use interp_store::machine::Machine;
-use interp_store::operators::is_true;
+use interp_store::operators::{converted_or_none, is_true};
 use interp_store::stop::Stop;
 use srcset::Pos;
 use typed_ast::{Argument, ObjectType, Place, Statement, Value};
@@ -502,6 +502,33 @@ fn one_true<'p>(
     }
 }
 
+/// The operand of `?:` that is evaluated, converted to the type of both (6.5.15p5). One that calls nothing is evaluated on the spot.
+#[cycle(descending)]
+fn picked<'p>(
+    machine: &mut Machine<'p>,
+    clock: &mut Clock,
+    limit: u64,
+    ty: Option<IntType>,
+    e: &'p Value,
+) -> Option<Step<'p>>
+    requires room { clock.old.spent ≤ limit }
+    ensures does { Sweeps (λ x. steps_to (step_of x)) limit (λ p s. waits (on.converts ty) (on.value (value_of e.now)) s) clock.old machine.old result clock.new machine.new }
+    ensures here { StaysHere true result clock.new.why }
+    ensures program { machine.new.program ≡ machine.old.program }
+    ensures spends { Spends clock.old.spent clock.new.spent limit }
+{
+    if !is_quick(e) {
+        if !wait_in(machine, clock, Frame::Operand(OperandFrame::Converts(ty))) {
+            return None;
+        }
+        return descend(machine, clock, limit, e);
+    }
+    let Some(v) = value_here(machine, clock, limit, e) else {
+        return None;
+    };
+    Some(Step::Leaves(Found::Value(converted_or_none(ty, v))))
+}
+
 /// `?:`, after its tick (6.5.15).
 #[cycle(descending)]
 fn chosen<'p>(
@@ -530,11 +557,10 @@ fn chosen<'p>(
     let Some(v) = value_here(machine, clock, limit, c) else {
         return None;
     };
-    let frame = Frame::Operand(OperandFrame::Converts(ty));
     if is_true(v) {
-        later(machine, clock, limit, frame, a)
+        picked(machine, clock, limit, ty, a)
     } else {
-        later(machine, clock, limit, frame, b)
+        picked(machine, clock, limit, ty, b)
     }
 }
 

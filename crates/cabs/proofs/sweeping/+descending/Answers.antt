@@ -187,8 +187,8 @@ chosen-returns-then-is_true-clause-does t c = λ run h.
     let yes : State → Moved = λ s. waits (on.converts c.args.choice.ty) (on.value (value_of c.args.choice.a.now)) s in
     let no : State → Moved = λ s. waits (on.converts c.args.choice.ty) (on.value (value_of c.args.choice.b.now)) s in
     let found = after_as run p c.value_here.new.clock.spent (frames_of new) new.scene (λ s. choose (truth v) (yes s) (no s)) yes (λ s. picks_true (truth v) (yes s) (no s) test) (c.in-Some.ensures.does run f h) in
-    on_with (λ x. steps_to (step_of x)) c.args.limit (λ p s. waits (on.converts c.args.choice.ty) (on.value (value_of c.args.choice.a.now)) s) run p new c.later-then-is_true.new.machine c.value_here.new.clock c.later-then-is_true.new.clock c.later-then-is_true.result
-    (ap (λ (b : Bor unit.Program). program_of b.now) c.value_here.ensures.program) c.later-then-is_true.ensures.does found
+    on_with (λ x. steps_to (step_of x)) c.args.limit (λ p s. waits (on.converts c.args.choice.ty) (on.value (value_of c.args.choice.a.now)) s) run p new c.picked.new.machine c.value_here.new.clock c.picked.new.clock c.picked.result
+    (ap (λ (b : Bor unit.Program). program_of b.now) c.value_here.ensures.program) c.picked.ensures.does found
 
 pub chosen-returns-else-is_true-clause-does : goal.chosen-returns-else-is_true-clause-does
 chosen-returns-else-is_true-clause-does t c = λ run h.
@@ -202,8 +202,39 @@ chosen-returns-else-is_true-clause-does t c = λ run h.
     let yes : State → Moved = λ s. waits (on.converts c.args.choice.ty) (on.value (value_of c.args.choice.a.now)) s in
     let no : State → Moved = λ s. waits (on.converts c.args.choice.ty) (on.value (value_of c.args.choice.b.now)) s in
     let found = after_as run p c.value_here.new.clock.spent (frames_of new) new.scene (λ s. choose (truth v) (yes s) (no s)) no (λ s. picks_false (truth v) (yes s) (no s) test) (c.in-Some.ensures.does run f h) in
-    on_with (λ x. steps_to (step_of x)) c.args.limit (λ p s. waits (on.converts c.args.choice.ty) (on.value (value_of c.args.choice.b.now)) s) run p new c.later-else-is_true.new.machine c.value_here.new.clock c.later-else-is_true.new.clock c.later-else-is_true.result
-    (ap (λ (b : Bor unit.Program). program_of b.now) c.value_here.ensures.program) c.later-else-is_true.ensures.does found
+    on_with (λ x. steps_to (step_of x)) c.args.limit (λ p s. waits (on.converts c.args.choice.ty) (on.value (value_of c.args.choice.b.now)) s) run p new c.picked-else-is_true.new.machine c.value_here.new.clock c.picked-else-is_true.new.clock c.picked-else-is_true.result
+    (ap (λ (b : Bor unit.Program). program_of b.now) c.value_here.ensures.program) c.picked-else-is_true.ensures.does found
+
+pub picked-returns-then-not-wait_in-clause-does : goal.picked-returns-then-not-wait_in-clause-does
+picked-returns-then-not-wait_in-clause-does t c = λ run h.
+    no_memory run c.args.limit c.wait_in.new.clock.spent c.wait_in.new.machine.scene c.wait_in.new.clock.why (on_false _ c.wait_in.result c.if-not-wait_in.true c.wait_in.ensures.refused)
+
+pub picked-returns-then-not-is_quick-clause-does : goal.picked-returns-then-not-is_quick-clause-does
+picked-returns-then-not-is_quick-clause-does t c = λ run h.
+    let m = c.args.machine.now in
+    let new = c.wait_in.new.machine in
+    let p = program_of m.program.now in
+    let x = on.value (value_of c.args.e.now) in
+    on_with (λ x. steps_to (step_of x)) c.args.limit (λ p s. steps_to (on.enters x) s) run p new c.descend.new.machine c.wait_in.new.clock c.descend.new.clock c.descend.result
+    (ap (λ (b : Bor unit.Program). program_of b.now) c.wait_in.ensures.program) c.descend.ensures.does
+    (on_stack run p c.args.clock.now.spent c.wait_in.new.clock.spent (frames_of m) (frames_of new) m.scene new.scene (on.converts c.args.ty) x c.wait_in.ensures.spent
+    (on_true _ c.wait_in.result c.if-not-wait_in.false c.wait_in.ensures.stacked) c.wait_in.ensures.scene h)
+
+pub picked-returns-in_default-clause-does : goal.picked-returns-in_default-clause-does
+picked-returns-in_default-clause-does t c = λ run h.
+    let m = c.args.machine.now in
+    found_none on.a_value run (program_of m.program.now) (on.converts c.args.ty) c.args.limit c.value_here.result c.value_here.new.clock c.value_here.new.machine c.in_default.is (c.value_here.ensures.does run (on.converts c.args.ty) h)
+
+pub picked-returns-clause-does : goal.picked-returns-clause-does
+picked-returns-clause-does t c = λ run h.
+    let m = c.args.machine.now in
+    let new = c.value_here.new.machine in
+    let p = program_of m.program.now in
+    let v = c.in-Some.v in
+    let same : to_z w64 (of_z w64 v) ≡ v = search (rules, to_z-of_z) in
+    let whole : to_z w64 (of_z w64 c.converted_or_none.result) ≡ c.converted_or_none.result = search (rules, to_z-of_z) in
+    after_as run p c.value_here.new.clock.spent (frames_of new) new.scene (λ s. goes (on.a_value (meaning.converted_or_none c.args.ty v)) s) (λ s. goes (on.a_value (to_z w64 (of_z w64 c.converted_or_none.result))) s)
+    (λ s. ap (λ w. goes (on.a_value w) s) (ap (λ v. meaning.converted_or_none c.args.ty v) (sym same) ∙ sym c.converted_or_none.ensures ∙ sym whole)) (c.in-Some.ensures.does run (on.converts c.args.ty) h)
 
 pub descend-returns-then-not-tick-clause-does : goal.descend-returns-then-not-tick-clause-does
 descend-returns-then-not-tick-clause-does t c = λ run h.

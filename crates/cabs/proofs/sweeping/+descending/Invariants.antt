@@ -26,3 +26,6 @@ decreases-one_true l = work (value_of l.a.now) + work (value_of l.b.now) + 2
 
 abbrev pub decreases-chosen : goal.decreases-chosen
 decreases-chosen l = work (value_of l.c.now) + work (value_of l.choice.a.now) + work (value_of l.choice.b.now) + 2
+
+abbrev pub decreases-picked : goal.decreases-picked
+decreases-picked l = work (value_of l.e.now) + 1
