@@ -1,5 +1,5 @@
 -- What a call passes to its caller.
-use Rattle.std.proofs.Common.{◌≡◌, Option, Some, None, Bool, true, false, refl, ap, ◌∙◌}
+use Rattle.std.proofs.Common.{◌≡◌, Option, Some, Bool, true, false, refl, ap, ◌∙◌}
 use Rattle.frames_code.specs.Code.{Program}
 use Rattle.frames_code.specs.Run.{Value, State, result_if, result_of}
 

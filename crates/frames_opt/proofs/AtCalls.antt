@@ -5,7 +5,7 @@ use Rattle.frames_code.specs.declared.code.Instruction.{Instruction}
 use Rattle.frames_code.specs.declared.code.Instruction.TheVariants as instruction
 use Rattle.frames_code.specs.Code.{Program}
 use Rattle.frames_code.specs.Costs.{next_of}
-use Rattle.frames_code.specs.Run.{Value, Values, State, running, run, start, result_of, function_at}
+use Rattle.frames_code.specs.Run.{Values, State, running, run, start, result_of, function_at}
 use Rattle.frames_code.proofs.Results.{result_same}
 use Rattle.frames_opt.specs.declared.facts.Known.{Known}
 use Rattle.frames_opt.specs.Simplified.{IsAtCall}
