@@ -28,6 +28,7 @@ pub struct CodeScope {
 }
 
 /// The program and the function whose code is counted.
+#[derive(Clone, Copy)]
 struct Source<'p> {
     program: &'p Program,
     function: &'p Function,

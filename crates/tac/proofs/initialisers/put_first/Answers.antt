@@ -16,8 +16,8 @@ returns-in-None c =
     no_object (program_in c.args.scope.now) (function_in c.args.scope.now) (initialiser_of c.args.initialiser.now) n (slice_get (map object_type_of xs) n) c.args.code.now.list.items
     (slice_get-map object_type_of xs n ∙ ap (option_map object_type_of) e) c.args.code.now.short
 
-pub put_object-in-Some-requires : goal.put_object-in-Some-requires
-put_object-in-Some-requires c =
+pub put_object-requires : goal.put_object-requires
+put_object-requires c =
     let xs = c.args.scope.now.function.now.objects.items in
     let n = c.args.object in
     let x = c.in-Some.found.now in
