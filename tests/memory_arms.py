@@ -23,22 +23,15 @@ OPEN = {
     ('cabs/src/acting.rt', 'put'),
     ('cabs/src/first_objects.rt', 'laid_cells'),
     ('cabs/src/first_objects.rt', 'literal_object'),
-    ('const_expr/src/measures.rt', 'size_is'),
-    ('interp_steps/src/elements.rt', 'clear'),
     ('interp_steps/src/initialisers.rt', 'element_count'),
-    ('interp_steps/src/initialisers.rt', 'next_part'),
-    ('interp_steps/src/labels.rt', 'seek'),
-    ('interp_steps/src/switches.rt', 'enter_case'),
     ('interp_store/src/element_tree.rt', 'fill'),
     ('interp_store/src/grid.rt', 'fill'),
     ('interp_store/src/grid.rt', 'set'),
     ('interp_store/src/scene.rt', 'object_behind'),
-    ('interp_transitions/src/tally.rt', 'begin'),
     ('lower_ops/src/changes.rt', 'put_call'),
     ('lower_ops/src/waiting.rt', 'next'),
     ('tac/src/initialisers.rt', 'ahead_of'),
     ('tac/src/initialisers.rt', 'put_word'),
-    ('typing_expressions/src/literals.rt', 'next_number'),
 }
 
 WORD = re.compile(r"'\w+(?!')|\w+!?|=>|->|::|[-+*/%&|^<>=!]=|&&|\|\||[^\s\w]")

@@ -4,7 +4,6 @@
 mod constancy;
 mod element_values;
 mod forms;
-mod literal_counts;
 mod literals;
 mod parts;
 mod typing;

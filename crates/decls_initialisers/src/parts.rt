@@ -15,14 +15,13 @@ ghost use Rattle.typing_expressions.specs.Forms.{checked_of};
 ghost use Rattle.typing_expressions.specs.Numbered.{numbered};
 
 use crate::forms::{exceeds, has_characters, string_literal};
-use crate::literal_counts::LiteralCount;
 use const_expr::expression;
 use ctypes::IntType;
 use srcset::{Code, Names, Pos, Refusal};
 use std::alloc::Global;
 use tree::{Expr, Initialiser as Init};
 use typed_ast::Initialiser;
-use typing_expressions::{Checked, broken, valued};
+use typing_expressions::{Checked, LiteralCount, broken, valued};
 use typing_scopes::Scope;
 
 /// The place of an expression.
@@ -53,13 +52,9 @@ pub(crate) fn number_from(
     ensures err { IfErr result (λ r. Tells r (typed.number_from (numbered names.now literals.old scope.now) element (tree_of e.now))) }
     ensures count { OnOk result (literals.new ≡ literals.old + length (strings (tree_of e.now))) }
 {
-    let mut number = literals.get();
-    let x = match expression(alloc, names, scope, &mut number, e) {
+    let x = match expression(alloc, names, scope, literals, e) {
         Ok(x) => x,
         Err(refusal) => return Err(refusal),
-    };
-    let Ok(()) = literals.reach(number) else {
-        return Err(Refusal::Memory);
     };
     let pos = place_of(&x);
     match valued(alloc, Code::VoidAssigned, pos, x) {

@@ -16,14 +16,13 @@ ghost use Rattle.decls_initialisers.specs.inside.Numbered.{initialiser_at};
 ghost use Rattle.decls_initialisers.specs.inside.Braces.{braced_string, braced_text_at, initialisers_at, list_at};
 
 use crate::forms::{Wanted, exceeds, has_characters, text_alone, wanted_object};
-use crate::literal_counts::LiteralCount;
 use crate::parts::{array_from, in_braces, number_from, number_in_braces, text_from};
 use ctypes::IntType;
 use srcset::{Code, Names, Pos, Refusal};
 use std::alloc::Global;
 use tree::{Expr, Initialiser as Init};
 use typed_ast::Initialiser;
-use typing_expressions::broken;
+use typing_expressions::{LiteralCount, broken};
 use typing_scopes::Scope;
 
 /// An initialiser without braces.

@@ -102,13 +102,6 @@ impl Scope {
         self.definitions.find(name)
     }
 
-    /// How many string literals there are so far.
-    pub fn literal_count(&self) -> usize
-        ensures { result ≡ length self.now.literals }
-    {
-        self.literals.len()
-    }
-
     /// The string literals so far, by the numbers of their texts.
     pub fn literals(&self) -> &[usize]
         ensures { result.now ≡ self.now.literals }

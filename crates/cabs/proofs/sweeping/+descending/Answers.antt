@@ -1,10 +1,11 @@
-use Rattle.std.proofs.Common.{rules, ◌≡◌, ◌∙◌, [], List, Bor, ap, map, sym, to_z, of_z, w64}
+use Rattle.std.proofs.Common.{true, false, pos, rules, ◌≡◌, ◌∙◌, [], List, Bor, ap, map, sym, to_z, of_z, w64}
 use Rattle.std.proofs.Math.Facts.{to_z-of_z}
 use Rattle.typing_spec.specs.Program as typed
 use Rattle.typed_ast.specs.declared.units.Program as unit
 use Rattle.typed_ast.specs.declared.expressions.Argument.{Argument}
 use Rattle.csem.specs.Expressions as meaning
-use Rattle.csem.specs.Machine.{State}
+use Rattle.ctypes.specs.Types.{truth}
+use Rattle.csem.specs.Machine.{State, choose}
 use Rattle.srcset.specs.declared.refusal.Pos.{Pos}
 use Rattle.interp_store.specs.declared.frames.Passed.{Passed}
 use Rattle.interp_store.specs.layer.Frames.{Moved}
@@ -12,12 +13,12 @@ use Rattle.typed_ast.specs.View.{argument_of, arguments_of, callee_of, place_of,
 use Rattle.interp_store.proofs.Held.{sees_call}
 use Rattle.interp_store.specs.layer.Agrees.{frames_of}
 use Rattle.interp_store.specs.layer.Frames as on
-use Rattle.interp_store.specs.layer.Steps.{asked_for, waits}
+use Rattle.interp_store.specs.layer.Steps.{asked_for, goes, waits}
 use Rattle.interp_store.specs.layer.Views.{frame_of, passed_of, step_of}
 use Rattle.cabs.specs.inside.Sweeping.{steps_to}
 use Rattle.cabs.proofs.Seen.{sees_assigned, sees_binary, sees_both, sees_cast, sees_chosen, sees_compound, sees_discarded, sees_one, sees_sequence, sees_unary}
 use Rattle.interp_store.specs.View.{reference_of}
-use Rattle.cabs.proofs.Sweeps.{after_as, found_none, no_memory, on_false, on_stack, on_true, on_with, ticked, ticked_as, unticked}
+use Rattle.cabs.proofs.Sweeps.{picks_true, picks_false, after_as, found_none, no_memory, on_false, on_stack, on_true, on_with, ticked, ticked_as, unticked}
 use Rattle.cabs.proofs.sweeping.+descending.Goals as goal
 
 pub binary-returns-in_default-clause-does : goal.binary-returns-in_default-clause-does
@@ -98,6 +99,143 @@ combined-returns-clause-does t c = λ run h.
     (ap (λ (b : Bor unit.Program). program_of b.now) c.place_here.ensures.program) c.later.ensures.does
     (c.in-Some.ensures.does run (on.compounds a.at a.op a.ty a.of a.read_at (value_of c.args.e.now)) h)
 
+pub both_true-returns-in_default-clause-does : goal.both_true-returns-in_default-clause-does
+both_true-returns-in_default-clause-does t c = λ run h.
+    let m = c.args.machine.now in
+    let f = on.and_also (value_of c.args.b.now) in
+    found_none on.a_value run (program_of m.program.now) f c.args.limit c.value_here.result c.value_here.new.clock c.value_here.new.machine c.in_default.is (c.value_here.ensures.does run f h)
+
+pub both_true-returns-then-is_true-clause-does : goal.both_true-returns-then-is_true-clause-does
+both_true-returns-then-is_true-clause-does t c = λ run h.
+    let m = c.args.machine.now in
+    let new = c.value_here.new.machine in
+    let p = program_of m.program.now in
+    let f = on.and_also (value_of c.args.b.now) in
+    let v = c.in-Some.v in
+    let same : to_z w64 (of_z w64 v) ≡ v = search (rules, to_z-of_z) in
+    let test : truth v ≡ true = ap truth (sym same) ∙ sym c.is_true.ensures ∙ c.if-is_true.true in
+    let yes : State → Moved = λ s. waits on.tells_truth (on.value (value_of c.args.b.now)) s in
+    let no : State → Moved = λ s. goes (on.a_value (pos 0)) s in
+    let found = after_as run p c.value_here.new.clock.spent (frames_of new) new.scene (λ s. choose (truth v) (yes s) (no s)) yes (λ s. picks_true (truth v) (yes s) (no s) test) (c.in-Some.ensures.does run f h) in
+    on_with (λ x. steps_to (step_of x)) c.args.limit (λ p s. waits (on.tells_truth) (on.value (value_of c.args.b.now)) s) run p new c.later-then-is_true.new.machine c.value_here.new.clock c.later-then-is_true.new.clock c.later-then-is_true.result
+    (ap (λ (b : Bor unit.Program). program_of b.now) c.value_here.ensures.program) c.later-then-is_true.ensures.does found
+
+pub both_true-returns-else-is_true-clause-does : goal.both_true-returns-else-is_true-clause-does
+both_true-returns-else-is_true-clause-does t c = λ run h.
+    let m = c.args.machine.now in
+    let new = c.value_here.new.machine in
+    let p = program_of m.program.now in
+    let f = on.and_also (value_of c.args.b.now) in
+    let v = c.in-Some.v in
+    let same : to_z w64 (of_z w64 v) ≡ v = search (rules, to_z-of_z) in
+    let test : truth v ≡ false = ap truth (sym same) ∙ sym c.is_true.ensures ∙ c.if-is_true.false in
+    let yes : State → Moved = λ s. waits on.tells_truth (on.value (value_of c.args.b.now)) s in
+    let no : State → Moved = λ s. goes (on.a_value (pos 0)) s in
+    let found = after_as run p c.value_here.new.clock.spent (frames_of new) new.scene (λ s. choose (truth v) (yes s) (no s)) no (λ s. picks_false (truth v) (yes s) (no s) test) (c.in-Some.ensures.does run f h) in
+    found
+
+pub one_true-returns-in_default-clause-does : goal.one_true-returns-in_default-clause-does
+one_true-returns-in_default-clause-does t c = λ run h.
+    let m = c.args.machine.now in
+    let f = on.or_else (value_of c.args.b.now) in
+    found_none on.a_value run (program_of m.program.now) f c.args.limit c.value_here.result c.value_here.new.clock c.value_here.new.machine c.in_default.is (c.value_here.ensures.does run f h)
+
+pub one_true-returns-then-is_true-clause-does : goal.one_true-returns-then-is_true-clause-does
+one_true-returns-then-is_true-clause-does t c = λ run h.
+    let m = c.args.machine.now in
+    let new = c.value_here.new.machine in
+    let p = program_of m.program.now in
+    let f = on.or_else (value_of c.args.b.now) in
+    let v = c.in-Some.v in
+    let same : to_z w64 (of_z w64 v) ≡ v = search (rules, to_z-of_z) in
+    let test : truth v ≡ true = ap truth (sym same) ∙ sym c.is_true.ensures ∙ c.if-is_true.true in
+    let yes : State → Moved = λ s. goes (on.a_value (pos 1)) s in
+    let no : State → Moved = λ s. waits on.tells_truth (on.value (value_of c.args.b.now)) s in
+    let found = after_as run p c.value_here.new.clock.spent (frames_of new) new.scene (λ s. choose (truth v) (yes s) (no s)) yes (λ s. picks_true (truth v) (yes s) (no s) test) (c.in-Some.ensures.does run f h) in
+    found
+
+pub one_true-returns-else-is_true-clause-does : goal.one_true-returns-else-is_true-clause-does
+one_true-returns-else-is_true-clause-does t c = λ run h.
+    let m = c.args.machine.now in
+    let new = c.value_here.new.machine in
+    let p = program_of m.program.now in
+    let f = on.or_else (value_of c.args.b.now) in
+    let v = c.in-Some.v in
+    let same : to_z w64 (of_z w64 v) ≡ v = search (rules, to_z-of_z) in
+    let test : truth v ≡ false = ap truth (sym same) ∙ sym c.is_true.ensures ∙ c.if-is_true.false in
+    let yes : State → Moved = λ s. goes (on.a_value (pos 1)) s in
+    let no : State → Moved = λ s. waits on.tells_truth (on.value (value_of c.args.b.now)) s in
+    let found = after_as run p c.value_here.new.clock.spent (frames_of new) new.scene (λ s. choose (truth v) (yes s) (no s)) no (λ s. picks_false (truth v) (yes s) (no s) test) (c.in-Some.ensures.does run f h) in
+    on_with (λ x. steps_to (step_of x)) c.args.limit (λ p s. waits (on.tells_truth) (on.value (value_of c.args.b.now)) s) run p new c.later-else-is_true.new.machine c.value_here.new.clock c.later-else-is_true.new.clock c.later-else-is_true.result
+    (ap (λ (b : Bor unit.Program). program_of b.now) c.value_here.ensures.program) c.later-else-is_true.ensures.does found
+
+pub chosen-returns-in_default-clause-does : goal.chosen-returns-in_default-clause-does
+chosen-returns-in_default-clause-does t c = λ run h.
+    let m = c.args.machine.now in
+    let f = on.chooses c.args.choice.ty (value_of c.args.choice.a.now) (value_of c.args.choice.b.now) in
+    found_none on.a_value run (program_of m.program.now) f c.args.limit c.value_here.result c.value_here.new.clock c.value_here.new.machine c.in_default.is (c.value_here.ensures.does run f h)
+
+pub chosen-returns-then-is_true-clause-does : goal.chosen-returns-then-is_true-clause-does
+chosen-returns-then-is_true-clause-does t c = λ run h.
+    let m = c.args.machine.now in
+    let new = c.value_here.new.machine in
+    let p = program_of m.program.now in
+    let f = on.chooses c.args.choice.ty (value_of c.args.choice.a.now) (value_of c.args.choice.b.now) in
+    let v = c.in-Some.v in
+    let same : to_z w64 (of_z w64 v) ≡ v = search (rules, to_z-of_z) in
+    let test : truth v ≡ true = ap truth (sym same) ∙ sym c.is_true.ensures ∙ c.if-is_true.true in
+    let yes : State → Moved = λ s. waits (on.converts c.args.choice.ty) (on.value (value_of c.args.choice.a.now)) s in
+    let no : State → Moved = λ s. waits (on.converts c.args.choice.ty) (on.value (value_of c.args.choice.b.now)) s in
+    let found = after_as run p c.value_here.new.clock.spent (frames_of new) new.scene (λ s. choose (truth v) (yes s) (no s)) yes (λ s. picks_true (truth v) (yes s) (no s) test) (c.in-Some.ensures.does run f h) in
+    on_with (λ x. steps_to (step_of x)) c.args.limit (λ p s. waits (on.converts c.args.choice.ty) (on.value (value_of c.args.choice.a.now)) s) run p new c.picked.new.machine c.value_here.new.clock c.picked.new.clock c.picked.result
+    (ap (λ (b : Bor unit.Program). program_of b.now) c.value_here.ensures.program) c.picked.ensures.does found
+
+pub chosen-returns-else-is_true-clause-does : goal.chosen-returns-else-is_true-clause-does
+chosen-returns-else-is_true-clause-does t c = λ run h.
+    let m = c.args.machine.now in
+    let new = c.value_here.new.machine in
+    let p = program_of m.program.now in
+    let f = on.chooses c.args.choice.ty (value_of c.args.choice.a.now) (value_of c.args.choice.b.now) in
+    let v = c.in-Some.v in
+    let same : to_z w64 (of_z w64 v) ≡ v = search (rules, to_z-of_z) in
+    let test : truth v ≡ false = ap truth (sym same) ∙ sym c.is_true.ensures ∙ c.if-is_true.false in
+    let yes : State → Moved = λ s. waits (on.converts c.args.choice.ty) (on.value (value_of c.args.choice.a.now)) s in
+    let no : State → Moved = λ s. waits (on.converts c.args.choice.ty) (on.value (value_of c.args.choice.b.now)) s in
+    let found = after_as run p c.value_here.new.clock.spent (frames_of new) new.scene (λ s. choose (truth v) (yes s) (no s)) no (λ s. picks_false (truth v) (yes s) (no s) test) (c.in-Some.ensures.does run f h) in
+    on_with (λ x. steps_to (step_of x)) c.args.limit (λ p s. waits (on.converts c.args.choice.ty) (on.value (value_of c.args.choice.b.now)) s) run p new c.picked-else-is_true.new.machine c.value_here.new.clock c.picked-else-is_true.new.clock c.picked-else-is_true.result
+    (ap (λ (b : Bor unit.Program). program_of b.now) c.value_here.ensures.program) c.picked-else-is_true.ensures.does found
+
+pub picked-returns-then-not-wait_in-clause-does : goal.picked-returns-then-not-wait_in-clause-does
+picked-returns-then-not-wait_in-clause-does t c = λ run h.
+    no_memory run c.args.limit c.wait_in.new.clock.spent c.wait_in.new.machine.scene c.wait_in.new.clock.why (on_false _ c.wait_in.result c.if-not-wait_in.true c.wait_in.ensures.refused)
+
+pub picked-returns-then-not-is_quick-clause-does : goal.picked-returns-then-not-is_quick-clause-does
+picked-returns-then-not-is_quick-clause-does t c = λ run h.
+    let m = c.args.machine.now in
+    let new = c.wait_in.new.machine in
+    let p = program_of m.program.now in
+    let x = on.value (value_of c.args.e.now) in
+    on_with (λ x. steps_to (step_of x)) c.args.limit (λ p s. steps_to (on.enters x) s) run p new c.descend.new.machine c.wait_in.new.clock c.descend.new.clock c.descend.result
+    (ap (λ (b : Bor unit.Program). program_of b.now) c.wait_in.ensures.program) c.descend.ensures.does
+    (on_stack run p c.args.clock.now.spent c.wait_in.new.clock.spent (frames_of m) (frames_of new) m.scene new.scene (on.converts c.args.ty) x c.wait_in.ensures.spent
+    (on_true _ c.wait_in.result c.if-not-wait_in.false c.wait_in.ensures.stacked) c.wait_in.ensures.scene h)
+
+pub picked-returns-in_default-clause-does : goal.picked-returns-in_default-clause-does
+picked-returns-in_default-clause-does t c = λ run h.
+    let m = c.args.machine.now in
+    found_none on.a_value run (program_of m.program.now) (on.converts c.args.ty) c.args.limit c.value_here.result c.value_here.new.clock c.value_here.new.machine c.in_default.is (c.value_here.ensures.does run (on.converts c.args.ty) h)
+
+pub picked-returns-clause-does : goal.picked-returns-clause-does
+picked-returns-clause-does t c = λ run h.
+    let m = c.args.machine.now in
+    let new = c.value_here.new.machine in
+    let p = program_of m.program.now in
+    let v = c.in-Some.v in
+    let same : to_z w64 (of_z w64 v) ≡ v = search (rules, to_z-of_z) in
+    let whole : to_z w64 (of_z w64 c.converted_or_none.result) ≡ c.converted_or_none.result = search (rules, to_z-of_z) in
+    after_as run p c.value_here.new.clock.spent (frames_of new) new.scene (λ s. goes (on.a_value (meaning.converted_or_none c.args.ty v)) s) (λ s. goes (on.a_value (to_z w64 (of_z w64 c.converted_or_none.result))) s)
+    (λ s. ap (λ w. goes (on.a_value w) s) (ap (λ v. meaning.converted_or_none c.args.ty v) (sym same) ∙ sym c.converted_or_none.ensures ∙ sym whole)) (c.in-Some.ensures.does run (on.converts c.args.ty) h)
+
 pub descend-returns-then-not-tick-clause-does : goal.descend-returns-then-not-tick-clause-does
 descend-returns-then-not-tick-clause-does t c = λ run h.
     let m = c.args.machine.now in
@@ -164,25 +302,25 @@ pub descend-returns-in-BothTrue-clause-does : goal.descend-returns-in-BothTrue-c
 descend-returns-in-BothTrue-clause-does t c = λ run h.
     let m = c.args.machine.now in
     let i = c.in-BothTrue in
-    c.later-in-BothTrue.ensures.does run (ticked_as run (program_of m.program.now) c.args.clock.now.spent c.tick.new.self.spent (frames_of m) m.scene (on.value (value_of c.args.e.now))
-    (on.value (typed.both_true (value_of c.deref-in-BothTrue-2.result.now) (value_of c.deref-in-BothTrue.result.now))) c.tick.result
-    (ap on.value (sees_both c.args.e.now i.a i.b i.is ∙ ap (λ x. typed.both_true (value_of i.a.value) (value_of x)) (sym c.deref-in-BothTrue.ensures) ∙ ap (λ x. typed.both_true (value_of x) (value_of c.deref-in-BothTrue.result.now)) (sym c.deref-in-BothTrue-2.ensures)))
+    c.both_true.ensures.does run (ticked_as run (program_of m.program.now) c.args.clock.now.spent c.tick.new.self.spent (frames_of m) m.scene (on.value (value_of c.args.e.now))
+    (on.value (typed.both_true (value_of c.deref-in-BothTrue.result.now) (value_of c.deref-in-BothTrue-2.result.now))) c.tick.result
+    (ap on.value (sees_both c.args.e.now i.a i.b i.is ∙ ap (λ x. typed.both_true (value_of i.a.value) (value_of x)) (sym c.deref-in-BothTrue-2.ensures) ∙ ap (λ x. typed.both_true (value_of x) (value_of c.deref-in-BothTrue-2.result.now)) (sym c.deref-in-BothTrue.ensures)))
     c.if-not-tick.false c.tick.ensures.taken h)
 
 pub descend-returns-in-OneTrue-clause-does : goal.descend-returns-in-OneTrue-clause-does
 descend-returns-in-OneTrue-clause-does t c = λ run h.
     let m = c.args.machine.now in
     let i = c.in-OneTrue in
-    c.later-in-OneTrue.ensures.does run (ticked_as run (program_of m.program.now) c.args.clock.now.spent c.tick.new.self.spent (frames_of m) m.scene (on.value (value_of c.args.e.now))
-    (on.value (typed.one_true (value_of c.deref-in-OneTrue-2.result.now) (value_of c.deref-in-OneTrue.result.now))) c.tick.result
-    (ap on.value (sees_one c.args.e.now i.a i.b i.is ∙ ap (λ x. typed.one_true (value_of i.a.value) (value_of x)) (sym c.deref-in-OneTrue.ensures) ∙ ap (λ x. typed.one_true (value_of x) (value_of c.deref-in-OneTrue.result.now)) (sym c.deref-in-OneTrue-2.ensures)))
+    c.one_true.ensures.does run (ticked_as run (program_of m.program.now) c.args.clock.now.spent c.tick.new.self.spent (frames_of m) m.scene (on.value (value_of c.args.e.now))
+    (on.value (typed.one_true (value_of c.deref-in-OneTrue.result.now) (value_of c.deref-in-OneTrue-2.result.now))) c.tick.result
+    (ap on.value (sees_one c.args.e.now i.a i.b i.is ∙ ap (λ x. typed.one_true (value_of i.a.value) (value_of x)) (sym c.deref-in-OneTrue-2.ensures) ∙ ap (λ x. typed.one_true (value_of x) (value_of c.deref-in-OneTrue-2.result.now)) (sym c.deref-in-OneTrue.ensures)))
     c.if-not-tick.false c.tick.ensures.taken h)
 
 pub descend-returns-in-Chosen-clause-does : goal.descend-returns-in-Chosen-clause-does
 descend-returns-in-Chosen-clause-does t c = λ run h.
     let m = c.args.machine.now in
     let i = c.in-Chosen in
-    c.later-in-Chosen.ensures.does run (ticked_as run (program_of m.program.now) c.args.clock.now.spent c.tick.new.self.spent (frames_of m) m.scene (on.value (value_of c.args.e.now))
+    c.chosen.ensures.does run (ticked_as run (program_of m.program.now) c.args.clock.now.spent c.tick.new.self.spent (frames_of m) m.scene (on.value (value_of c.args.e.now))
     (on.value (typed.chosen i.ty (value_of c.deref-in-Chosen-3.result.now) (value_of c.deref-in-Chosen.result.now) (value_of c.deref-in-Chosen-2.result.now))) c.tick.result
     (ap on.value (sees_chosen c.args.e.now i.ty i.c i.a i.b i.is ∙ ap (λ x. typed.chosen i.ty (value_of i.c.value) (value_of x) (value_of i.b.value)) (sym c.deref-in-Chosen.ensures) ∙ ap (λ x. typed.chosen i.ty (value_of i.c.value) (value_of c.deref-in-Chosen.result.now) (value_of x)) (sym c.deref-in-Chosen-2.ensures) ∙ ap (λ x. typed.chosen i.ty (value_of x) (value_of c.deref-in-Chosen.result.now) (value_of c.deref-in-Chosen-2.result.now)) (sym c.deref-in-Chosen-3.ensures)))
     c.if-not-tick.false c.tick.ensures.taken h)

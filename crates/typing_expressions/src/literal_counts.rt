@@ -1,16 +1,16 @@
-//! How many string literals there are before a place in an initialiser.
+//! How many string literals there are before an expression.
 
-ghost use Rattle.std.specs.Prelude.{◌≡◌, ◌+◌, ◌≤◌, length, IfOk, OnOk};
+ghost use Rattle.std.specs.Prelude.{◌≡◌, ◌+◌, length, IfOk, OnOk};
 
 use std::alloc::{AllocError, Global};
 use std::marker::Model;
 
 /// How many string literals there are so far.
 #[derive(Drop)]
-pub(crate) struct LiteralCount {
-    // Those before the initialiser.
+pub struct LiteralCount {
+    // Those of the scope.
     before: usize,
-    // A byte for each one in it.
+    // A byte for each further one.
     own: Vec<u8>,
 }
 
@@ -26,7 +26,7 @@ impl Model for LiteralCount {
 
 impl LiteralCount {
     /// Behind these literals.
-    pub(crate) fn behind(alloc: Global, literals: &[usize]) -> LiteralCount
+    pub fn behind(alloc: Global, literals: &[usize]) -> LiteralCount
         ensures { result ≡ length literals.now }
     {
         LiteralCount {
@@ -35,28 +35,13 @@ impl LiteralCount {
         }
     }
 
-    /// The number.
-    pub(crate) fn get(&self) -> usize
-        ensures { result ≡ self.now }
-    {
-        self.before + self.own.len()
-    }
-
     /// One more literal. Gives its number.
-    pub(crate) fn next(&mut self) -> Result<usize, AllocError>
+    pub fn next(&mut self) -> Result<usize, AllocError>
         ensures ok { IfOk result (λ n. n ≡ self.old) }
         ensures count { OnOk result (self.new ≡ self.old + 1) }
     {
-        let number = self.get();
+        let number = self.before + self.own.len();
         self.own.push(0)?;
         Ok(number)
-    }
-
-    /// As many literals as this.
-    pub(crate) fn reach(&mut self, number: usize) -> Result<(), AllocError>
-        requires { self.old ≤ number }
-        ensures { OnOk result (self.new ≡ number) }
-    {
-        self.own.resize(number - self.before, 0)
     }
 }
