@@ -60,10 +60,13 @@ names_are_there p = record {
   );
 }
 
+pub types_sized : (p : typed.Program) → IsReady p → types_are_sized p ≡ true
+types_sized p ready = and_right (bodies_are_asked p) (types_are_sized p) ready.asked
+
 pub function_fits : (p : typed.Program) → IsReady p → (k : ℕ) (f : typed.Function) → slice_get p.functions k ≡ Some f → (is_main : Bool) (g : tac.Function) → IsFunctionWith p is_main f g
     → ((q : tac.Program) × FunctionFits q g) × (length g.code < 2 ^ 32)
 function_fits p ready k f e is_main g made =
-    let sized = and_right (bodies_are_asked p) (types_are_sized p) ready.asked in
+    let sized = types_sized p ready in
     let q = unwritten_program p in
     let both = function_is_sound p q ready.checked sized (names_are_there p) k f g e is_main (function_is_code p q (parameters_are p) is_main f g made) in
     ((q, both.0), both.1)

@@ -2,8 +2,11 @@ use Rattle.typed_ast.specs.View as view
 use Rattle.tac_code.specs.Code as three_address
 use Rattle.frames_code.specs.Code as flat
 use Rattle.frames.specs.layer.Alone.{starts_in}
-use Rattle.cc_backend.proofs.FlatFunctions.{function_fits, function_in}
+use Rattle.cc_backend.proofs.FlatFunctions.{types_sized, function_fits, function_in}
 use Rattle.cc_backend.proofs.flat_code.flat_function.Goals as goal
+
+pub lower_function-requires-clause-sized : goal.lower_function-requires-clause-sized
+lower_function-requires-clause-sized c = types_sized (view.program_of c.args.program.now) c.requires.ready
 
 pub flatten_function-requires-clause-fits : goal.flatten_function-requires-clause-fits
 flatten_function-requires-clause-fits c =
