@@ -22,9 +22,9 @@ put_fill_all-loop-initialiser-preserved t c =
     record {
       few = omega (arith, c.loop-initialiser.invariant.few, c.saturating_sub-left.ensures);
       filled = next_filled (program_in c.args.scope.now) (function_in c.args.scope.now) (initialisers_of (map initialiser_of c.args.all.now)) c.args.count c.args.lengths.now c.args.start
-    initialiser_of initialisers_of (λ i is. refl) c.args.all.now c.loop-initialiser.initialiser-index c.initialiser-item.result c.loop-initialiser-test.true c.initialiser-item.is
-    c.loop-initialiser.left c.saturating_sub-left.result c.elements_counted-row.result c.loop-initialiser.next _ c.loop-initialiser.invariant.filled c.in_ok-put_fills.ensures row
-    c.saturating_sub-left.ensures c.in_ok-next.ensures.0 c.in_ok-next.ensures.1 c.in_ok-next.ensures.2;
+          initialiser_of initialisers_of (λ i is. refl) c.args.all.now c.loop-initialiser.initialiser-index c.initialiser-item.result c.loop-initialiser-test.true c.initialiser-item.is
+          c.loop-initialiser.left c.saturating_sub-left.result c.elements_counted-row.result c.loop-initialiser.next _ c.loop-initialiser.invariant.filled c.in_ok-put_fills.ensures row
+          c.saturating_sub-left.ensures c.in_ok-next.ensures.0 c.in_ok-next.ensures.1 c.in_ok-next.ensures.2;
     }
 
 pub put_fill_all-returns : goal.put_fill_all-returns
