@@ -1,0 +1,5 @@
+pub mod Acting
+pub mod Leading
+pub mod Running
+pub mod Whole
+pub mod InTurn
