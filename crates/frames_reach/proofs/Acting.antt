@@ -1,5 +1,5 @@
 -- An instruction acts the same in two programs whose functions differ in their code alone.
-use Rattle.std.proofs.Common.{◌≡◌, ℕ, zero, suc, ◌+◌, List, [], ◌∷◌, length, Option, Some, None, Bool, refl, sym, ap, ◌∙◌}
+use Rattle.std.proofs.Common.{◌≡◌, ℕ, zero, suc, ◌+◌, List, [], ◌∷◌, length, Option, Some, refl, ap, ◌∙◌}
 use Rattle.std.specs.Prelude.{◌==◌, if◌then◌else◌}
 use Rattle.frames_code.specs.declared.code.Target.{Target}
 use Rattle.frames_code.specs.declared.code.Width.{Width}
@@ -10,7 +10,7 @@ use Rattle.frames_code.specs.declared.code.Location.TheVariants as location
 use Rattle.frames_code.specs.declared.code.Instruction.{Instruction}
 use Rattle.frames_code.specs.declared.code.Instruction.TheVariants as instruction
 use Rattle.frames_code.specs.Code.{Function, Program, area_home, frame_bytes}
-use Rattle.frames_code.specs.Run.{reference, Bytes, Frame, State, Reference, Memory, Progress, running, ended, stuck, word_at, next, place, base_of, indexed, arrays, memory, memory_among, changed_among, with_frames, with_memory, with_element, element_in, fits, gives, gives_word, loaded, stored, function_at, bytes_of, name_of, result_if, result_of, returned, act, ◌>>=◌}
+use Rattle.frames_code.specs.Run.{reference, Bytes, Frame, State, Reference, Memory, running, stuck, word_at, next, place, base_of, indexed, arrays, memory, memory_among, changed_among, with_frames, with_memory, with_element, element_in, fits, gives, gives_word, loaded, stored, function_at, bytes_of, name_of, result_if, result_of, returned, act, ◌>>=◌}
 use Rattle.frames_opt.proofs.Acts.{bind_same, binds_same}
 use Rattle.frames_opt.proofs.Alike.{Sized}
 

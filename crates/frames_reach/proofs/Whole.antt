@@ -1,6 +1,6 @@
 -- A program without unreachable code is simplified.
-use Rattle.std.proofs.Common.{◌≡◌, ◌≤◌, ℕ, zero, suc, ◌+◌, List, [], ◌∷◌, length, map, Option, Some, None, Bool, true, false, refl, sym, ap, ◌∙◌, subst, arith}
-use Rattle.std.specs.Prelude.{slice_get, sum_by, if◌then◌else◌, ◌&&◌}
+use Rattle.std.proofs.Common.{◌≡◌, ◌≤◌, ℕ, zero, suc, ◌+◌, List, [], ◌∷◌, length, map, Some, None, Bool, true, false, refl, sym, ap, ◌∙◌, subst, arith}
+use Rattle.std.specs.Prelude.{slice_get, sum_by, if◌then◌else◌}
 use Rattle.std.proofs.lemmas.List.Sums.{sum_by-cons}
 use Rattle.frames_code.specs.declared.code.Instruction.{Instruction}
 use Rattle.frames_code.specs.declared.code.Instruction.TheVariants as instruction
@@ -11,7 +11,7 @@ use Rattle.frames.specs.Costs.{code_bytes}
 use Rattle.frames_opt.specs.Simplified.{IsSimplified}
 use Rattle.frames_opt.specs.layer.Functions.{with_code}
 use Rattle.frames_opt.proofs.Alike.{left_true, right_true}
-use Rattle.frames_reach.specs.layer.Functions.{is_marked, leads, is_right, are_right, kept, all_kept, IsReachedCode, IsReachedFunction, AreReached}
+use Rattle.frames_reach.specs.layer.Functions.{is_marked, leads, is_right, are_right, kept, all_kept, IsReachedFunction, AreReached}
 use Rattle.frames_reach.proofs.Running.{IsReached, runs, costs, at_calls}
 
 -- ---- code
@@ -135,8 +135,12 @@ pub record IsPair (marks : List Bool) (f g : Function) : Type 0 where
 pair_of : (f g : Function) (c : IsReachedFunction f g) → IsPair c.code.marks f g
 pair_of f g c = record {
   is = c.is;
-  same = λ i marked. ap (λ xs. slice_get xs i) c.code.is ∙ same_at c.code.marks 0 f.code i marked;
-  right = λ i x marked e. leads_where c.code.marks i x (right_at c.code.marks 0 f.code c.code.right i x e) marked;
+  same = λ i marked.
+      let here : i ≡ 0 + i = omega arith in
+      ap (λ xs. slice_get xs i) c.code.is ∙ same_at c.code.marks 0 f.code i (subst (λ j. is_marked c.code.marks j ≡ true) here marked);
+  right = λ i x marked e.
+      let here : 0 + i ≡ i = omega arith in
+      leads_where c.code.marks i x (subst (λ j. is_right c.code.marks j x ≡ true) here (right_at c.code.marks 0 f.code c.code.right i x e)) marked;
 }
 
 no_pair : (f : Function) → f.code ≡ [] → IsPair [] f f
