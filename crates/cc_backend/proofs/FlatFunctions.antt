@@ -23,6 +23,9 @@ use Rattle.frames.specs.layer.Alone.{with_data}
 use Rattle.frames_opt.specs.Simplified.{IsSimplified}
 use Rattle.frames_opt.specs.layer.Functions.{IsSimplerFunction, AreSimpler}
 use Rattle.frames_opt.proofs.Whole.{is_simplified}
+use Rattle.frames_reach.specs.layer.Functions.{IsReachedFunction, AreReached}
+use Rattle.frames_reach.proofs.InTurn.{simplified_in_turn}
+use Rattle.frames_reach.proofs.Whole.{is_simplified as without_unreachable}
 use Rattle.frames_hoist.specs.Optimised.{IsOptimised}
 use Rattle.frames_hoist.specs.layer.Functions.{IsHoistedFunction, AreHoisted}
 use Rattle.frames_hoist.proofs.InTurn.{optimised_in_turn}
@@ -71,11 +74,11 @@ function_fits p ready k f e is_main g made =
     let both = function_is_sound p q ready.checked sized (names_are_there p) k f g e is_main (function_is_code p q (parameters_are p) is_main f g made) in
     ((q, both.0), both.1)
 
-pub function_in : {E : Type 0} (p : typed.Program) (s : Starts) (is_main : Bool) (f : typed.Function) (t : tac.Function) (a b c d : flat.Function) → IsFunctionWith p is_main f t → a ≡ flat_function s t
-    → IsSimplerFunction a b → IsHoistedFunction b c → IsLeafAllocated c d → (r : Result Held E) → IfOk r (λ h. IsRenumberedFunction d (flat.function_of h)) → IfOk r (λ h. IsFlatFunctionOf p s is_main f (flat.function_of h))
-function_in p s is_main f t a b c d lowered flattened simplified hoisted allocated (Ok h) renumbered =
-    record { code = t; lowered = lowered; simpler = b; simplified = subst (λ x. IsSimplerFunction x b) flattened simplified; better = c; hoisted = hoisted; last = d; allocated = allocated; renumbered = renumbered }
-function_in p s is_main f t a b c d lowered flattened simplified hoisted allocated (Err e) renumbered = tt
+pub function_in : {E : Type 0} (p : typed.Program) (s : Starts) (is_main : Bool) (f : typed.Function) (t : tac.Function) (a b u c d : flat.Function) → IsFunctionWith p is_main f t → a ≡ flat_function s t
+    → IsSimplerFunction a b → IsReachedFunction b u → IsHoistedFunction u c → IsLeafAllocated c d → (r : Result Held E) → IfOk r (λ h. IsRenumberedFunction d (flat.function_of h)) → IfOk r (λ h. IsFlatFunctionOf p s is_main f (flat.function_of h))
+function_in p s is_main f t a b u c d lowered flattened simplified reached hoisted allocated (Ok h) renumbered =
+    record { code = t; lowered = lowered; simpler = b; simplified = subst (λ x. IsSimplerFunction x b) flattened simplified; shorter = u; reached = reached; better = c; hoisted = hoisted; last = d; allocated = allocated; renumbered = renumbered }
+function_in p s is_main f t a b u c d lowered flattened simplified reached hoisted allocated (Err e) renumbered = tt
 
 -- ---- all functions
 
@@ -98,8 +101,10 @@ record Steps (p : typed.Program) (s : Starts) (is_main : ℕ → Bool) (fs : Lis
   pub each : (n : ℕ) (f : typed.Function) (g : tac.Function) → slice_get fs n ≡ Some f → slice_get codes n ≡ Some g → IsFunctionWith p (is_main n) f g
   pub simpler : List flat.Function
   pub simplified : AreSimpler (map (flat_function s) codes) simpler
+  pub shorter : List flat.Function
+  pub reached : AreReached simpler shorter
   pub better : List flat.Function
-  pub hoisted : AreHoisted simpler better
+  pub hoisted : AreHoisted shorter better
   pub last : List flat.Function
   pub allocated : AreLeafAllocated better last
   pub renumbered : AreRenumbered last hs
@@ -112,7 +117,7 @@ each_cons P f0 g0 fs gs first more (suc n) f g e h = more n f g e h
 
 steps : (p : typed.Program) (s : Starts) (is_main : ℕ → Bool) (fs : List typed.Function) (hs : List flat.Function) → length hs ≡ length fs
     → ((n : ℕ) (f : typed.Function) (h : flat.Function) → slice_get fs n ≡ Some f → slice_get hs n ≡ Some h → IsFlatFunctionOf p s (is_main n) f h) → Steps p s is_main fs hs
-steps p s is_main [] [] count each = record { codes = []; count = refl; each = λ n f g e h. absurd (let z : ⊥ = cc in z); simpler = []; simplified = tt; better = []; hoisted = tt; last = []; allocated = tt; renumbered = tt }
+steps p s is_main [] [] count each = record { codes = []; count = refl; each = λ n f g e h. absurd (let z : ⊥ = cc in z); simpler = []; simplified = tt; shorter = []; reached = tt; better = []; hoisted = tt; last = []; allocated = tt; renumbered = tt }
 steps p s is_main [] (h ∷ hs) count each = absurd (omega (arith, count))
 steps p s is_main (f ∷ fs) [] count each = absurd (omega (arith, count))
 steps p s is_main (f ∷ fs) (h ∷ hs) count each =
@@ -124,6 +129,8 @@ steps p s is_main (f ∷ fs) (h ∷ hs) count each =
       each = each_cons (λ n a b. IsFunctionWith p (is_main n) a b) f x.code fs more.codes x.lowered more.each;
       simpler = x.simpler ∷ more.simpler;
       simplified = (x.simplified, more.simplified);
+      shorter = x.shorter ∷ more.shorter;
+      reached = (x.reached, more.reached);
       better = x.better ∷ more.better;
       hoisted = (x.hoisted, more.hoisted);
       last = x.last ∷ more.last;
@@ -143,8 +150,10 @@ program_in p f s ready begin all statics main =
     let lowered : IsLowered p q = code_is_lowered p q ready.checked ready.asked (functions_are_code p q refl refl refl x.count x.each) in
     let simpler : AreSimpler (map (flat_function (starts_of q)) x.codes) x.simpler = subst (λ t. AreSimpler (map (flat_function t) x.codes) x.simpler) begin x.simplified in
     let simplified : IsSimplified (flat_program q) g = is_simplified (flat_program q) g simpler refl refl in
+    let shorter : flat.Program = record { functions = x.shorter; statics = data_of q; main = p.main } in
+    let reached : IsSimplified (flat_program q) shorter = simplified_in_turn (flat_program q) g shorter simplified (without_unreachable g shorter x.reached refl refl) in
     let last : flat.Program = record { functions = x.last; statics = data_of q; main = p.main } in
-    let hoisted : IsOptimised (flat_program q) h = optimised_in_turn (flat_program q) g h simplified (is_optimised g h x.hoisted refl refl) in
+    let hoisted : IsOptimised (flat_program q) h = optimised_in_turn (flat_program q) shorter h reached (is_optimised shorter h x.hoisted refl refl) in
     let optimised : IsOptimised (flat_program q) last = allocated_in_turn (flat_program q) h last hoisted (is_allocated h last x.allocated refl refl) in
     let renumbered : IsRenumbered last f = record { functions = x.renumbered; statics = statics; main = main } in
     code_of p q last f lowered optimised renumbered

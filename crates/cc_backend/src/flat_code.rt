@@ -13,6 +13,7 @@ use frames_code::FlatProgram;
 use frames_hoist::hoist_function;
 use frames_leaf::allocate_leaf;
 use frames_opt::simplify_function;
+use frames_reach::remove_unreachable;
 use frames_regalloc::renumber_function;
 use srcset::Fault;
 use std::alloc::{AllocError, Global};
@@ -43,7 +44,8 @@ fn flat_function(
     let long = flatten_function(alloc, starts, &code)?;
     drop(code);
     let simple = simplify_function(alloc, long)?;
-    let hoisted = hoist_function(alloc, simple)?;
+    let reached = remove_unreachable(alloc, simple)?;
+    let hoisted = hoist_function(alloc, reached)?;
     let allocated = allocate_leaf(alloc, hoisted)?;
     renumber_function(alloc, &allocated)
 }

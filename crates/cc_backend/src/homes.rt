@@ -8,6 +8,7 @@ use frames::{Home, Starts, flatten_function, object_homes};
 use frames_hoist::hoist_function;
 use frames_leaf::{allocate_leaf, leaf_words};
 use frames_opt::simplify_function;
+use frames_reach::remove_unreachable;
 use frames_regalloc::word_numbers;
 use std::alloc::{AllocError, Global};
 use tac::lower_function;
@@ -135,7 +136,8 @@ fn homes_of(
     let long = flatten_function(alloc, starts, &code)?;
     drop(code);
     let simple = simplify_function(alloc, long)?;
-    let hoisted = hoist_function(alloc, simple)?;
+    let reached = remove_unreachable(alloc, simple)?;
+    let hoisted = hoist_function(alloc, reached)?;
     let temporaries = leaf_words(alloc, &hoisted)?;
     let allocated = allocate_leaf(alloc, hoisted)?;
     let words = Words {

@@ -9,6 +9,7 @@ use frames_code::FlatProgram;
 use frames_hoist::hoist_function;
 use frames_leaf::allocate_leaf;
 use frames_opt::simplify_function;
+use frames_reach::remove_unreachable;
 use frames_regalloc::renumber_function;
 use std::alloc::{AllocError, Global};
 use tac::lower_function;
@@ -21,6 +22,8 @@ pub enum Pass {
     Flatten,
     /// Constants are propagated, and dead stores removed.
     Simplify,
+    /// Instructions that no run comes to are gone.
+    RemoveUnreachable,
     /// Constants that loops use are in words of the frame.
     Hoist,
     /// Words of functions that call nothing are in those of a1 to a7 that are free.
@@ -51,7 +54,11 @@ fn function_after(
     if pass == Pass::Simplify {
         return Ok(simple);
     }
-    let hoisted = hoist_function(alloc, simple)?;
+    let reached = remove_unreachable(alloc, simple)?;
+    if pass == Pass::RemoveUnreachable {
+        return Ok(reached);
+    }
+    let hoisted = hoist_function(alloc, reached)?;
     if pass == Pass::Hoist {
         return Ok(hoisted);
     }

@@ -7,6 +7,7 @@ use Rattle.frames_code.specs.Code as flat
 use Rattle.frames.specs.Layout.{Starts}
 use Rattle.frames.specs.Translated.{flat_function}
 use Rattle.frames_opt.specs.layer.Functions.{IsSimplerFunction}
+use Rattle.frames_reach.specs.layer.Functions.{IsReachedFunction}
 use Rattle.frames_hoist.specs.layer.Functions.{IsHoistedFunction}
 use Rattle.frames_leaf.specs.layer.Functions.{IsLeafAllocated}
 use Rattle.frames_regalloc.specs.Renumbered.{IsRenumberedFunction}
@@ -17,8 +18,10 @@ pub record IsFlatFunctionOf (p : typed.Program) (s : Starts) (is_main : Bool) (f
   pub lowered : IsFunctionWith p is_main f code
   pub simpler : flat.Function
   pub simplified : IsSimplerFunction (flat_function s code) simpler
+  pub shorter : flat.Function
+  pub reached : IsReachedFunction simpler shorter
   pub better : flat.Function
-  pub hoisted : IsHoistedFunction simpler better
+  pub hoisted : IsHoistedFunction shorter better
   pub last : flat.Function
   pub allocated : IsLeafAllocated better last
   pub renumbered : IsRenumberedFunction last h

@@ -18,5 +18,5 @@ flatten_function-requires-clause-code c =
 
 pub returns : goal.returns
 returns c =
-    function_in (view.program_of c.args.program.now) (starts_in c.args.starts.now) c.args.is_main (view.function_of c.args.function.now) (three_address.function_of c.in_ok-code.code) (flat.function_of c.in_ok-long.long) (flat.function_of c.in_ok-simple.simple) (flat.function_of c.in_ok-hoisted.hoisted) (flat.function_of c.in_ok-allocated.allocated)
-    c.in_ok-code.ensures c.in_ok-long.ensures c.in_ok-simple.ensures c.in_ok-hoisted.ensures c.in_ok-allocated.ensures c.renumber_function.result c.renumber_function.ensures
+    function_in (view.program_of c.args.program.now) (starts_in c.args.starts.now) c.args.is_main (view.function_of c.args.function.now) (three_address.function_of c.in_ok-code.code) (flat.function_of c.in_ok-long.long) (flat.function_of c.in_ok-simple.simple) (flat.function_of c.in_ok-reached.reached) (flat.function_of c.in_ok-hoisted.hoisted) (flat.function_of c.in_ok-allocated.allocated)
+    c.in_ok-code.ensures c.in_ok-long.ensures c.in_ok-simple.ensures c.in_ok-reached.ensures c.in_ok-hoisted.ensures c.in_ok-allocated.ensures c.renumber_function.result c.renumber_function.ensures
