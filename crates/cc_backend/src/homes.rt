@@ -6,6 +6,7 @@ ghost use Rattle.cc_backend.specs.Made.{IsReady};
 
 use frames::{Home, Starts, flatten_function, object_homes};
 use frames_hoist::hoist_function;
+use frames_layout::{known_bytes, lay_out};
 use frames_leaf::{allocate_leaf, leaf_words};
 use frames_opt::simplify_function;
 use frames_reach::remove_unreachable;
@@ -135,9 +136,11 @@ fn homes_of(
     let homes = object_homes(alloc, &code)?;
     let long = flatten_function(alloc, starts, &code)?;
     drop(code);
+    let most = known_bytes(&long.code);
     let simple = simplify_function(alloc, long)?;
     let reached = remove_unreachable(alloc, simple)?;
-    let hoisted = hoist_function(alloc, reached)?;
+    let laid = lay_out(alloc, most, reached)?;
+    let hoisted = hoist_function(alloc, laid)?;
     let temporaries = leaf_words(alloc, &hoisted)?;
     let allocated = allocate_leaf(alloc, hoisted)?;
     let words = Words {

@@ -7,6 +7,7 @@ ghost use Rattle.cc_backend.specs.Made.{IsReady};
 use frames::{Starts, data_alone, flatten_function};
 use frames_code::FlatProgram;
 use frames_hoist::hoist_function;
+use frames_layout::{known_bytes, lay_out};
 use frames_leaf::allocate_leaf;
 use frames_opt::simplify_function;
 use frames_reach::remove_unreachable;
@@ -24,6 +25,8 @@ pub enum Pass {
     Simplify,
     /// Instructions that no run comes to are gone.
     RemoveUnreachable,
+    /// Jumps are threaded, and what does nothing is left out.
+    LayOut,
     /// Constants that loops use are in words of the frame.
     Hoist,
     /// Words of functions that call nothing are in those of a1 to a7 that are free.
@@ -50,6 +53,7 @@ fn function_after(
     if pass == Pass::Flatten {
         return Ok(long);
     }
+    let most = known_bytes(&long.code);
     let simple = simplify_function(alloc, long)?;
     if pass == Pass::Simplify {
         return Ok(simple);
@@ -58,7 +62,11 @@ fn function_after(
     if pass == Pass::RemoveUnreachable {
         return Ok(reached);
     }
-    let hoisted = hoist_function(alloc, reached)?;
+    let laid = lay_out(alloc, most, reached)?;
+    if pass == Pass::LayOut {
+        return Ok(laid);
+    }
+    let hoisted = hoist_function(alloc, laid)?;
     if pass == Pass::Hoist {
         return Ok(hoisted);
     }

@@ -15,6 +15,7 @@ fn name_of(pass: Pass) -> &'static str {
         Pass::Flatten => "flattening",
         Pass::Simplify => "constant-propagation-and-dead-stores",
         Pass::RemoveUnreachable => "unreachable-code-elimination",
+        Pass::LayOut => "jump-threading",
         Pass::Hoist => "constant-hoisting",
         Pass::AllocateLeaf => "register-allocation-of-leaf-functions",
         Pass::Renumber => "register-allocation",
@@ -39,10 +40,11 @@ pub fn passes_of(
 ) -> Result<String, AllocError>
     requires { IsReady (program_of program.now) }
 {
-    let mut passed = Vec::with_capacity(alloc, 6)?;
+    let mut passed = Vec::with_capacity(alloc, 7)?;
     passed.push(after(alloc, program, Pass::Flatten)?)?;
     passed.push(after(alloc, program, Pass::Simplify)?)?;
     passed.push(after(alloc, program, Pass::RemoveUnreachable)?)?;
+    passed.push(after(alloc, program, Pass::LayOut)?)?;
     passed.push(after(alloc, program, Pass::Hoist)?)?;
     passed.push(after(alloc, program, Pass::AllocateLeaf)?)?;
     passed.push(after(alloc, program, Pass::Renumber)?)?;

@@ -90,6 +90,16 @@ fn is_right(code: &[Instruction], plan: &[Stand]) -> bool
     plan.len() <= code.len() && begins(plan) && all_fit(code, plan)
 }
 
+/// The most bytes of code, or none where the sum is too large a number.
+pub fn known_bytes(code: &[Instruction]) -> u64
+    ensures { result ≤ sum_by code_bytes code.now }
+{
+    match size_of(code) {
+        None => 0,
+        Some(bytes) => bytes,
+    }
+}
+
 /// Whether code is known to have at most so many bytes.
 fn is_within(code: &[Instruction], most: u64) -> bool
     ensures { OnTrue result (sum_by code_bytes code.now ≤ most) }

@@ -8,5 +8,5 @@ mod plan;
 mod planning;
 mod walks;
 
-pub use functions::lay_out;
+pub use functions::{known_bytes, lay_out};
 pub use laws::functions_are_laid_out;
