@@ -25,7 +25,7 @@ use Rattle.frames_opt.specs.layer.Functions.{IsSimplerFunction, AreSimpler}
 use Rattle.frames_opt.proofs.Whole.{is_simplified}
 use Rattle.frames_reach.specs.layer.Functions.{IsReachedFunction, AreReached}
 use Rattle.frames_reach.proofs.InTurn.{simplified_in_turn}
-use Rattle.frames_reach.proofs.Whole.{is_simplified as without_unreachable}
+use Rattle.frames_reach.proofs.Whole.{reached_is_simplified}
 use Rattle.frames_hoist.specs.Optimised.{IsOptimised}
 use Rattle.frames_hoist.specs.layer.Functions.{IsHoistedFunction, AreHoisted}
 use Rattle.frames_hoist.proofs.InTurn.{optimised_in_turn}
@@ -151,7 +151,7 @@ program_in p f s ready begin all statics main =
     let simpler : AreSimpler (map (flat_function (starts_of q)) x.codes) x.simpler = subst (λ t. AreSimpler (map (flat_function t) x.codes) x.simpler) begin x.simplified in
     let simplified : IsSimplified (flat_program q) g = is_simplified (flat_program q) g simpler refl refl in
     let shorter : flat.Program = record { functions = x.shorter; statics = data_of q; main = p.main } in
-    let reached : IsSimplified (flat_program q) shorter = simplified_in_turn (flat_program q) g shorter simplified (without_unreachable g shorter x.reached refl refl) in
+    let reached : IsSimplified (flat_program q) shorter = simplified_in_turn (flat_program q) g shorter simplified (reached_is_simplified g shorter x.reached refl refl) in
     let last : flat.Program = record { functions = x.last; statics = data_of q; main = p.main } in
     let hoisted : IsOptimised (flat_program q) h = optimised_in_turn (flat_program q) shorter h reached (is_optimised shorter h x.hoisted refl refl) in
     let optimised : IsOptimised (flat_program q) last = allocated_in_turn (flat_program q) h last hoisted (is_allocated h last x.allocated refl refl) in
