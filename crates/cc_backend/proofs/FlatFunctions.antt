@@ -1,5 +1,5 @@
 -- Functions that are made flat one by one are flat code of the program.
-use Rattle.std.proofs.Common.{◌≡◌, ◌≤◌, ◌<◌, ℕ, zero, suc, ◌+◌, ◌^◌, Bool, List, [], ◌∷◌, ◌++◌, length, map, Option, Some, None, refl, sym, ap, ◌∙◌, subst, length-append, arith}
+use Rattle.std.proofs.Common.{◌≡◌, ◌≤◌, ◌<◌, ℕ, zero, suc, ◌+◌, ◌^◌, Bool, true, List, [], ◌∷◌, ◌++◌, length, map, Option, Some, None, refl, sym, ap, ◌∙◌, subst, length-append, arith}
 use Rattle.std.specs.Prelude.{slice_get, nat_eq, option_map, max, sum_by, Result, Ok, Err, IfOk}
 use Rattle.std.proofs.lemmas.Option.{slice_get-map, slice_get_within}
 use Rattle.std.proofs.lemmas.List.{length-map}
@@ -27,7 +27,7 @@ use Rattle.frames_opt.specs.layer.Functions.{IsSimplerFunction, AreSimpler}
 use Rattle.frames_opt.proofs.Whole.{is_simplified}
 use Rattle.frames_reach.specs.layer.Functions.{IsReachedFunction, AreReached}
 use Rattle.frames_reach.proofs.InTurn.{simplified_in_turn}
-use Rattle.frames_reach.proofs.Whole.{is_simplified as without_unreachable}
+use Rattle.frames_reach.proofs.Whole.{reached_is_simplified}
 use Rattle.frames_layout.specs.layer.Functions.{IsLaidOutFunction, AreLaidOut}
 use Rattle.frames_layout.specs.LaidOut.{IsLaidOut}
 use Rattle.frames_layout.proofs.Whole.{laid_out}
@@ -101,7 +101,7 @@ one_more_function p s n old f h there x last =
     }
 
 -- the code of each third function has no more bytes than that of the first, or of the second
-IsWithin : List flat.Function → List flat.Function → List flat.Function → Type 0
+abbrev IsWithin : List flat.Function → List flat.Function → List flat.Function → Type 0
 IsWithin xs ys zs =
     (k : ℕ) (a b c : flat.Function) → slice_get xs k ≡ Some a → slice_get ys k ≡ Some b → slice_get zs k ≡ Some c → sum_by code_bytes c.code ≤ max (sum_by code_bytes a.code) (sum_by code_bytes b.code)
 
@@ -197,7 +197,7 @@ program_in p f s ready begin all statics main =
     let simpler : AreSimpler (map (flat_function (starts_of q)) x.codes) x.simpler = subst (λ t. AreSimpler (map (flat_function t) x.codes) x.simpler) begin x.simplified in
     let simplified : IsSimplified (flat_program q) g = is_simplified (flat_program q) g simpler refl refl in
     let shorter : flat.Program = record { functions = x.shorter; statics = data_of q; main = p.main } in
-    let reached : IsSimplified (flat_program q) shorter = simplified_in_turn (flat_program q) g shorter simplified (without_unreachable g shorter x.reached refl refl) in
+    let reached : IsSimplified (flat_program q) shorter = simplified_in_turn (flat_program q) g shorter simplified (reached_is_simplified g shorter x.reached refl refl) in
     let last : flat.Program = record { functions = x.last; statics = data_of q; main = p.main } in
     let anew : flat.Program = record { functions = x.laid; statics = data_of q; main = p.main } in
     let within : IsWithin (map (flat_function (starts_of q)) x.codes) x.shorter x.laid = subst (λ t. IsWithin (map (flat_function t) x.codes) x.shorter x.laid) begin x.within in

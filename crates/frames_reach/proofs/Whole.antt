@@ -227,8 +227,8 @@ stays_sound p q each statics main sound =
       countable = omega (arith, count, places, sound.countable);
     }
 
-pub is_simplified : (p q : Program) → AreReached p.functions q.functions → q.statics ≡ p.statics → q.main ≡ p.main → IsSimplified p q
-is_simplified p q each statics main =
+pub reached_is_simplified : (p q : Program) → AreReached p.functions q.functions → q.statics ≡ p.statics → q.main ≡ p.main → IsSimplified p q
+reached_is_simplified p q each statics main =
     let marks = marks_of p.functions q.functions each in
     let r = reached p q each statics main in
     record {

@@ -221,13 +221,13 @@ def places(work):
 
 
 def after_each_pass(work, flat):
-    """Five passes; the code after the last one is flat code, and each has the functions in order. A constant that the second pass propagates and a store
+    """Six passes; the code after the last one is flat code, and each has the functions in order. A constant that the second pass propagates and a store
     that it drops are gone behind it, and the last one alone has words in registers."""
     put(work, 's.c', SMALL)
     status, out, err = cc(work, 'show', 'passes', 's.c')
     check('passes', (status, err) == (0, '') and out.startswith('passes\n'), err)
     parts = [part.split('\n', 1) for part in out.split('\n  after ')[1:]]
-    check('passes: names', [name for name, _ in parts] == ['flattening', 'constant-propagation-and-dead-stores', 'constant-hoisting', 'register-allocation-of-leaf-functions', 'register-allocation'], [name for name, _ in parts])
+    check('passes: names', [name for name, _ in parts] == ['flattening', 'constant-propagation-and-dead-stores', 'unreachable-code-elimination', 'constant-hoisting', 'register-allocation-of-leaf-functions', 'register-allocation'], [name for name, _ in parts])
     codes = [textwrap.dedent(code).strip('\n') for _, code in parts]
     check('passes: the last is flat code', codes[-1] == flat.strip('\n'), first_difference(codes[-1], flat))
     put(work, 'c.c', 'int main(void) { int a[2]; a[1] = 4; return a[1] * 8; }\n')
