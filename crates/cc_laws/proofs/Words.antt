@@ -31,6 +31,7 @@ use Rattle.frames_code.specs.Run as flat
 use Rattle.frames_code.proofs.Results.{result_there}
 use Rattle.frames.specs.Flattened.{before, behind, IsAtCall, HasItsWords, HasItsResult}
 use Rattle.frames_correct.proofs.Runs.{run_both}
+use Rattle.frames_layout.specs.LaidOut.{pace}
 use Rattle.select_correct.specs.Convention.{passed, AtEntry, AtReturn, KeepsConvention, IsInCallee, ComesToCall}
 use Rattle.cc_backend.specs.Runs.{IsInput}
 use Rattle.cc_backend.specs.Made.{IsFileOf}
@@ -166,15 +167,18 @@ module _ (stack : ℕ) (p : Program) (file frames : List ℕ) (made : IsFileOf s
   point_in : (history : List Entry) (s : flat.State) → IsAsMeant q made.code input history s → Point s
   point_in history s m = (m.step, m.state, m.is, m.calls, m.at_call)
 
-  point_at : (k : ℕ) (s : flat.State) → behind made.code input k ≡ flat.running s → (e : Ending) → IsDefined e → cstep k p input ≡ Stops e (last_of (cstep k p input)) → Point s
-  point_at k s e (Ended status) ok stops =
-      point_in (last_of (cstep k p input)).history s ((steps_are_as_meant p made.code input made.code_is bytes).1 k status (last_of (cstep k p input)) stops k s e)
-  point_at k s e (Undefined act at) ok stops = absurd ok
-  point_at k s e TicksUsed ok stops =
-      point_in (last_of (cstep k p input)).history s ((steps_are_as_meant p made.code input made.code_is bytes).0 k (last_of (cstep k p input)) stops k s (omega arith) e)
+  -- where the abstract machine has used n ticks, which are enough for k steps
+  point_at : (n k : ℕ) (s : flat.State) → pace * k + 1 ≤ n → behind made.code input k ≡ flat.running s → (e : Ending) → IsDefined e → cstep n p input ≡ Stops e (last_of (cstep n p input)) → Point s
+  point_at n k s le e (Ended status) ok stops =
+      point_in (last_of (cstep n p input)).history s ((steps_are_as_meant p made.code input made.code_is bytes).1 n status (last_of (cstep n p input)) stops k s e)
+  point_at n k s le e (Undefined act at) ok stops = absurd ok
+  point_at n k s le e TicksUsed ok stops =
+      point_in (last_of (cstep n p input)).history s ((steps_are_as_meant p made.code input made.code_is bytes).0 n (last_of (cstep n p input)) stops k s le e)
 
   point : (k : ℕ) (s : flat.State) → behind made.code input k ≡ flat.running s → Point s
-  point k s e = point_at k s e (ending_of (cstep k p input)) (defined k) (run_stops k p input)
+  point k s e =
+      let n : ℕ = pace * k + 1 in
+      point_at n k s (omega arith) e (ending_of (cstep n p input)) (defined n) (run_stops n p input)
 
   -- of a call: what the history has, and what the flat code's temporaries have
   pub record CallsWith (f : ℕ) (g : Function) (s : flat.State) : Type 0 where
