@@ -9,7 +9,7 @@ ghost use Rattle.frames_layout.specs.layer.Functions.{IsLaidOutCode, IsLaidOutFu
 
 use crate::checking::{all_fit, begins};
 use crate::plan::Stand;
-use crate::planning::plan_of;
+use crate::planning::{places_in, plan_of};
 use frames_code::{Function, Instruction};
 use frames_opt::size_of;
 use std::alloc::{AllocError, Global};
@@ -143,4 +143,31 @@ pub fn lay_out(alloc: Global, most: u64, function: Function) -> Result<Function,
         outgoing: function.outgoing,
         gives: function.gives,
     })
+}
+
+fn same_places(alloc: Global, count: usize) -> Result<Vec<usize>, AllocError> {
+    let mut places = Vec::with_capacity(alloc, count)?;
+    for number in 0..count {
+        places.push(number)?;
+    }
+    places.push(count)?;
+    Ok(places)
+}
+
+/// For debuggers, the number of each instruction of `code`, and of its end, in the code that `lay_out` gives; of one that is gone, that of the
+/// next that stays. That it is so is only tested.
+///
+/// Errors: memory ran out.
+pub fn new_places(
+    alloc: Global,
+    most: u64,
+    code: &[Instruction],
+) -> Result<Vec<usize>, AllocError> {
+    let plan = plan_of(alloc, code)?;
+    let list = all_made(alloc, code, &plan)?;
+    if is_right(code, &plan) && is_within(&list, most) {
+        places_in(alloc, &plan, code.len())
+    } else {
+        same_places(alloc, code.len())
+    }
 }

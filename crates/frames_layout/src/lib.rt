@@ -8,5 +8,5 @@ mod plan;
 mod planning;
 mod walks;
 
-pub use functions::{known_bytes, lay_out};
+pub use functions::{known_bytes, lay_out, new_places};
 pub use laws::functions_are_laid_out;

@@ -14,7 +14,7 @@ const FAR: usize = 48;
 const NOWHERE: usize = usize::MAX;
 
 /// How many instructions that do nothing stay at a function's beginning, where constants are hoisted to.
-const FREE: usize = 8;
+const FREE: usize = 32;
 
 /// Where code comes to from a place, over instructions that only lead on.
 fn end_of(code: &[Instruction], from: usize) -> usize {
@@ -198,4 +198,25 @@ pub fn plan_of(alloc: Global, code: &[Instruction]) -> Result<Vec<Stand>, AllocE
     } = plan;
     resolve(&mut stands, &numbers, code);
     Ok(stands)
+}
+
+/// For each place of the old code, and its end, the number in the new code; of what the new code does not have, that of what comes next.
+pub fn places_in(alloc: Global, plan: &[Stand], count: usize) -> Result<Vec<usize>, AllocError> {
+    let mut places = Vec::new(alloc);
+    places.resize(count.saturating_add(1), NOWHERE)?;
+    for number in 0..plan.len() {
+        let stand = plan[number];
+        if !stand.is_owed && stand.old < places.len() {
+            places[stand.old] = number;
+        }
+    }
+    let mut next = plan.len();
+    for place in places.iter_mut().rev() {
+        if *place == NOWHERE {
+            *place = next;
+        } else {
+            next = *place;
+        }
+    }
+    Ok(places)
 }
