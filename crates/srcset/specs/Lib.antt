@@ -5,3 +5,4 @@ pub mod Codes
 pub mod Headers
 pub mod Refusal
 pub mod Writing
+pub mod inside

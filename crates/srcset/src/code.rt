@@ -1,7 +1,8 @@
 //! The faults by their codes: the number and the text of each, which appear only here.
 ghost use Rattle.std.specs.Prelude.{◌≡◌};
 ghost use Rattle.srcset.specs.declared.code.Code.{Code};
-ghost use Rattle.srcset.specs.Codes.{number_of, text_of, code_with, group_code, message_of, file_code, macro_code, token_code, syntax_code, constraint_code, profile_code, limit_code, system_code, image_code};
+ghost use Rattle.srcset.specs.Codes.{number_of, text_of, code_with, message_of};
+ghost use Rattle.srcset.specs.inside.CodeGroups.{code_in_group};
 
 /// The kind of error, one variant per fault. A number's first digit gives the kind of rule.
 #[derive(Clone, Copy, Debug, PartialEq, Eq)]
@@ -460,7 +461,7 @@ impl Code {
     }
 
     /// The code with this number, or `None` where there is none.
-    #[tactic(auto, unfolding(crate::specs::Codes::code_with))]
+    #[tactic(auto, using(crate::proofs::CodeLemmas::code_with_is_in_its_group))]
     pub fn with_number(number: u16) -> Option<Code>
         ensures { result ≡ code_with number }
     {
@@ -480,9 +481,9 @@ impl Code {
 }
 
 // Files, and phases 1 to 3 of translation (ISO/IEC 9899:2011 5.1.1.2).
-#[tactic(auto, unfolding(crate::specs::Codes::file_code))]
+#[tactic(auto, unfolding(crate::specs::Codes::all_codes, crate::specs::inside::CodeGroups::code_in_group))]
 fn file_code(number: u16) -> Option<Code>
-    ensures { result ≡ file_code number }
+    ensures { result ≡ code_in_group 1 number }
 {
     match number {
         101 => Some(Code::FileGivenTwice),
@@ -496,9 +497,9 @@ fn file_code(number: u16) -> Option<Code>
 }
 
 // Macros and directives (ISO/IEC 9899:2011 6.10).
-#[tactic(auto, unfolding(crate::specs::Codes::macro_code))]
+#[tactic(auto, unfolding(crate::specs::Codes::all_codes, crate::specs::inside::CodeGroups::code_in_group))]
 fn macro_code(number: u16) -> Option<Code>
-    ensures { result ≡ macro_code number }
+    ensures { result ≡ code_in_group 2 number }
 {
     match number {
         201 => Some(Code::MacroRedefined),
@@ -526,9 +527,9 @@ fn macro_code(number: u16) -> Option<Code>
 }
 
 // Tokens (ISO/IEC 9899:2011 6.4).
-#[tactic(auto, unfolding(crate::specs::Codes::token_code))]
+#[tactic(auto, unfolding(crate::specs::Codes::all_codes, crate::specs::inside::CodeGroups::code_in_group))]
 fn token_code(number: u16) -> Option<Code>
-    ensures { result ≡ token_code number }
+    ensures { result ≡ code_in_group 3 number }
 {
     match number {
         301 => Some(Code::NotAToken),
@@ -539,9 +540,9 @@ fn token_code(number: u16) -> Option<Code>
 }
 
 // The grammar (ISO/IEC 9899:2011 annex A).
-#[tactic(auto, unfolding(crate::specs::Codes::syntax_code))]
+#[tactic(auto, unfolding(crate::specs::Codes::all_codes, crate::specs::inside::CodeGroups::code_in_group))]
 fn syntax_code(number: u16) -> Option<Code>
-    ensures { result ≡ syntax_code number }
+    ensures { result ≡ code_in_group 4 number }
 {
     match number {
         401 => Some(Code::SyntaxError),
@@ -550,9 +551,9 @@ fn syntax_code(number: u16) -> Option<Code>
 }
 
 // Constraints (ISO/IEC 9899:2011 6.5 to 6.9).
-#[tactic(auto, unfolding(crate::specs::Codes::constraint_code))]
+#[tactic(auto, unfolding(crate::specs::Codes::all_codes, crate::specs::inside::CodeGroups::code_in_group))]
 fn constraint_code(number: u16) -> Option<Code>
-    ensures { result ≡ constraint_code number }
+    ensures { result ≡ code_in_group 5 number }
 {
     match number {
         501 => Some(Code::NotConstantExpression),
@@ -599,9 +600,9 @@ fn constraint_code(number: u16) -> Option<Code>
 }
 
 // The faults for parts of the language that the compiler leaves out.
-#[tactic(auto, unfolding(crate::specs::Codes::profile_code))]
+#[tactic(auto, unfolding(crate::specs::Codes::all_codes, crate::specs::inside::CodeGroups::code_in_group))]
 fn profile_code(number: u16) -> Option<Code>
-    ensures { result ≡ profile_code number }
+    ensures { result ≡ code_in_group 6 number }
 {
     match number {
         601 => Some(Code::LeftOutFloating),
@@ -622,9 +623,9 @@ fn profile_code(number: u16) -> Option<Code>
 }
 
 // Limits of the compiler (ISO/IEC 9899:2011 5.2.4.1).
-#[tactic(auto, unfolding(crate::specs::Codes::limit_code))]
+#[tactic(auto, unfolding(crate::specs::Codes::all_codes, crate::specs::inside::CodeGroups::code_in_group))]
 fn limit_code(number: u16) -> Option<Code>
-    ensures { result ≡ limit_code number }
+    ensures { result ≡ code_in_group 7 number }
 {
     match number {
         701 => Some(Code::FileSizeLimit),
@@ -648,9 +649,9 @@ fn limit_code(number: u16) -> Option<Code>
 }
 
 // Memory, input and output.
-#[tactic(auto, unfolding(crate::specs::Codes::system_code))]
+#[tactic(auto, unfolding(crate::specs::Codes::all_codes, crate::specs::inside::CodeGroups::code_in_group))]
 fn system_code(number: u16) -> Option<Code>
-    ensures { result ≡ system_code number }
+    ensures { result ≡ code_in_group 8 number }
 {
     match number {
         801 => Some(Code::OutOfMemory),
@@ -661,9 +662,9 @@ fn system_code(number: u16) -> Option<Code>
 }
 
 // Executable files (System V gABI, chapters 4 and 5).
-#[tactic(auto, unfolding(crate::specs::Codes::image_code))]
+#[tactic(auto, unfolding(crate::specs::Codes::all_codes, crate::specs::inside::CodeGroups::code_in_group))]
 fn image_code(number: u16) -> Option<Code>
-    ensures { result ≡ image_code number }
+    ensures { result ≡ code_in_group 9 number }
 {
     match number {
         901 => Some(Code::ShortHeader),
