@@ -110,6 +110,20 @@ fn is_within(code: &[Instruction], most: u64) -> bool
     }
 }
 
+/// A plan for code, without tests of loops that are doubled where that takes too many bytes.
+fn plan_within(alloc: Global, most: u64, code: &[Instruction]) -> Result<Vec<Stand>, AllocError> {
+    let plan = plan_of(alloc, code, true)?;
+    let is_doubled = plan.iter().any(|stand| stand.is_owed);
+    if is_doubled {
+        let list = all_made(alloc, code, &plan)?;
+        if !is_within(&list, most) {
+            drop(plan);
+            return plan_of(alloc, code, false);
+        }
+    }
+    Ok(plan)
+}
+
 /// The code of the plan, or as it was where that does not fit or would have more bytes.
 fn laid_out(
     alloc: Global,
@@ -119,7 +133,7 @@ fn laid_out(
     ensures code { IfOk result (λ list. IsLaidOutCode code.items list.items) }
     ensures bytes { IfOk result (λ list. sum_by code_bytes list.items ≤ max most (sum_by code_bytes code.items)) }
 {
-    let plan = plan_of(alloc, &code)?;
+    let plan = plan_within(alloc, most, &code)?;
     let list = all_made(alloc, &code, &plan)?;
     if is_right(&code, &plan) && is_within(&list, most) {
         Ok(list)
@@ -163,10 +177,10 @@ pub fn new_places(
     most: u64,
     code: &[Instruction],
 ) -> Result<Vec<usize>, AllocError> {
-    let plan = plan_of(alloc, code)?;
+    let plan = plan_within(alloc, most, code)?;
     let list = all_made(alloc, code, &plan)?;
     if is_right(code, &plan) && is_within(&list, most) {
-        places_in(alloc, &plan, code.len())
+        places_in(alloc, &plan, code)
     } else {
         same_places(alloc, code.len())
     }

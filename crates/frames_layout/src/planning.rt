@@ -70,6 +70,8 @@ struct Plan {
     stands: Vec<Stand>,
     /// The number in the new code of each old instruction.
     numbers: Vec<usize>,
+    /// Tests of loops may be doubled.
+    doubles: bool,
 }
 
 /// An instruction that stays, and leads to a place of the old code.
@@ -118,7 +120,7 @@ fn put_jump(
     if end == next_of(code, number.saturating_add(1)) {
         return Ok(());
     }
-    if is_loop_test(code, number, end) {
+    if plan.doubles && is_loop_test(code, number, end) {
         return double(plan, code, end);
     }
     keep(plan, number, end)
@@ -184,30 +186,64 @@ fn resolve(stands: &mut [Stand], numbers: &[usize], code: &[Instruction]) {
 }
 
 /// A plan for code, which a check may still refuse.
-pub fn plan_of(alloc: Global, code: &[Instruction]) -> Result<Vec<Stand>, AllocError> {
+pub fn plan_of(
+    alloc: Global,
+    code: &[Instruction],
+    doubles: bool,
+) -> Result<Vec<Stand>, AllocError> {
     let mut numbers = Vec::new(alloc);
     numbers.resize(code.len(), NOWHERE)?;
     let mut plan = Plan {
         stands: Vec::with_capacity(alloc, code.len())?,
         numbers,
+        doubles,
     };
     put_all(&mut plan, code)?;
     let Plan {
         mut stands,
         numbers,
+        ..
     } = plan;
     resolve(&mut stands, &numbers, code);
     Ok(stands)
 }
 
+/// The first jump from a place of the code on, or its end.
+fn jump_from(code: &[Instruction], from: usize) -> usize {
+    for number in from..code.len() {
+        if matches!(code[number], Instruction::Jump(_)) {
+            return number;
+        }
+    }
+    code.len()
+}
+
+/// The old instruction that a number of the new code is in place of: the jump, where a test is doubled.
+fn place_of(code: &[Instruction], plan: &[Stand], number: usize) -> usize {
+    let Some(stand) = plan.get(number) else {
+        return NOWHERE;
+    };
+    if !stand.is_owed {
+        return stand.old;
+    }
+    match plan.get(number.wrapping_sub(1)) {
+        Some(before) if !stand.is_jump => jump_from(code, before.old.saturating_add(1)),
+        _ => NOWHERE,
+    }
+}
+
 /// For each place of the old code, and its end, the number in the new code; of what the new code does not have, that of what comes next.
-pub fn places_in(alloc: Global, plan: &[Stand], count: usize) -> Result<Vec<usize>, AllocError> {
+pub fn places_in(
+    alloc: Global,
+    plan: &[Stand],
+    code: &[Instruction],
+) -> Result<Vec<usize>, AllocError> {
     let mut places = Vec::new(alloc);
-    places.resize(count.saturating_add(1), NOWHERE)?;
+    places.resize(code.len().saturating_add(1), NOWHERE)?;
     for number in 0..plan.len() {
-        let stand = plan[number];
-        if !stand.is_owed && stand.old < places.len() {
-            places[stand.old] = number;
+        let place = place_of(code, plan, number);
+        if place < code.len() {
+            places[place] = number;
         }
     }
     let mut next = plan.len();
