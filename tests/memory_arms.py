@@ -37,13 +37,11 @@ OPEN = {
     ('interp_store/src/grid.rt', 'set'),
     ('interp_store/src/scene.rt', 'object_behind'),
     ('interp_transitions/src/tally.rt', 'begin'),
-    ('lower_ops/src/changes.rt', 'put_call'),
     ('lower_ops/src/row_sizes.rt', 'times'),
     ('lower_ops/src/waiting.rt', 'next'),
     ('pp/src/places.rt', 'place'),
     ('tac/src/elements.rt', 'limit_of'),
     ('tac/src/initialisers.rt', 'ahead_of'),
-    ('tac/src/initialisers.rt', 'put_word'),
     ('typing_expressions/src/literals.rt', 'next_number'),
     ('typing_scopes/src/scopes.rt', 'inside'),
 }
