@@ -36,7 +36,10 @@ analyser='verify trace explain_run message version malloc free'
 "$clang" --target=x86_64-unknown-linux-gnu -x ir "$module" -S -emit-llvm -O0 -o native.ll
 sed -e "s/^target datalayout.*/target datalayout = \"$layout\"/" -e 's/^target triple.*/target triple = "wasm64-unknown-unknown"/' \
     -e 's/"probe-stack"="inline-asm"//; s/"stack-probe-size"="[0-9]*"//; s/"target-cpu"="x86-64-v2"//' native.ll >wasm.ll
-"$clang" $flags -O2 -c -x ir wasm.ll -o fast.o
+# Of the first file, what a build does once for each declaration and what shows forms is made for its size.
+once='cc\|const_expr\|decls[a-z_]*\|forms\|forms_text\|object_names\|symbol_table\|typing_declarations\|typing_units\|zikorape'
+sed "/^define [^@]*@\"\($once\)::/s/ #\([0-9]*\) / minsize optsize #\1 /" wasm.ll >fast.ll
+"$clang" $flags -O2 -c -x ir fast.ll -o fast.o
 sed 's/^attributes #\([0-9]*\) = { /&minsize optsize /' wasm.ll >small.ll
 "$clang" $flags -Oz -c -x ir small.ll -o small.o
 

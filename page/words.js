@@ -37,12 +37,17 @@ function added({ word }) {
   return { rs1: word >>> 15 & 31, low: opcode === 0x23 ? word >> 25 << 5 | word >>> 7 & 31 : word >> 20 };
 }
 
-// The address that a word computes, of a callee or of an object: with the auipc or the lui before it, from whose register it reads, or from gp, where that is known.
+// Whether a word adds to gp, as an access to an element does with the index.
+const addsToGp = ({ word }) => (word & 0xfe00707f) === 0x33 && [word >>> 15 & 31, word >>> 20 & 31].includes(3);
+
+// The address that a word computes, of a callee or of an object: with the auipc or the lui before it, from whose register it reads, or from gp, where that is known;
+// of an element of an array, where the array begins.
 export function computed(before, line, gp) {
   const found = added(line), base = before && { 0x17: before.address, 0x37: 0 }[before.word & 127];
   if (!found) return undefined;
   if (base !== undefined && (before.word >>> 7 & 31) === found.rs1) return base + (before.word & 0xfffff000) + found.low >>> 0;
-  return found.rs1 === 3 && gp !== undefined ? gp + found.low >>> 0 : undefined;
+  const fromGp = found.rs1 === 3 || before && addsToGp(before) && (before.word >>> 7 & 31) === found.rs1;
+  return fromGp && gp !== undefined ? gp + found.low >>> 0 : undefined;
 }
 
 // What gp has, by the words of the program's start that set it.

@@ -31,8 +31,11 @@ a fault
 .TP
 2
 the command line is wrong
+.TP
+3
+verify: not shown to be defined, or the stack may not suffice
 .PP
-A program that is run or interpreted ends with its own status, or with 123 (undefined act), 124 (budget used), 125 (trap) or 126 (port fault).
+A program that is run or interpreted ends with its own status, or with 123 (undefined behaviour), 124 (budget used), 125 (trap) or 126 (port fault).
 .SH EXAMPLES
 .TP
 .B zkc build -I include src/main.c -o main.elf
@@ -45,7 +48,7 @@ does the same, and writes main.d for make.
 runs it; so does qemu-riscv32 main.elf.
 .TP
 .B zkc interp -I include src/main.c
-does what the source means, and tells an undefined act at its line.
+does what the source means, and reports undefined behaviour with its line.
 .TP
 .B zkc explain build -I include src/main.c
 tells a fault with its line, its column and a hint.
@@ -61,7 +64,7 @@ prints what a flash tool loads.
 .BR qemu-user (1),
 .BR objdump (1)
 .PP
-The project's docs/TOOLS.md, docs/LANGUAGE.md, docs/DIAGNOSTICS.md and docs/TOOLS.md."""
+The project's docs/TOOLS.md, docs/LANGUAGE.md, docs/DIAGNOSTICS.md and docs/VERIFY.md."""
 
 def said(cc, *words):
     done = subprocess.run([cc, *words, '--help'], stdout=subprocess.PIPE, check=True)

@@ -23,34 +23,22 @@ OPEN = {
     ('cabs/src/acting.rt', 'put'),
     ('cabs/src/first_objects.rt', 'laid_cells'),
     ('cabs/src/first_objects.rt', 'literal_object'),
-    ('const_expr/src/measures.rt', 'size_is'),
-    ('decls/src/finished_objects.rt', 'array_within'),
-    ('decls_initialisers/src/element_values.rt', 'pad'),
-    ('decls_initialisers/src/parts.rt', 'next_number'),
-    ('interp_steps/src/elements.rt', 'clear'),
     ('interp_steps/src/initialisers.rt', 'element_count'),
-    ('interp_steps/src/initialisers.rt', 'next_part'),
-    ('interp_steps/src/labels.rt', 'seek'),
-    ('interp_steps/src/switches.rt', 'enter_case'),
     ('interp_store/src/element_tree.rt', 'fill'),
     ('interp_store/src/grid.rt', 'fill'),
     ('interp_store/src/grid.rt', 'set'),
     ('interp_store/src/scene.rt', 'object_behind'),
-    ('interp_transitions/src/tally.rt', 'begin'),
     ('lower_ops/src/row_sizes.rt', 'times'),
     ('lower_ops/src/waiting.rt', 'next'),
-    ('pp/src/places.rt', 'place'),
     ('tac/src/elements.rt', 'limit_of'),
     ('tac/src/initialisers.rt', 'ahead_of'),
-    ('typing_expressions/src/literals.rt', 'next_number'),
-    ('typing_scopes/src/scopes.rt', 'inside'),
 }
 
 WORD = re.compile(r"'\w+(?!')|\w+!?|=>|->|::|[-+*/%&|^<>=!]=|&&|\|\||[^\s\w]")
 HEADS = (';', '{', '}', 'let', 'if', 'while', 'match', 'fn', 'for', 'loop', 'impl', '=>')
 CLOSERS = {')': '(', ']': '[', '}': '{'}
 # Calls of std whose only error is that a growth was refused.
-GROWS = {'push', 'push_str', 'reserve', 'try_reserve', 'extend_from_slice', 'extend_from_within', 'with_capacity', 'from_elem', 'to_vec', 'insert', 'insert_full', 'format!', 'vec!',
+GROWS = {'push', 'push_str', 'reserve', 'try_reserve', 'resize', 'extend_from_slice', 'extend_from_within', 'with_capacity', 'from_elem', 'to_vec', 'insert', 'insert_full', 'format!', 'vec!',
          'Box::new', 'Rc::new', 'BufWriter::new', 'BufReader::new', 'String::from_str', 'Vec::from_slice'}
 # Functions that are called where a growth was refused: the first one's calls are places, and the second prints.
 GIVEN = {'out_of_memory', 'say_memory'}

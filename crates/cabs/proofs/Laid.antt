@@ -1,5 +1,6 @@
 -- The objects before the run.
 use Rattle.std.proofs.Common.{◌≡◌, ℕ, ℤ, zero, suc, ◌+◌, ◌*◌, ◌<◌, ◌≤◌, ◌⊎◌, inl, inr, get_or, List, [], ◌∷◌, ◌++◌, length, map, drop, refl, sym, ap, ◌∙◌, arith, pos, drop-cons, Some}
+use Rattle.std.specs.Prelude.{min}
 use Rattle.std.proofs.lemmas.Bool.{cases_lt}
 use Rattle.csem.specs.Store as machine
 use Rattle.csem.specs.Store.{first_or_zero}
@@ -62,10 +63,59 @@ module _ (cs : List ℤ) where
       ap machine.Element (sym (ap (cell cs) here) ∙ each 0 (omega arith))
   object_laid (n ∷ ls) k vs each = ap machine.Array (rows_laid n (elements_in ls) (shaped ls cs) (machine.laid_out ls) k vs (λ k vs each. object_laid ls k vs each) each)
 
-pub laid_whole : (ls : List ℕ) (cs vs : List ℤ) (n : ℕ) → n ≡ 1 * elements_in ls → ((j : ℕ) → j < n → cell cs j ≡ Some (first_or_zero (drop j vs))) → shaped ls cs 0 ≡ machine.laid_out ls vs
+pub laid_whole : (ls : List ℕ) (cs vs : List ℤ) (n : ℕ) → n ≡ elements_in ls → ((j : ℕ) → j < n → cell cs j ≡ Some (first_or_zero (drop j vs))) → shaped ls cs 0 ≡ machine.laid_out ls vs
 laid_whole ls cs vs n size each =
     let on : (j : ℕ) → 0 + j ≡ j = λ j. omega arith in
     object_laid cs ls 0 vs (λ j h. ap (cell cs) (on j) ∙ each j (omega (arith, size, h)))
+
+-- ---- how many elements, up to a number
+
+counted_from : (ls : List ℕ) (i : ℕ) → i < length ls → elements_in (drop i ls) ≡ get_or ls i 0 * elements_in (drop (suc i) ls)
+counted_from [] i h = absurd (omega (arith, h))
+counted_from (n ∷ ls) zero h = refl
+counted_from (n ∷ ls) (suc i) h = counted_from ls i (omega (arith, h))
+
+no_length : (ls : List ℕ) (i : ℕ) → length ls ≤ i → elements_in (drop i ls) ≡ 1
+no_length [] zero h = refl
+no_length [] (suc i) h = refl
+no_length (n ∷ ls) zero h = absurd (omega (arith, h))
+no_length (n ∷ ls) (suc i) h = no_length ls i (omega (arith, h))
+
+capped : (a r most : ℕ) → min (min a most * r) most ≡ min (a * r) most
+capped a r most = by_size (cases_lt a most)
+  where
+    by_factor : (r : ℕ) → most ≤ a → min (min a most * r) most ≡ min (a * r) most
+    by_factor zero h =
+        let one : min a most * 0 ≡ 0 = grind arith in
+        let other : a * 0 ≡ 0 = grind arith in
+        ap (λ x. min x most) (one ∙ sym other)
+    by_factor (suc r) h =
+        let is : min a most ≡ most = omega (arith, h) in
+        let one : most ≤ most * suc r = grind arith in
+        let other : a ≤ a * suc r = grind arith in
+        ap (λ x. min (x * suc r) most) is ∙ omega (arith, h, one, other)
+
+    by_size : (a < most) ⊎ (most ≤ a) → min (min a most * r) most ≡ min (a * r) most
+    by_size (inl h) = let is : min a most ≡ a = omega (arith, h) in ap (λ x. min (x * r) most) is
+    by_size (inr h) = by_factor r h
+
+pub one_counted : (ls : List ℕ) (i product next most whole : ℕ) → i < length ls → next ≡ min (product * get_or ls i 0) most →
+    min (product * elements_in (drop i ls)) most ≡ whole → min (next * elements_in (drop (i + 1) ls)) most ≡ whole
+one_counted ls i product next most whole h e all =
+    let rest = elements_in (drop (suc i) ls) in
+    let number : i + 1 ≡ suc i = omega arith in
+    let around : (product * get_or ls i 0) * rest ≡ product * (get_or ls i 0 * rest) = grind arith in
+    ap (λ k. min (next * elements_in (drop k ls)) most) number ∙ ap (λ x. min (x * rest) most) e ∙ capped (product * get_or ls i 0) rest most
+    ∙ ap (λ x. min x most) (around ∙ ap (λ x. product * x) (sym (counted_from ls i h))) ∙ all
+
+pub first_counted : (ls : List ℕ) (most : ℕ) → min (1 * elements_in ls) most ≡ min (elements_in ls) most
+first_counted ls most = let one : 1 * elements_in ls ≡ elements_in ls = grind arith in ap (λ x. min x most) one
+
+pub all_counted : (ls : List ℕ) (i product most whole : ℕ) → product ≤ most → length ls ≤ i → min (product * elements_in (drop i ls)) most ≡ whole → product ≡ whole
+all_counted ls i product most whole fits h all =
+    let one : product * 1 ≡ product = grind arith in
+    let is : product ≡ min product most = omega (arith, fits) in
+    is ∙ ap (λ x. min x most) (sym one ∙ sym (ap (λ x. product * x) (no_length ls i h))) ∙ all
 
 pub element_laid : (v : ℤ) (vs : List ℤ) (lengths : List ℕ) → length lengths ≡ 0 → v ≡ first_or_zero vs → machine.Element (Some v) ≡ machine.laid_out lengths vs
 element_laid v vs [] e f = ap (λ v. machine.Element (Some v)) f

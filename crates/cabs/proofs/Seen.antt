@@ -39,6 +39,19 @@ binary_is at op t a b = search (rules, the_lemmas)
 pub sees_binary : (x : Value) (at : Pos) (op : BinOp) (t : IntType) (a b : Box Value Global) → x ≡ V.Binary at op t a b → value_of x ≡ typed.binary at op t (value_of a.value) (value_of b.value)
 sees_binary x at op t a b h = ap value_of h ∙ binary_is at op t a b
 
+assigned_is : (at : Pos) (t : IntType) (a : Box Place Global) (e : Box Value Global) → value_of (V.Assigned at t a e) ≡ typed.assigned at t (place_of a.value) (value_of e.value)
+assigned_is at t a e = search (rules, the_lemmas)
+
+pub sees_assigned : (x : Value) (at : Pos) (t : IntType) (a : Box Place Global) (e : Box Value Global) → x ≡ V.Assigned at t a e → value_of x ≡ typed.assigned at t (place_of a.value) (value_of e.value)
+sees_assigned x at t a e h = ap value_of h ∙ assigned_is at t a e
+
+compound_is : (at : Pos) (op : BinOp) (t of : IntType) (a : Box Place Global) (e : Box Value Global) → value_of (V.Compound at op t of a e) ≡ typed.compound at op t of (place_of a.value) (value_of e.value)
+compound_is at op t of a e = search (rules, the_lemmas)
+
+pub sees_compound : (x : Value) (at : Pos) (op : BinOp) (t of : IntType) (a : Box Place Global) (e : Box Value Global) → x ≡ V.Compound at op t of a e →
+    value_of x ≡ typed.compound at op t of (place_of a.value) (value_of e.value)
+sees_compound x at op t of a e h = ap value_of h ∙ compound_is at op t of a e
+
 both_is : (a b : Box Value Global) → value_of (V.BothTrue a b) ≡ typed.both_true (value_of a.value) (value_of b.value)
 both_is a b = search (rules, the_lemmas)
 

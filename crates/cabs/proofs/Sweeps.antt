@@ -15,7 +15,7 @@ use Rattle.interp_store.specs.declared.frames.Passed.{Passed}
 use Rattle.csem.specs.History.{Entry}
 use Rattle.io_ports.specs.Port.{PortView}
 use Rattle.csem.specs.Machine as machine
-use Rattle.csem.specs.Machine.{State, Goes, Stops, tick, then_do}
+use Rattle.csem.specs.Machine.{State, Goes, Stops, choose, tick, then_do}
 use Rattle.interp_store.specs.declared.machine.Machine.{Machine}
 use Rattle.interp_store.specs.declared.scene.Scene.{Scene}
 use Rattle.interp_store.specs.declared.frames.Step.{Step}
@@ -48,6 +48,12 @@ on_true P b e h = let Q : Bool → Type 0 = λ b. OnTrue b P in subst Q e h
 
 pub on_false : (P : Type 0) (b : Bool) → b ≡ false → OnFalse b P → P
 on_false P b e h = let Q : Bool → Type 0 = λ b. OnFalse b P in subst Q e h
+
+pub picks_true : (b : Bool) (x y : Moved) → b ≡ true → choose b x y ≡ x
+picks_true b x y e = ap (λ b. choose b x y) e
+
+pub picks_false : (b : Bool) (x y : Moved) → b ≡ false → choose b x y ≡ y
+picks_false b x y e = ap (λ b. choose b x y) e
 
 abbrev outside_at : Course → ℕ → Outside
 outside_at c n = record { clock = n; input = c.input; history = c.history }
@@ -316,3 +322,13 @@ module _ (c : Course) (p : typed.Program) where
       After c p k fs scene (steps_to (enters x)) → OnFalse b (StopsBy c limit new.why new.spent scene)
   unticked_if limit k new fs scene x true i e h = tt
   unticked_if limit k new fs scene x false i e h = unticked c p limit k new fs scene x false refl i e h
+
+-- ---- what comes next, by its kind
+
+pub comes_some : {A : Type 0} (view : A → State → Moved) (c : Course) (p : typed.Program) (limit : ℕ) (r : Option A) (a : A) (clock : Clock) (m : Machine) → r ≡ Some a → ComesTo view c p limit r clock m →
+    After c p clock.spent (frames_of m) m.scene (view a)
+comes_some view c p limit r a clock m e h = let P : Option _ → Type 0 = λ r. ComesTo view c p limit r clock m in subst P e h
+
+pub comes_none : {A : Type 0} (view : A → State → Moved) (c : Course) (p : typed.Program) (limit : ℕ) (r : Option A) (clock : Clock) (m : Machine) → r ≡ None → ComesTo view c p limit r clock m →
+    StopsBy c limit clock.why clock.spent m.scene
+comes_none view c p limit r clock m e h = let P : Option _ → Type 0 = λ r. ComesTo view c p limit r clock m in subst P e h

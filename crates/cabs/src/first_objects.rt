@@ -1,13 +1,13 @@
 //! The objects before the run: string literals, then those with static storage.
 
-ghost use Rattle.std.specs.Prelude.{◌≡◌, ◌<◌, ◌++◌, ◌∷◌, [], ℕ, Some, IfErr, IfOk, OnOk, drop, map, pos};
+ghost use Rattle.std.specs.Prelude.{◌≡◌, ◌<◌, ◌-◌, ◌^◌, ◌++◌, ◌∷◌, [], ℕ, Some, IfErr, IfOk, OnOk, drop, length, map, min, pos};
+ghost use Rattle.typing_spec.specs.Types.{elements_in};
 ghost use Rattle.interp_store.specs.Cells.{cell};
 ghost use Rattle.typed_ast.specs.View.{program_of, static_of};
 ghost use Rattle.csem.specs.Store as machine;
 ghost use Rattle.interp_store.specs.View.{store_of, tree_of};
 ghost use Rattle.interp_store.specs.declared.stop.Stop.TheVariants.{Memory};
 
-use interp_steps::initialisers::element_count;
 use interp_store::stop::Stop;
 use interp_store::{Store, Tree, number_for};
 use std::alloc::{AllocError, Global};
@@ -70,11 +70,23 @@ fn value_or_zero(values: &[i64], k: usize) -> i64
     }
 }
 
+/// How many elements an object of these lengths has, or the greatest number that memory has where they are more.
+fn element_count(lengths: &[u32]) -> usize
+    ensures { result ≡ min (elements_in lengths.now) (2 ^ 64 - 1) }
+{
+    let mut product: usize = 1;
+    for n in lengths {
+        product = product.saturating_mul(*n as usize);
+    }
+    product
+}
+
 /// That many values in order, with zeros after the last, as cells (6.7.9p10, p21).
 ///
 /// Errors: memory ran out.
 fn laid_cells(alloc: Global, count: usize, values: &[i64]) -> Result<Vec<i64>, Stop>
     ensures ok { IfOk result (λ cells. (k : ℕ) → k < count → cell cells.items k ≡ Some (machine.first_or_zero (drop k values.now))) }
+    ensures size { IfOk result (λ cells. length cells.items ≡ count) }
     ensures err { IfErr result (λ e. e ≡ Memory) }
 {
     let mut cells = match Vec::with_capacity(alloc, count) {
@@ -103,11 +115,7 @@ fn laid_out(alloc: Global, lengths: &[u32], values: &[i64]) -> Result<Tree, Stop
     if lengths.is_empty() {
         return Ok(Tree::Element(Some(first_or_zero(values))));
     }
-    let count = match element_count(1, lengths) {
-        Ok(count) => count,
-        Err(stop) => return Err(stop),
-    };
-    match laid_cells(alloc, count, values) {
+    match laid_cells(alloc, element_count(lengths), values) {
         Ok(cells) => match Tree::array(alloc, lengths, cells) {
             Ok(object) => Ok(object),
             Err(_) => Err(Stop::Memory),

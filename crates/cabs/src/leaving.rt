@@ -13,6 +13,7 @@ ghost use Rattle.cabs.specs.inside.Standing.{is_return};
 use crate::state::is_return;
 use interp_steps::conditions::leave_control;
 use interp_steps::flows::{after_turn, next};
+use interp_store::Reference;
 use interp_store::frames::{
     Back, ControlFrame, Flow, Found, Frame, Loop, OperandFrame, Return, Step,
 };
@@ -125,6 +126,29 @@ fn leave_value<'p>(machine: &mut Machine<'p>, kept: Kept<'p>, v: i64) -> Result<
             };
             leave_control(machine, ControlFrame::Loops(l), v)
         }
+        Kept::Tests(objects, test, body) => {
+            let l = Loop {
+                objects,
+                test: Some(test),
+                body,
+                step: None,
+            };
+            leave_control(machine, ControlFrame::Tests(l), v)
+        }
+        Kept::IfTrue(objects, a) => leave_control(machine, ControlFrame::IfTrue(objects, a), v),
+        Kept::IfElse(objects, a, b) => leave_control(
+            machine,
+            ControlFrame::IfElse(objects, a, b),
+            v,
+        ),
+        Kept::AndAlso(b) => leave_operand(machine, OperandFrame::AndAlso(b), v),
+        Kept::OrElse(b) => leave_operand(machine, OperandFrame::OrElse(b), v),
+        Kept::TellsTruth => leave_operand(machine, OperandFrame::TellsTruth, v),
+        Kept::Chooses(ty, a, b) => leave_operand(machine, OperandFrame::Chooses(ty, a, b), v),
+        Kept::Stores(at, ty, n) => {
+            let r = Reference::whole(n);
+            leave_operand(machine, OperandFrame::Stores(at, ty, r), v)
+        }
         _ => leave_any(machine, kept, Found::Value(v)),
     }
 }
@@ -164,6 +188,33 @@ fn leave_flow<'p>(machine: &mut Machine<'p>, kept: Kept<'p>, flow: Flow) -> Resu
             let l = Loop {
                 objects,
                 test: Some(test),
+                body,
+                step: Some(step),
+            };
+            after_turn(machine, l, flow)
+        }
+        Kept::Turn(objects, body) => {
+            let l = Loop {
+                objects,
+                test: None,
+                body,
+                step: None,
+            };
+            after_turn(machine, l, flow)
+        }
+        Kept::TurnTested(objects, test, body) => {
+            let l = Loop {
+                objects,
+                test: Some(test),
+                body,
+                step: None,
+            };
+            after_turn(machine, l, flow)
+        }
+        Kept::TurnStepped(objects, body, step) => {
+            let l = Loop {
+                objects,
+                test: None,
                 body,
                 step: Some(step),
             };

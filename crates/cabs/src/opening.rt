@@ -7,7 +7,7 @@ ghost use Rattle.typed_ast.specs.View.{object_type_of, statement_of, statements_
 ghost use Rattle.csem.specs.History.{Entry};
 ghost use Rattle.csem.specs.Statements.{all_renewed};
 ghost use Rattle.interp_store.specs.layer.Frames as on;
-ghost use Rattle.interp_store.specs.layer.Steps.{came_late, entered_statement, started};
+ghost use Rattle.interp_store.specs.layer.Steps.{came_late, entered_statement, started, waits};
 ghost use Rattle.interp_store.specs.declared.scene.Scene.{Scene};
 ghost use Rattle.interp_store.specs.layer.Views.{late_of, node_of, step_of};
 ghost use Rattle.interp_eval.specs.layer.Comes.{Course, Spends, StaysHere, StopsBy};
@@ -22,19 +22,28 @@ use crate::outcome::Run;
 use crate::quick_parts::stopped;
 use crate::resting::holds_loop;
 use crate::state::Interpreter;
-use crate::sweeping::{descend, enter_slowly, later, statement_here, wait_in};
+use crate::sweeping::{descend, enter_slowly, later, statement_here, value_here, wait_in};
 use interp_eval::clock::{Clock, Why};
-use interp_eval::quick::is_quick_statement;
+use interp_eval::quick::{is_quick, is_quick_statement};
 use interp_steps::objects::renew_all;
 use interp_store::frames::{ControlFrame, Flow, FlowFrame, Found, Frame, Late, Node, Step};
 use interp_store::machine::Machine;
-use typed_ast::{ObjectType, Statement};
+use interp_store::operators::is_true;
+use typed_ast::{ObjectType, Statement, Value};
 
 /// Whether a statement is evaluated on the spot: it calls nothing, and does not loop.
 fn is_short(a: &Statement) -> bool
     ensures { result ≡ true → quick_statement (statement_of a.now) ≡ true }
 {
     is_quick_statement(a) && !holds_loop(a)
+}
+
+/// The two statements of `if` with `else`, in a function with these objects.
+#[derive(Clone, Copy)]
+struct Alternatives<'p> {
+    objects: &'p [ObjectType],
+    a: &'p Box<Statement>,
+    b: &'p Box<Statement>,
 }
 
 /// Statements one after the other, up to the first one that calls or loops (6.8p2).
@@ -96,6 +105,74 @@ fn block<'p>(
     }
 }
 
+/// `if`, after its tick (6.8.4.1).
+fn branch<'p>(
+    machine: &mut Machine<'p>,
+    clock: &mut Clock,
+    limit: u64,
+    objects: &'p [ObjectType],
+    e: &'p Value,
+    a: &'p Box<Statement>,
+) -> Option<Step<'p>>
+    requires room { clock.old.spent ≤ limit }
+    ensures does { Sweeps (λ x. steps_to (step_of x)) limit (λ p s. waits (on.if_true (map object_type_of objects.now) (statement_of a.now.value)) (on.value (value_of e.now)) s) clock.old machine.old result clock.new machine.new }
+    ensures here { StaysHere true result clock.new.why }
+    ensures program { machine.new.program ≡ machine.old.program }
+    ensures spends { Spends clock.old.spent clock.new.spent limit }
+{
+    if !is_quick(e) {
+        return later(
+            machine,
+            clock,
+            limit,
+            Frame::Control(ControlFrame::IfTrue(objects, a)),
+            e,
+        );
+    }
+    let Some(v) = value_here(machine, clock, limit, e) else {
+        return None;
+    };
+    if is_true(v) {
+        Some(Step::Enters(Node::Statement(objects, a)))
+    } else {
+        Some(Step::Leaves(Found::Flow(Flow::Normal)))
+    }
+}
+
+/// `if` with `else`, after its tick (6.8.4.1).
+fn branches<'p>(
+    machine: &mut Machine<'p>,
+    clock: &mut Clock,
+    limit: u64,
+    choice: Alternatives<'p>,
+    e: &'p Value,
+) -> Option<Step<'p>>
+    requires room { clock.old.spent ≤ limit }
+    ensures does { Sweeps (λ x. steps_to (step_of x)) limit (λ p s. waits (on.if_else (map object_type_of choice.entry.objects.now) (statement_of choice.entry.a.now.value) (statement_of choice.entry.b.now.value)) (on.value (value_of e.now)) s) clock.old machine.old result clock.new machine.new }
+    ensures here { StaysHere true result clock.new.why }
+    ensures program { machine.new.program ≡ machine.old.program }
+    ensures spends { Spends clock.old.spent clock.new.spent limit }
+{
+    let Alternatives { objects, a, b } = choice;
+    if !is_quick(e) {
+        return later(
+            machine,
+            clock,
+            limit,
+            Frame::Control(ControlFrame::IfElse(objects, a, b)),
+            e,
+        );
+    }
+    let Some(v) = value_here(machine, clock, limit, e) else {
+        return None;
+    };
+    if is_true(v) {
+        Some(Step::Enters(Node::Statement(objects, a)))
+    } else {
+        Some(Step::Enters(Node::Statement(objects, b)))
+    }
+}
+
 /// A statement that calls, up to its next call, from its tick on (6.8).
 fn open<'p>(
     machine: &mut Machine<'p>,
@@ -129,21 +206,10 @@ fn open<'p>(
             Frame::Control(ControlFrame::GivesBack(*ty)),
             e,
         ),
-        Statement::If(_, e, a) => later(
-            machine,
-            clock,
-            limit,
-            Frame::Control(ControlFrame::IfTrue(objects, a)),
-            e,
-        ),
+        Statement::If(_, e, a) => branch(machine, clock, limit, objects, e, a),
         Statement::IfElse(_, e, a, b) => {
-            later(
-                machine,
-                clock,
-                limit,
-                Frame::Control(ControlFrame::IfElse(objects, a, b)),
-                e,
-            )
+            let choice = Alternatives { objects, a, b };
+            branches(machine, clock, limit, choice, e)
         }
         Statement::Block(_, first, count, all) => {
             block(machine, clock, limit, objects, *first, *count, all)
@@ -271,6 +337,59 @@ fn go_on<'p>(
     }
 }
 
+/// A step, and the statements that call and that are entered next, one in another, up to the next call.
+fn open_next<'p>(
+    machine: &mut Machine<'p>,
+    clock: &mut Clock,
+    limit: u64,
+    first: Step<'p>,
+) -> Option<Step<'p>>
+    requires room { clock.old.spent ≤ limit }
+    ensures does { Sweeps (λ x. steps_to (step_of x)) limit (λ p s. steps_to (step_of first.entry) s) clock.old machine.old result clock.new machine.new }
+    ensures here { StaysHere true result clock.new.why }
+    ensures program { machine.new.program ≡ machine.old.program }
+    ensures spends { Spends clock.old.spent clock.new.spent limit }
+{
+    let mut next = first;
+    loop {
+        match next {
+            Step::Enters(node) => match node {
+                Node::Statement(objects, a) => {
+                    if is_quick_statement(a) {
+                        return Some(Step::Enters(Node::Statement(objects, a)));
+                    }
+                    match open(machine, clock, limit, objects, a) {
+                        None => return None,
+                        Some(step) => next = step,
+                    }
+                }
+                other => return Some(Step::Enters(other)),
+            },
+            other => return Some(other),
+        }
+    }
+}
+
+/// A node, and the statements that call and that it enters, up to the next call.
+fn go_far<'p>(
+    machine: &mut Machine<'p>,
+    clock: &mut Clock,
+    limit: u64,
+    node: Node<'p>,
+) -> Option<Step<'p>>
+    requires room { clock.old.spent ≤ limit }
+    ensures does { Sweeps (λ x. steps_to (step_of x)) limit (λ p s. steps_to (on.enters (node_of node.entry)) s) clock.old machine.old result clock.new machine.new }
+    ensures here { StaysHere true result clock.new.why }
+    ensures program { machine.new.program ≡ machine.old.program }
+    ensures spends { Spends clock.old.spent clock.new.spent limit }
+    ensures takes { IfSome result (λ _. clock.old.spent < clock.new.spent) }
+{
+    match go_on(machine, clock, limit, node) {
+        None => None,
+        Some(step) => open_next(machine, clock, limit, step),
+    }
+}
+
 /// A node that calls, with its ticks, up to the next call.
 ///
 /// Errors: how the run stops before it.
@@ -291,7 +410,7 @@ pub fn sweep<'p>(
         spent: *spent,
         why: Why::Ticks,
     };
-    let next = go_on(&mut interpreter.machine, &mut clock, limit, node);
+    let next = go_far(&mut interpreter.machine, &mut clock, limit, node);
     *spent = clock.spent;
     match next {
         Some(step) => Ok(step),

@@ -24,5 +24,5 @@ pub enum Run {
 #[derive(Clone, Copy, Debug, PartialEq, Eq)]
 pub struct Interpreted {
     pub run: Run,
-    pub greatest: u64,
+    pub greatest: u128,
 }

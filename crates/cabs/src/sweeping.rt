@@ -27,8 +27,11 @@ use interp_steps::nodes::enter;
 use interp_steps::objects::renew_all;
 use interp_store::Reference;
 use interp_store::expressions::ask;
-use interp_store::frames::{Asked, Flow, Frame, Node, OperandFrame, Passed, Step};
+use interp_store::frames::{
+    Asked, Compound, Flow, Found, Frame, Node, OperandFrame, Passed, PlaceFrame, Step,
+};
 use interp_store::machine::Machine;
+use interp_store::operators::{converted_or_none, is_true};
 use interp_store::stop::Stop;
 use srcset::Pos;
 use typed_ast::{Argument, ObjectType, Place, Statement, Value};
@@ -41,8 +44,38 @@ struct Operation {
     ty: IntType,
 }
 
+/// The two operands of `?:` of which one is evaluated, and the type to which it is converted.
+#[derive(Clone, Copy)]
+struct Choice<'p> {
+    ty: Option<IntType>,
+    a: &'p Value,
+    b: &'p Value,
+}
+
+/// What an assignment is, with its place and the type of its object.
+#[derive(Clone, Copy)]
+struct Store {
+    at: Pos,
+    ty: IntType,
+}
+
+/// The place in the source of an element that is read: its name or its `[`.
+fn position_of(place: &Place) -> Pos
+    ensures { result ≡ meaning.position_of (place_of place.now) }
+{
+    match place {
+        Place::Named(at, _) => *at,
+        Place::Element(at, _, _) => *at,
+    }
+}
+
 /// The value of an expression that calls nothing, on the spot.
-fn value_here(machine: &mut Machine<'_>, clock: &mut Clock, limit: u64, e: &Value) -> Option<i64>
+pub fn value_here(
+    machine: &mut Machine<'_>,
+    clock: &mut Clock,
+    limit: u64,
+    e: &Value,
+) -> Option<i64>
     requires quick { quick (value_of e.now) ≡ true }
     requires room { clock.old.spent ≤ limit }
     ensures does { FindsHere on.a_value number limit (on.value (value_of e.now)) clock.old machine.old result clock.new machine.new }
@@ -320,6 +353,217 @@ fn binary<'p>(
     )
 }
 
+/// An assignment, after its tick (6.5.16).
+#[cycle(descending)]
+fn assigned<'p>(
+    machine: &mut Machine<'p>,
+    clock: &mut Clock,
+    limit: u64,
+    store: Store,
+    a: &'p Place,
+    e: &'p Value,
+) -> Option<Step<'p>>
+    requires room { clock.old.spent ≤ limit }
+    ensures does { Sweeps (λ x. steps_to (step_of x)) limit (λ p s. waits (on.assigns store.at store.ty (value_of e.now)) (on.place (place_of a.now)) s) clock.old machine.old result clock.new machine.new }
+    ensures here { StaysHere true result clock.new.why }
+    ensures program { machine.new.program ≡ machine.old.program }
+    ensures spends { Spends clock.old.spent clock.new.spent limit }
+{
+    let Store { at, ty } = store;
+    if !is_quick_place(a) {
+        if !wait_in(machine, clock, Frame::Place(PlaceFrame::Assigns(at, ty, e))) {
+            return None;
+        }
+        return Some(Step::Enters(Node::Place(a)));
+    }
+    let Some(r) = place_here(machine, clock, limit, a) else {
+        return None;
+    };
+    later(
+        machine,
+        clock,
+        limit,
+        Frame::Operand(OperandFrame::Stores(at, ty, r)),
+        e,
+    )
+}
+
+/// A compound assignment, after its tick (6.5.16.2).
+#[cycle(descending)]
+fn combined<'p>(
+    machine: &mut Machine<'p>,
+    clock: &mut Clock,
+    limit: u64,
+    c: Compound,
+    a: &'p Place,
+    e: &'p Value,
+) -> Option<Step<'p>>
+    requires room { clock.old.spent ≤ limit }
+    ensures does { Sweeps (λ x. steps_to (step_of x)) limit (λ p s. waits (on.compounds c.at c.op c.ty c.of c.read_at (value_of e.now)) (on.place (place_of a.now)) s) clock.old machine.old result clock.new machine.new }
+    ensures here { StaysHere true result clock.new.why }
+    ensures program { machine.new.program ≡ machine.old.program }
+    ensures spends { Spends clock.old.spent clock.new.spent limit }
+{
+    if !is_quick_place(a) {
+        if !wait_in(machine, clock, Frame::Place(PlaceFrame::Compounds(c, e))) {
+            return None;
+        }
+        return Some(Step::Enters(Node::Place(a)));
+    }
+    let Some(r) = place_here(machine, clock, limit, a) else {
+        return None;
+    };
+    later(
+        machine,
+        clock,
+        limit,
+        Frame::Operand(OperandFrame::Combines(c, r)),
+        e,
+    )
+}
+
+/// `&&`, after its tick (6.5.13).
+#[cycle(descending)]
+fn both_true<'p>(
+    machine: &mut Machine<'p>,
+    clock: &mut Clock,
+    limit: u64,
+    a: &'p Value,
+    b: &'p Value,
+) -> Option<Step<'p>>
+    requires room { clock.old.spent ≤ limit }
+    ensures does { Sweeps (λ x. steps_to (step_of x)) limit (λ p s. waits (on.and_also (value_of b.now)) (on.value (value_of a.now)) s) clock.old machine.old result clock.new machine.new }
+    ensures here { StaysHere true result clock.new.why }
+    ensures program { machine.new.program ≡ machine.old.program }
+    ensures spends { Spends clock.old.spent clock.new.spent limit }
+{
+    if !is_quick(a) {
+        return later(
+            machine,
+            clock,
+            limit,
+            Frame::Operand(OperandFrame::AndAlso(b)),
+            a,
+        );
+    }
+    let Some(v) = value_here(machine, clock, limit, a) else {
+        return None;
+    };
+    if is_true(v) {
+        later(
+            machine,
+            clock,
+            limit,
+            Frame::Operand(OperandFrame::TellsTruth),
+            b,
+        )
+    } else {
+        Some(Step::Leaves(Found::Value(0)))
+    }
+}
+
+/// `||`, after its tick (6.5.14).
+#[cycle(descending)]
+fn one_true<'p>(
+    machine: &mut Machine<'p>,
+    clock: &mut Clock,
+    limit: u64,
+    a: &'p Value,
+    b: &'p Value,
+) -> Option<Step<'p>>
+    requires room { clock.old.spent ≤ limit }
+    ensures does { Sweeps (λ x. steps_to (step_of x)) limit (λ p s. waits (on.or_else (value_of b.now)) (on.value (value_of a.now)) s) clock.old machine.old result clock.new machine.new }
+    ensures here { StaysHere true result clock.new.why }
+    ensures program { machine.new.program ≡ machine.old.program }
+    ensures spends { Spends clock.old.spent clock.new.spent limit }
+{
+    if !is_quick(a) {
+        return later(
+            machine,
+            clock,
+            limit,
+            Frame::Operand(OperandFrame::OrElse(b)),
+            a,
+        );
+    }
+    let Some(v) = value_here(machine, clock, limit, a) else {
+        return None;
+    };
+    if is_true(v) {
+        Some(Step::Leaves(Found::Value(1)))
+    } else {
+        later(
+            machine,
+            clock,
+            limit,
+            Frame::Operand(OperandFrame::TellsTruth),
+            b,
+        )
+    }
+}
+
+/// The operand of `?:` that is evaluated, converted to the type of both (6.5.15p5). One that calls nothing is evaluated on the spot.
+#[cycle(descending)]
+fn picked<'p>(
+    machine: &mut Machine<'p>,
+    clock: &mut Clock,
+    limit: u64,
+    ty: Option<IntType>,
+    e: &'p Value,
+) -> Option<Step<'p>>
+    requires room { clock.old.spent ≤ limit }
+    ensures does { Sweeps (λ x. steps_to (step_of x)) limit (λ p s. waits (on.converts ty) (on.value (value_of e.now)) s) clock.old machine.old result clock.new machine.new }
+    ensures here { StaysHere true result clock.new.why }
+    ensures program { machine.new.program ≡ machine.old.program }
+    ensures spends { Spends clock.old.spent clock.new.spent limit }
+{
+    if !is_quick(e) {
+        if !wait_in(machine, clock, Frame::Operand(OperandFrame::Converts(ty))) {
+            return None;
+        }
+        return descend(machine, clock, limit, e);
+    }
+    let Some(v) = value_here(machine, clock, limit, e) else {
+        return None;
+    };
+    Some(Step::Leaves(Found::Value(converted_or_none(ty, v))))
+}
+
+/// `?:`, after its tick (6.5.15).
+#[cycle(descending)]
+fn chosen<'p>(
+    machine: &mut Machine<'p>,
+    clock: &mut Clock,
+    limit: u64,
+    choice: Choice<'p>,
+    c: &'p Value,
+) -> Option<Step<'p>>
+    requires room { clock.old.spent ≤ limit }
+    ensures does { Sweeps (λ x. steps_to (step_of x)) limit (λ p s. waits (on.chooses choice.entry.ty (value_of choice.entry.a.now) (value_of choice.entry.b.now)) (on.value (value_of c.now)) s) clock.old machine.old result clock.new machine.new }
+    ensures here { StaysHere true result clock.new.why }
+    ensures program { machine.new.program ≡ machine.old.program }
+    ensures spends { Spends clock.old.spent clock.new.spent limit }
+{
+    let Choice { ty, a, b } = choice;
+    if !is_quick(c) {
+        return later(
+            machine,
+            clock,
+            limit,
+            Frame::Operand(OperandFrame::Chooses(ty, a, b)),
+            c,
+        );
+    }
+    let Some(v) = value_here(machine, clock, limit, c) else {
+        return None;
+    };
+    if is_true(v) {
+        picked(machine, clock, limit, ty, a)
+    } else {
+        picked(machine, clock, limit, ty, b)
+    }
+}
+
 /// An expression that calls, up to its next call, from its tick on (6.5).
 #[cycle(descending)]
 pub fn descend<'p>(
@@ -341,8 +585,20 @@ pub fn descend<'p>(
     match e {
         Value::Constant(_, _) => enter_slowly(machine, clock, Node::Value(e)),
         Value::Read(_, _) => enter_slowly(machine, clock, Node::Value(e)),
-        Value::Assigned(_, _, _, _) => enter_slowly(machine, clock, Node::Value(e)),
-        Value::Compound(_, _, _, _, _, _) => enter_slowly(machine, clock, Node::Value(e)),
+        Value::Assigned(at, ty, a, e) => {
+            let store = Store { at: *at, ty: *ty };
+            assigned(machine, clock, limit, store, a, e)
+        }
+        Value::Compound(at, op, ty, of, a, e) => {
+            let c = Compound {
+                at: *at,
+                op: *op,
+                ty: *ty,
+                of: *of,
+                read_at: position_of(a),
+            };
+            combined(machine, clock, limit, c, a, e)
+        }
         Value::Stepped(_, _, _, _, _, _) => enter_slowly(machine, clock, Node::Value(e)),
         Value::Unary(at, op, ty, e) => later(
             machine,
@@ -359,27 +615,12 @@ pub fn descend<'p>(
             };
             binary(machine, clock, limit, operation, a, b)
         }
-        Value::BothTrue(a, b) => later(
-            machine,
-            clock,
-            limit,
-            Frame::Operand(OperandFrame::AndAlso(b)),
-            a,
-        ),
-        Value::OneTrue(a, b) => later(
-            machine,
-            clock,
-            limit,
-            Frame::Operand(OperandFrame::OrElse(b)),
-            a,
-        ),
-        Value::Chosen(ty, c, a, b) => later(
-            machine,
-            clock,
-            limit,
-            Frame::Operand(OperandFrame::Chooses(*ty, a, b)),
-            c,
-        ),
+        Value::BothTrue(a, b) => both_true(machine, clock, limit, a, b),
+        Value::OneTrue(a, b) => one_true(machine, clock, limit, a, b),
+        Value::Chosen(ty, c, a, b) => {
+            let choice = Choice { ty: *ty, a, b };
+            chosen(machine, clock, limit, choice, c)
+        }
         Value::Sequence(a, b) => later(
             machine,
             clock,

@@ -26,8 +26,8 @@ use std::alloc::Global;
 use tree::{AssignOp, BinaryOp, Expr, PrefixOp, StepOp, TypeName};
 use typed_ast::{Moment, ParameterType};
 use typing_expressions::{
-    Checked, assigned, broken, chosen, function_named, named, next_literal, operated, signed,
-    stepped, subscripted, valued,
+    Checked, LiteralCount, assigned, broken, chosen, function_named, named, next_literal, operated,
+    signed, stepped, subscripted, valued,
 };
 use typing_scopes::Scope;
 
@@ -45,7 +45,7 @@ fn two_operands<'s>(
     alloc: Global,
     names: &Names,
     scope: &'s Scope,
-    literals: &mut usize,
+    literals: &mut LiteralCount,
     a: &Expr,
     b: &Expr,
 ) -> Result<Operands<'s>, Refusal>
@@ -70,7 +70,7 @@ fn size(
     alloc: Global,
     names: &Names,
     scope: &Scope,
-    literals: &mut usize,
+    literals: &mut LiteralCount,
     pos: Pos,
     e: &Expr,
 ) -> Result<u64, Refusal>
@@ -95,7 +95,7 @@ fn sizes(
     alloc: Global,
     names: &Names,
     scope: &Scope,
-    literals: &mut usize,
+    literals: &mut LiteralCount,
     pos: Pos,
     es: &[Expr],
 ) -> Result<Vec<u64>, Refusal>
@@ -123,7 +123,7 @@ fn type_named(
     alloc: Global,
     names: &Names,
     scope: &Scope,
-    literals: &mut usize,
+    literals: &mut LiteralCount,
     name: &TypeName,
 ) -> Result<Option<NamedType>, Refusal>
     ensures ok { IfOk result (λ n. named_at names.now literals.old scope.now (type_of name.now) ≡ fine (option_named n)) }
@@ -148,7 +148,7 @@ fn cast_typed<'s>(
     alloc: Global,
     names: &Names,
     scope: &'s Scope,
-    literals: &mut usize,
+    literals: &mut LiteralCount,
     pos: Pos,
     name: &TypeName,
     a: &Expr,
@@ -174,7 +174,7 @@ fn conditional_typed<'s>(
     alloc: Global,
     names: &Names,
     scope: &'s Scope,
-    literals: &mut usize,
+    literals: &mut LiteralCount,
     pos: Pos,
     test: &Expr,
     a: &Expr,
@@ -205,7 +205,7 @@ fn arguments<'s>(
     alloc: Global,
     names: &Names,
     scope: &'s Scope,
-    literals: &mut usize,
+    literals: &mut LiteralCount,
     pos: Pos,
     parameters: &[ParameterType],
     es: &[Expr],
@@ -237,7 +237,7 @@ fn call_typed<'s>(
     alloc: Global,
     names: &Names,
     scope: &'s Scope,
-    literals: &mut usize,
+    literals: &mut LiteralCount,
     pos: Pos,
     name: usize,
     es: &[Expr],
@@ -264,7 +264,7 @@ fn subscript_typed<'s>(
     alloc: Global,
     names: &Names,
     scope: &'s Scope,
-    literals: &mut usize,
+    literals: &mut LiteralCount,
     pos: Pos,
     a: &Expr,
     b: &Expr,
@@ -286,7 +286,7 @@ fn after_typed<'s>(
     alloc: Global,
     names: &Names,
     scope: &'s Scope,
-    literals: &mut usize,
+    literals: &mut LiteralCount,
     pos: Pos,
     op: StepOp,
     a: &Expr,
@@ -308,7 +308,7 @@ fn before_typed<'s>(
     alloc: Global,
     names: &Names,
     scope: &'s Scope,
-    literals: &mut usize,
+    literals: &mut LiteralCount,
     pos: Pos,
     op: StepOp,
     a: &Expr,
@@ -330,7 +330,7 @@ fn prefix_typed<'s>(
     alloc: Global,
     names: &Names,
     scope: &'s Scope,
-    literals: &mut usize,
+    literals: &mut LiteralCount,
     pos: Pos,
     op: PrefixOp,
     a: &Expr,
@@ -352,7 +352,7 @@ fn sizeof_typed<'s>(
     alloc: Global,
     names: &Names,
     scope: &'s Scope,
-    literals: &mut usize,
+    literals: &mut LiteralCount,
     pos: Pos,
     a: &Expr,
 ) -> Result<Checked<'s>, Refusal>
@@ -361,7 +361,7 @@ fn sizeof_typed<'s>(
     ensures count { OnOk result (literals.new ≡ literals.old + length (strings (tree_of a.now))) }
 {
     match expression(alloc, names, scope, literals, a) {
-        Ok(a) => measured(pos, &a),
+        Ok(a) => measured(alloc, pos, &a),
         Err(refusal) => Err(refusal),
     }
 }
@@ -373,7 +373,7 @@ fn sizeof_type_typed<'s>(
     alloc: Global,
     names: &Names,
     scope: &'s Scope,
-    literals: &mut usize,
+    literals: &mut LiteralCount,
     pos: Pos,
     name: &TypeName,
 ) -> Result<Checked<'s>, Refusal>
@@ -382,7 +382,7 @@ fn sizeof_type_typed<'s>(
     ensures count { OnOk result (literals.new ≡ literals.old + length (strings_of_type (type_of name.now))) }
 {
     match type_named(alloc, names, scope, literals, name) {
-        Ok(named) => type_measured(pos, &named),
+        Ok(named) => type_measured(alloc, pos, &named),
         Err(refusal) => Err(refusal),
     }
 }
@@ -394,7 +394,7 @@ fn binary_typed<'s>(
     alloc: Global,
     names: &Names,
     scope: &'s Scope,
-    literals: &mut usize,
+    literals: &mut LiteralCount,
     pos: Pos,
     op: BinaryOp,
     a: &Expr,
@@ -417,7 +417,7 @@ fn assign_typed<'s>(
     alloc: Global,
     names: &Names,
     scope: &'s Scope,
-    literals: &mut usize,
+    literals: &mut LiteralCount,
     pos: Pos,
     op: AssignOp,
     a: &Expr,
@@ -443,7 +443,7 @@ pub fn expression<'s>(
     alloc: Global,
     names: &Names,
     scope: &'s Scope,
-    literals: &mut usize,
+    literals: &mut LiteralCount,
     e: &Expr,
 ) -> Result<Checked<'s>, Refusal>
     ensures ok { IfOk result (λ c. typing_at names.now literals.old scope.now (tree_of e.now) ≡ fine (checked_of c)) }

@@ -17,6 +17,7 @@ use ctypes::IntType;
 use srcset::{Fault, Names, Refusal};
 use std::alloc::Global;
 use tree::Expr;
+use typing_expressions::LiteralCount;
 use typing_scopes::Scope;
 
 /// The type and the value of a constant expression.
@@ -33,7 +34,7 @@ pub fn constant_value(
         Ok(()) => {}
         Err(refusal) => return Err(refusal),
     }
-    let mut literals = scope.literal_count();
+    let mut literals = LiteralCount::behind(alloc, scope.literals());
     match expression(alloc, names, scope, &mut literals, e) {
         Ok(x) => constant_worth(alloc, x),
         Err(refusal) => Err(refusal),

@@ -1,3 +1,4 @@
 mod Initialisers
 mod Items
+mod Lengths
 mod Objects

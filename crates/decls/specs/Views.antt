@@ -6,7 +6,7 @@ use Rattle.tree.specs.declared.declaration.ObjectDeclarator.{ObjectDeclarator}
 use Rattle.tree.specs.View.{option_init}
 use Rattle.typing_spec.specs.Scope.{Scope}
 use Rattle.typing_spec.specs.Declarations as typed
-use Rattle.decls.specs.declared.begun_objects.BegunObject.{BegunObject}
+use Rattle.decls.specs.declared.begun_object.BegunObject.{BegunObject}
 
 -- an object that has begun with this storage class and this declarator, in this scope
 abbrev pub begun_of : BegunObject → StorageClass → ObjectDeclarator → Scope → typed.Begun

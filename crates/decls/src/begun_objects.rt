@@ -13,6 +13,7 @@ ghost use Rattle.typing_scopes.specs.Scopes.{with_texts, meaning_of, option_bind
 ghost use Rattle.decls_linkage.specs.Views.{class_of};
 ghost use Rattle.decls.specs.Views.{begun_of};
 
+use crate::begun_object::BegunObject;
 use crate::copies::copied_type;
 use const_expr::BaseType;
 use decls_declarators::declared_type;
@@ -22,13 +23,6 @@ use std::alloc::Global;
 use tree::ObjectDeclarator;
 use typed_ast::{DeclaredType, Storage};
 use typing_scopes::{Binding, Meaning, Scope};
-
-/// An object whose name is in scope: its type, with an earlier declaration the composite type (6.2.7p4), and its storage.
-#[derive(Drop)]
-pub struct BegunObject {
-    pub declared: DeclaredType,
-    pub what: Storage,
-}
 
 /// The storage of the object that a name denotes.
 fn storage_in(meaning: &Meaning) -> Storage

@@ -13,11 +13,12 @@ ghost use Rattle.typing_spec.specs.Expressions as expressions;
 ghost use Rattle.typing_spec.specs.Declarations as typed;
 ghost use Rattle.typing_expressions.specs.Refused.{Tells};
 ghost use Rattle.typing_scopes.specs.Scopes.{with_texts, meaning_of, linkage_of, state_of};
+ghost use Rattle.decls_declarators.specs.Views.{Positive};
 ghost use Rattle.decls_linkage.specs.Views.{class_of};
 ghost use Rattle.decls.specs.Views.{begun_of};
 ghost use Rattle.decls.specs.inside.Parts.{size_given, past_given};
 
-use crate::begun_objects::BegunObject;
+use crate::begun_object::BegunObject;
 use crate::copies::copied_function;
 use crate::initialised_sizes::length_from;
 use const_expr::bytes_in;
@@ -48,14 +49,14 @@ fn widened(alloc: Global, length: usize, lengths: &[u32]) -> Result<Vec<u64>, Re
     Ok(wide)
 }
 
-/// An array of a number of such elements, within the limit. It is 801 where a `u32` cannot hold the number, as of no elements of a size
-/// greater than zero.
+/// An array of a number of such elements, within the limit.
 fn array_within(
     alloc: Global,
     pos: Pos,
     length: usize,
     element: &ObjectType,
 ) -> Result<ObjectType, Refusal>
+    requires { Positive element.now.lengths.items }
     ensures ok { IfOk result (λ t. object_type_of t ≡ type.array_of length (object_type_of element.now)) }
     ensures fits { OnOk result (expressions.too_large pos (type.array_of length (object_type_of element.now)) ≡ fine tt) }
     ensures err { IfErr result (λ r. Tells r (expressions.too_large pos (type.array_of length (object_type_of element.now)))) }
@@ -66,10 +67,7 @@ fn array_within(
     if bytes_in(element.element, &lengths) > OBJECT_LIMIT {
         return Err(broken(Code::ObjectSizeLimit, pos));
     }
-    let Ok(count) = u32::try_from(length) else {
-        return Err(Refusal::Memory);
-    };
-    match array_of(alloc, count, element) {
+    match array_of(alloc, length as u32, element) {
         Ok(object) => Ok(object),
         Err(_) => Err(Refusal::Memory),
     }
@@ -221,6 +219,7 @@ fn sized(
     element: &ObjectType,
     length: usize,
 ) -> Result<(), Refusal>
+    requires { Positive element.now.lengths.items }
     ensures ok { (t : Texts) → OnOk result (typed.sized (with_texts t scope.old) pos name (object_type_of element.now) length ≡ fine (with_texts t scope.new)) }
     ensures err { (t : Texts) → IfErr result (λ r. Tells r (typed.sized (with_texts t scope.old) pos name (object_type_of element.now) length)) }
 {
@@ -244,6 +243,7 @@ fn sized_by(
     element: &ObjectType,
     initialiser: &Initialiser,
 ) -> Result<(), Refusal>
+    requires { Positive element.now.lengths.items }
     ensures ok { OnOk result (size_given (with_texts names.now scope.old) pos name (object_type_of element.now) (init_of initialiser.now) ≡ fine (with_texts names.now scope.new)) }
     ensures err { IfErr result (λ r. Tells r (size_given (with_texts names.now scope.old) pos name (object_type_of element.now) (init_of initialiser.now))) }
 {

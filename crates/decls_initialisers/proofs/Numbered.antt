@@ -16,7 +16,7 @@ use Rattle.typing_scopes.specs.Scopes.{with_texts}
 use Rattle.typing_expressions.specs.Forms.{seen}
 use Rattle.typing_expressions.specs.Numbered.{numbered}
 use Rattle.const_expr.proofs.Numbered.{both_same, more, typing_same}
-use Rattle.decls_initialisers.specs.Numbered.{initialiser_at}
+use Rattle.decls_initialisers.specs.inside.Numbered.{initialiser_at}
 use Rattle.decls_initialisers.specs.inside.Braces.{initialisers_at}
 
 number_same : (t : List (List ℕ)) (k l : List ℕ) (s : Scope) → length k ≡ length l → (ty : IntType) (e : Tree) → number_from (seen t k s) ty e ≡ number_from (seen t l s) ty e

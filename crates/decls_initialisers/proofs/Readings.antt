@@ -18,7 +18,7 @@ use Rattle.typing_expressions.specs.Refused.{Tells}
 use Rattle.typing_expressions.specs.Numbered.{numbered}
 use Rattle.typing_expressions.proofs.Verdicts.{tells_left, tells_right}
 use Rattle.decls_declarators.proofs.Verdicts.{next_of, both_fine}
-use Rattle.decls_initialisers.specs.Numbered.{initialiser_at}
+use Rattle.decls_initialisers.specs.inside.Numbered.{initialiser_at}
 use Rattle.decls_initialisers.specs.inside.Braces.{initialisers_at}
 use Rattle.decls_initialisers.proofs.Numbered.{parts_past}
 

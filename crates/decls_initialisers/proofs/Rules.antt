@@ -27,7 +27,7 @@ use Rattle.decls_declarators.proofs.Verdicts.{then_tells, provided_left}
 use Rattle.decls_initialisers.specs.declared.forms.Wanted.{Wanted}
 use Rattle.decls_initialisers.specs.declared.forms.Wanted.TheVariants as wanted
 use Rattle.decls_initialisers.specs.Views.{wanted_of}
-use Rattle.decls_initialisers.specs.Numbered.{initialiser_at}
+use Rattle.decls_initialisers.specs.inside.Numbered.{initialiser_at}
 use Rattle.decls_initialisers.specs.inside.Braces.{braced_string, string_in}
 use Rattle.decls_initialisers.proofs.Shapes.{counted, sees_one, sees_list}
 

@@ -1,4 +1,3 @@
 pub mod Views
-pub mod Numbered
 pub mod inside
 pub use Rattle.typing_spec.specs.Initialisers

@@ -12,4 +12,4 @@ pub use constancy::constant_parts;
 pub use element_values::values;
 pub use forms::{Wanted, count_of, has_characters, is_character, text_alone, wanted_object};
 pub use literals::past_init;
-pub use typing::{initialiser, initialiser_behind};
+pub use typing::initialiser;

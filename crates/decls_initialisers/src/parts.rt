@@ -21,7 +21,7 @@ use srcset::{Code, Names, Pos, Refusal};
 use std::alloc::Global;
 use tree::{Expr, Initialiser as Init};
 use typed_ast::Initialiser;
-use typing_expressions::{Checked, broken, valued};
+use typing_expressions::{Checked, LiteralCount, broken, valued};
 use typing_scopes::Scope;
 
 /// The place of an expression.
@@ -44,7 +44,7 @@ pub(crate) fn number_from(
     alloc: Global,
     names: &Names,
     scope: &Scope,
-    literals: &mut usize,
+    literals: &mut LiteralCount,
     element: IntType,
     e: &Expr,
 ) -> Result<Initialiser, Refusal>
@@ -79,7 +79,7 @@ pub(crate) fn number_in_braces(
     alloc: Global,
     names: &Names,
     scope: &Scope,
-    literals: &mut usize,
+    literals: &mut LiteralCount,
     pos: Pos,
     element: IntType,
     parts: &[Init],
@@ -115,24 +115,10 @@ fn character_count(names: &Names, name: usize) -> usize
     }
 }
 
-/// The number of the next literal.
-fn next_number(literals: &mut usize) -> Result<usize, Refusal>
-    ensures ok { IfOk result (λ n. n ≡ literals.old) }
-    ensures count { OnOk result (literals.new ≡ literals.old + 1) }
-    ensures err { IfErr result (λ r. r ≡ Memory) }
-{
-    let number = *literals;
-    let Some(next) = number.checked_add(1) else {
-        return Err(Refusal::Memory);
-    };
-    *literals = next;
-    Ok(number)
-}
-
 /// The characters of a string literal (6.7.9p14).
 pub(crate) fn text_from(
     names: &Names,
-    literals: &mut usize,
+    literals: &mut LiteralCount,
     pos: Pos,
     room: Option<usize>,
     name: usize,
@@ -144,9 +130,9 @@ pub(crate) fn text_from(
     if exceeds(character_count(names, name), room) {
         return Err(broken(Code::TooManyInitialisers, pos));
     }
-    match next_number(literals) {
+    match literals.next() {
         Ok(number) => Ok(Initialiser::Text(number)),
-        Err(refusal) => Err(refusal),
+        Err(_) => Err(Refusal::Memory),
     }
 }
 
@@ -163,7 +149,7 @@ fn not_braced(top: bool, pos: Pos) -> Refusal
 /// A string literal for an array of characters, if it is one.
 fn text_if(
     names: &Names,
-    literals: &mut usize,
+    literals: &mut LiteralCount,
     characters: bool,
     top: bool,
     pos: Pos,
@@ -184,7 +170,7 @@ fn text_if(
 /// An array from an expression without braces (6.7.9p14).
 pub(crate) fn array_from(
     names: &Names,
-    literals: &mut usize,
+    literals: &mut LiteralCount,
     pos: Pos,
     element: IntType,
     room: Option<usize>,

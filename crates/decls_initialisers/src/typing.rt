@@ -12,7 +12,7 @@ ghost use Rattle.typing_spec.specs.Initialisers.{an_array};
 ghost use Rattle.typing_scopes.specs.Scopes.{with_texts};
 ghost use Rattle.typing_expressions.specs.Refused.{Tells};
 ghost use Rattle.decls_initialisers.specs.Views.{wanted_of, option_string};
-ghost use Rattle.decls_initialisers.specs.Numbered.{initialiser_at};
+ghost use Rattle.decls_initialisers.specs.inside.Numbered.{initialiser_at};
 ghost use Rattle.decls_initialisers.specs.inside.Braces.{braced_string, braced_text_at, initialisers_at, list_at};
 
 use crate::forms::{Wanted, exceeds, has_characters, text_alone, wanted_object};
@@ -22,7 +22,7 @@ use srcset::{Code, Names, Pos, Refusal};
 use std::alloc::Global;
 use tree::{Expr, Initialiser as Init};
 use typed_ast::Initialiser;
-use typing_expressions::broken;
+use typing_expressions::{LiteralCount, broken};
 use typing_scopes::Scope;
 
 /// An initialiser without braces.
@@ -30,7 +30,7 @@ fn without_braces(
     alloc: Global,
     names: &Names,
     scope: &Scope,
-    literals: &mut usize,
+    literals: &mut LiteralCount,
     pos: Pos,
     element: IntType,
     wanted: Wanted,
@@ -79,7 +79,7 @@ fn typed_parts(
     alloc: Global,
     names: &Names,
     scope: &Scope,
-    literals: &mut usize,
+    literals: &mut LiteralCount,
     pos: Pos,
     element: IntType,
     lengths: &[u32],
@@ -111,7 +111,7 @@ fn list(
     alloc: Global,
     names: &Names,
     scope: &Scope,
-    literals: &mut usize,
+    literals: &mut LiteralCount,
     pos: Pos,
     element: IntType,
     room: Option<usize>,
@@ -136,7 +136,7 @@ fn list(
 fn text_in_braces(
     alloc: Global,
     names: &Names,
-    literals: &mut usize,
+    literals: &mut LiteralCount,
     pos: Pos,
     room: Option<usize>,
     name: usize,
@@ -157,7 +157,7 @@ fn array_in_braces(
     alloc: Global,
     names: &Names,
     scope: &Scope,
-    literals: &mut usize,
+    literals: &mut LiteralCount,
     pos: Pos,
     element: IntType,
     room: Option<usize>,
@@ -176,17 +176,17 @@ fn array_in_braces(
     }
 }
 
-/// Types an initialiser after `*literals` string literals; the count grows by those in it. The elements of the initialised object have the type;
+/// Types an initialiser after this number of string literals; the count grows by those in it. The elements of the initialised object have the type;
 /// the place is that of its declarator, where `top` says that it is in no list, else that of the list. Else reports a constraint that it
 /// violates, or 801.
 ///
 /// Its recursion is as deep as the tree is.
 #[cycle(typing)]
-pub fn initialiser_behind(
+fn initialiser_behind(
     alloc: Global,
     names: &Names,
     scope: &Scope,
-    literals: &mut usize,
+    literals: &mut LiteralCount,
     pos: Pos,
     element: IntType,
     wanted: Wanted,
@@ -228,7 +228,7 @@ pub fn initialiser(
     ensures ok { IfOk result (λ i. typed.initialiser (with_texts names.now scope.now) pos element (wanted_of wanted.entry) top (init_of init.now) ≡ fine (initialiser_of i)) }
     ensures err { IfErr result (λ r. Tells r (typed.initialiser (with_texts names.now scope.now) pos element (wanted_of wanted.entry) top (init_of init.now))) }
 {
-    let mut literals = scope.literal_count();
+    let mut literals = LiteralCount::behind(alloc, scope.literals());
     initialiser_behind(
         alloc,
         names,

@@ -18,10 +18,10 @@ pub then_assoc : {A B C : Type 0} (r : Run A) (f : A → State → Run B) (g : B
 then_assoc (Goes a s) f g = refl
 then_assoc (Stops e s) f g = refl
 
-on_true : (P : Type 0) (b : Bool) → b ≡ true → OnTrue b P → P
+pub on_true : (P : Type 0) (b : Bool) → b ≡ true → OnTrue b P → P
 on_true P b e h = let Q : Bool → Type 0 = λ b. OnTrue b P in subst Q e h
 
-on_false : (P : Type 0) (b : Bool) → b ≡ false → OnFalse b P → P
+pub on_false : (P : Type 0) (b : Bool) → b ≡ false → OnFalse b P → P
 on_false P b e h = let Q : Bool → Type 0 = λ b. OnFalse b P in subst Q e h
 
 -- ---- a tick
@@ -64,7 +64,7 @@ unpaid (suc n) (suc j) s h = unpaid n j s (omega (arith, h))
 
 module _ {A : Type 0} (c : Course) (k n : ℕ) (scene : Scene) (next : Unit {0} → State → Run A) (rest : A → State → Run Found)
     (h : Leads c k scene (λ s. then_do (ticks n s) next) rest) where
-  all_taken : (k2 : ℕ) → k2 ≡ k + n → Leads c k2 scene (next tt) rest
+  pub all_taken : (k2 : ℕ) → k2 ≡ k + n → Leads c k2 scene (next tt) rest
   all_taken k2 e = record {
     is_left = λ m.
         let same : (n + m) + k ≡ m + k2 = omega (arith, e) in
@@ -88,10 +88,14 @@ module _ {A : Type 0} (c : Course) (k n : ℕ) (scene : Scene) (next : Unit {0} 
   idles_at limit spent e why.Elsewhere i = absurd i
 
   -- or too few are left
+  pub ticks_short : (limit : ℕ) (new : Clock) (b : Bool) → b ≡ false → OnFalse b (Idles new.why new.spent limit) → limit < k + n → k ≤ limit →
+      StopsBy c limit new.why new.spent scene
+  ticks_short limit new b off i short below =
+      idles_at limit new.spent (too_few limit below short) new.why (on_false (Idles new.why new.spent limit) b off i)
+
   pub no_ticks : (limit : ℕ) (new : Clock) (b : Bool) → b ≡ false → OnFalse b (Idles new.why new.spent limit) → OnFalse b (limit < k + n) → k ≤ limit →
       StopsBy c limit new.why new.spent scene
-  no_ticks limit new b off i short below =
-      idles_at limit new.spent (too_few limit below (on_false (limit < k + n) b off short)) new.why (on_false (Idles new.why new.spent limit) b off i)
+  no_ticks limit new b off i short = ticks_short limit new b off i (on_false (limit < k + n) b off short)
 
 -- the same number
 pub ticks_as : {A : Type 0} (c : Course) (k : ℕ) (scene : Scene) (next : Unit {0} → State → Run A) (rest : A → State → Run Found) (n m : ℕ) → n ≡ m →

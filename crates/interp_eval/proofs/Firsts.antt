@@ -1,7 +1,7 @@
 -- The results of initialisers.
-use Rattle.std.proofs.Common.{◌≡◌, ◌≤◌, ℕ, suc, ◌+◌, ◌-◌, ◌*◌, List, [], ◌∷◌, length, map, Option, Some, sym, ap, ◌∙◌, subst, arith}
-use Rattle.std.specs.Prelude.{true}
-use Rattle.std.proofs.lemmas.Bool.{and_parts}
+use Rattle.std.proofs.Common.{◌≡◌, ◌≤◌, ◌<◌, ◌⊎◌, inl, inr, ℕ, zero, suc, ◌+◌, ◌-◌, ◌*◌, List, [], ◌∷◌, drop, get_or, length, map, Option, Some, refl, sym, ap, ◌∙◌, subst, arith}
+use Rattle.std.specs.Prelude.{min, true}
+use Rattle.std.proofs.lemmas.Bool.{and_parts, cases_lt}
 use Rattle.ctypes.specs.declared.types.IntType.{IntType}
 use Rattle.typing_spec.specs.Types.{elements_in}
 use Rattle.typing_spec.specs.Program as typed
@@ -36,9 +36,56 @@ module _ (c : Course) (k : ℕ) (scene : Scene) (p : typed.Program) (t : IntType
       leads_as c k scene (all_initialised all t n i inner r p) (all_initialised all t m j inner r p) rest
       (λ s. ap (λ n. all_initialised all t n i inner r p s) e ∙ ap (λ i. all_initialised all t m i inner r p s) f) h
 
+-- ---- how many elements, up to a number
+
+counted_from : (ls : List ℕ) (i : ℕ) → i < length ls → elements_in (drop i ls) ≡ get_or ls i 0 * elements_in (drop (suc i) ls)
+counted_from [] i h = absurd (omega (arith, h))
+counted_from (n ∷ ls) zero h = refl
+counted_from (n ∷ ls) (suc i) h = counted_from ls i (omega (arith, h))
+
+no_length : (ls : List ℕ) (i : ℕ) → length ls ≤ i → elements_in (drop i ls) ≡ 1
+no_length [] zero h = refl
+no_length [] (suc i) h = refl
+no_length (n ∷ ls) zero h = absurd (omega (arith, h))
+no_length (n ∷ ls) (suc i) h = no_length ls i (omega (arith, h))
+
+-- a product of what is capped is capped alike
+capped : (a r most : ℕ) → min (min a most * r) most ≡ min (a * r) most
+capped a r most = by_size (cases_lt a most)
+  where
+    by_factor : (r : ℕ) → most ≤ a → min (min a most * r) most ≡ min (a * r) most
+    by_factor zero h =
+        let one : min a most * 0 ≡ 0 = grind arith in
+        let other : a * 0 ≡ 0 = grind arith in
+        ap (λ x. min x most) (one ∙ sym other)
+    by_factor (suc r) h =
+        let is : min a most ≡ most = omega (arith, h) in
+        let one : most ≤ most * suc r = grind arith in
+        let other : a ≤ a * suc r = grind arith in
+        ap (λ x. min (x * suc r) most) is ∙ omega (arith, h, one, other)
+
+    by_size : (a < most) ⊎ (most ≤ a) → min (min a most * r) most ≡ min (a * r) most
+    by_size (inl h) = let is : min a most ≡ a = omega (arith, h) in ap (λ x. min (x * r) most) is
+    by_size (inr h) = by_factor r h
+
+-- one length more
+pub one_counted : (ls : List ℕ) (i product next most whole : ℕ) → i < length ls → next ≡ min (product * get_or ls i 0) most →
+    min (product * elements_in (drop i ls)) most ≡ whole → min (next * elements_in (drop (i + 1) ls)) most ≡ whole
+one_counted ls i product next most whole h e all =
+    let rest = elements_in (drop (suc i) ls) in
+    let number : i + 1 ≡ suc i = omega arith in
+    let around : (product * get_or ls i 0) * rest ≡ product * (get_or ls i 0 * rest) = grind arith in
+    ap (λ k. min (next * elements_in (drop k ls)) most) number ∙ ap (λ x. min (x * rest) most) e ∙ capped (product * get_or ls i 0) rest most
+    ∙ ap (λ x. min x most) (around ∙ ap (λ x. product * x) (sym (counted_from ls i h))) ∙ all
+
+pub all_counted : (ls : List ℕ) (i product most whole : ℕ) → length ls ≤ i → min (product * elements_in (drop i ls)) most ≡ whole → min product most ≡ whole
+all_counted ls i product most whole h all =
+    let one : product * 1 ≡ product = grind arith in
+    ap (λ x. min x most) (sym one ∙ sym (ap (λ x. product * x) (no_length ls i h))) ∙ all
+
 -- as many ticks as elements
-pub as_many : (lengths inner : List ℕ) (k count n : ℕ) → inner ≡ lengths → count ≡ k → n ≡ count * elements_in inner → n ≡ k * elements_in lengths
-as_many lengths inner k count n e f g = g ∙ ap (λ k. k * elements_in inner) f ∙ ap (λ l. k * elements_in l) e
+pub as_many : (lengths inner : List ℕ) (k count : ℕ) → inner ≡ lengths → count ≡ k → count * elements_in inner ≡ k * elements_in lengths
+as_many lengths inner k count e f = ap (λ k. k * elements_in inner) f ∙ ap (λ l. k * elements_in l) e
 
 -- zeros behind the same number of parts
 pub clears_at : (c : Course) (k : ℕ) (scene : Scene) (r : Reference) (rest : Unit {0} → State → Run Found) (n m i j : ℕ) (inner : List ℕ) → n ≡ m → i ≡ j →

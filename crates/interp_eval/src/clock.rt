@@ -62,7 +62,7 @@ impl Clock {
     }
 
     /// A number of ticks, if they are left. If they are not, all that are left are taken.
-    pub fn ticks(&mut self, limit: u64, n: usize) -> bool
+    pub fn ticks(&mut self, limit: u64, n: u128) -> bool
         requires room { self.old.spent ≤ limit }
         ensures taken { OnTrue result (self.new.spent ≡ self.old.spent + n) }
         ensures idle { OnFalse result (Idles self.new.why self.new.spent limit) }
@@ -70,9 +70,8 @@ impl Clock {
         ensures here { result ≡ false → self.new.why ≢ why.Elsewhere }
         ensures spends { Spends self.old.spent self.new.spent limit }
     {
-        let n = n as u64;
-        if n <= limit - self.spent {
-            self.spent += n;
+        if n <= u128::from(limit - self.spent) {
+            self.spent += n as u64;
             true
         } else {
             self.spent = limit;

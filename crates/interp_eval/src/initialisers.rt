@@ -1,8 +1,9 @@
 //! The first values of automatic objects (6.7.9). Elements get theirs in their order, which 6.7.9p23 leaves open, and the zeros behind them come last.
 
-ghost use Rattle.std.specs.Prelude.{◌≡◌, ◌-◌, ◌≤◌, None, map, slice_get, true};
+ghost use Rattle.std.specs.Prelude.{◌≡◌, ◌*◌, ◌-◌, ◌^◌, ◌<◌, ◌≤◌, None, map, slice_get, true};
 ghost use Rattle.ctypes.specs.Types.{converted};
 ghost use Rattle.typing_spec.specs.Program as typed;
+ghost use Rattle.typing_spec.specs.Types.{elements_in};
 ghost use Rattle.typed_ast.specs.View.{initialiser_of, initialisers_of, value_of};
 ghost use Rattle.csem.specs.Machine.{Goes, stored, then_do, tick};
 ghost use Rattle.csem.specs.Statements.{first_length, inner_lengths, text_or_none};
@@ -16,7 +17,6 @@ use crate::clock::{Clock, Scope, Why};
 use crate::expressions::value;
 use ctypes::{IntType, convert};
 use interp_steps::elements::{clear, part, put_text};
-use interp_steps::initialisers::element_count;
 use interp_store::Reference;
 use interp_store::scene::Scene;
 use typed_ast::{Initialiser, Value};
@@ -68,6 +68,18 @@ fn text_of<'p>(literals: &'p [Vec<u8>], n: usize) -> &'p [u8]
     }
 }
 
+/// How many elements `count` rows of these lengths have, or the greatest number where they are more.
+fn element_count(count: usize, lengths: &[u32]) -> u128
+    ensures most { result ≤ count * elements_in lengths.now }
+    ensures exact { result < 2 ^ 128 - 1 → result ≡ count * elements_in lengths.now }
+{
+    let mut product = count as u128;
+    for n in lengths {
+        product = product.saturating_mul(u128::from(*n));
+    }
+    product
+}
+
 /// The element at `r` gets the value of an expression (6.7.9p11).
 fn first_value(
     scope: &Scope<'_>,
@@ -113,7 +125,7 @@ fn text(
         return None;
     }
     let count = first_of(of.lengths);
-    if !clock.ticks(scope.limit, count) {
+    if !clock.ticks(scope.limit, count as u128) {
         return None;
     }
     let text = text_of(scope.program.literals.as_slice(), n);
@@ -140,10 +152,7 @@ fn zeros(
 {
     let count = first_of(of.lengths).saturating_sub(first);
     let inner = inner_of(of.lengths);
-    let Ok(ticks) = element_count(count, inner) else {
-        return out_of_memory(clock);
-    };
-    if !clock.ticks(scope.limit, ticks) {
+    if !clock.ticks(scope.limit, element_count(count, inner)) {
         return None;
     }
     match clear(scene, scope.alloc, r, first, count, inner) {

@@ -1,8 +1,8 @@
 -- Elements made zero, one after the other.
-use Rattle.std.proofs.Common.{◌≡◌, ℕ, ℤ, zero, suc, ◌+◌, ◌-◌, ◌<◌, List, [], ◌∷◌, ◌++◌, drop, refl, sym, ap, ◌∙◌, arith}
-use Rattle.std.specs.Prelude.{slice_get}
+use Rattle.std.proofs.Common.{◌≡◌, ℕ, ℤ, zero, suc, ◌+◌, ◌-◌, ◌<◌, ◌≤◌, List, [], ◌∷◌, ◌++◌, drop, refl, sym, subst, ap, ◌∙◌, arith}
+use Rattle.std.specs.Prelude.{Option, None, Some, min, option_map, pos, slice_get}
 use Rattle.ctypes.specs.declared.types.IntType.{IntType}
-use Rattle.csem.specs.Store.{Reference, into}
+use Rattle.csem.specs.Store.{Array, Element, Reference, Row, Store, Tree, and_part, at_path, change_part, filled, into, length_of, no_parts, part_of, parts, put_at, put_in, tree_at}
 use Rattle.csem.specs.Machine.{State, stored}
 use Rattle.csem.specs.Statements.{characters, zeros}
 use Rattle.interp_store.specs.layer.Frames as on
@@ -22,14 +22,92 @@ initialised_in fs s t e = ap (λ fs. moves fs (leaves on.initialised) s) (nothin
 
 -- ---- zeros
 
+-- an array has no part behind its last one
+no_part : (row : Row) (i : ℕ) (change : Tree → Tree) → parts row ≤ i → change_part row i change ≡ row
+no_part no_parts i change h = refl
+no_part (and_part t row) zero change h = absurd (omega (arith, h))
+no_part (and_part t row) (suc i) change h = ap (and_part t) (no_part row i change (omega (arith, h)))
+
+same_part : (row : Row) (j : ℕ) (change : Tree → Tree) → ((t : Tree) → part_of row j ≡ Some t → change t ≡ t) → change_part row j change ≡ row
+same_part no_parts j change h = refl
+same_part (and_part t row) zero change h = ap (λ t. and_part t row) (h t refl)
+same_part (and_part t row) (suc j) change h = ap (and_part t) (same_part row j change h)
+
+none_in : (path : List ℕ) (i : ℕ) (new t : Tree) → length_of (at_path (Some t) path) ≤ i → put_at (path ++ i ∷ []) new t ≡ t
+none_in [] i new (Element v) h = refl
+none_in [] i new (Array row) h = ap Array (no_part row i (put_at [] new) h)
+none_in (j ∷ path) i new (Element v) h = refl
+none_in (j ∷ path) i new (Array row) h =
+    ap Array (same_part row j (put_at (path ++ i ∷ []) new) (λ t e. none_in path i new t (subst (λ o. length_of (at_path o path) ≤ i) e h)))
+
+none_at : (store : Store) (x : ℕ) (path : List ℕ) (i : ℕ) (new : Tree) → length_of (at_path (slice_get store x) path) ≤ i → put_in store x (path ++ i ∷ []) new ≡ store
+none_at [] x path i new h = refl
+none_at (t ∷ store) zero path i new h = ap (λ t. t ∷ store) (none_in path i new t h)
+none_at (t ∷ store) (suc x) path i new h = ap (λ l. t ∷ l) (none_at store x path i new h)
+
+-- an array keeps its length
+as_many_parts : (row : Row) (i : ℕ) (change : Tree → Tree) → parts (change_part row i change) ≡ parts row
+as_many_parts no_parts i change = refl
+as_many_parts (and_part t row) zero change = refl
+as_many_parts (and_part t row) (suc i) change = ap suc (as_many_parts row i change)
+
+changed_part : (row : Row) (j : ℕ) (change : Tree → Tree) → part_of (change_part row j change) j ≡ option_map change (part_of row j)
+changed_part no_parts j change = refl
+changed_part (and_part t row) zero change = refl
+changed_part (and_part t row) (suc j) change = changed_part row j change
+
+same_length : (o : Option Tree) (path : List ℕ) (change : Tree → Tree) → ((t : Tree) → length_of (at_path (Some (change t)) path) ≡ length_of (at_path (Some t) path)) →
+    length_of (at_path (option_map change o) path) ≡ length_of (at_path o path)
+same_length None path change h = refl
+same_length (Some t) path change h = h t
+
+length_kept : (path : List ℕ) (i : ℕ) (new t : Tree) → length_of (at_path (Some (put_at (path ++ i ∷ []) new t)) path) ≡ length_of (at_path (Some t) path)
+length_kept [] i new (Element v) = refl
+length_kept [] i new (Array row) = as_many_parts row i (put_at [] new)
+length_kept (j ∷ path) i new (Element v) = refl
+length_kept (j ∷ path) i new (Array row) =
+    ap (λ o. length_of (at_path o path)) (changed_part row j (put_at (path ++ i ∷ []) new)) ∙ same_length (part_of row j) path (put_at (path ++ i ∷ []) new) (length_kept path i new)
+
+length_stays : (store : Store) (x : ℕ) (path : List ℕ) (i : ℕ) (new : Tree) →
+    length_of (at_path (slice_get (put_in store x (path ++ i ∷ []) new) x) path) ≡ length_of (at_path (slice_get store x) path)
+length_stays [] x path i new = refl
+length_stays (t ∷ store) zero path i new = length_kept path i new t
+length_stays (t ∷ store) (suc x) path i new = length_stays store x path i new
+
+none_cleared : (count first : ℕ) (lengths : List ℕ) (r : Reference) (s : State) → length_of (tree_at s.store r) ≤ first → s ≡ zeros count first lengths r s
+none_cleared zero first lengths r s h = refl
+none_cleared (suc count) first lengths r s h =
+    let same : one_zero first lengths r s ≡ s = ap (λ (l : Store). record s { store = l }) (none_at s.store r.object r.path first (filled (Some (pos 0)) lengths) h) in
+    none_cleared count (suc first) lengths r s (omega (arith, h)) ∙ sym (ap (zeros count (suc first) lengths r) same)
+
+-- as far as the array has parts
+within : (k count first : ℕ) (lengths : List ℕ) (r : Reference) (s : State) → k ≤ count → ((k < count) → length_of (tree_at s.store r) ≤ first + k) →
+    zeros k first lengths r s ≡ zeros count first lengths r s
+within zero count first lengths r s h rest = by_count count rest
+  where
+    by_count : (count : ℕ) → ((0 < count) → length_of (tree_at s.store r) ≤ first + 0) → s ≡ zeros count first lengths r s
+    by_count zero rest = refl
+    by_count (suc count) rest = none_cleared (suc count) first lengths r s (omega (arith, rest (omega arith)))
+within (suc k) zero first lengths r s h rest = absurd (omega (arith, h))
+within (suc k) (suc count) first lengths r s h rest =
+    within k count (suc first) lengths r (one_zero first lengths r s) (omega (arith, h))
+    (λ l. let as_long = length_stays s.store r.object r.path first (filled (Some (pos 0)) lengths) in omega (arith, as_long, rest (omega (arith, l))))
+
+pub all_cleared : (count first end room size : ℕ) (lengths : List ℕ) (r : Reference) (s : State) → size ≡ length_of (tree_at s.store r) → room ≡ size - first → end ≡ min count room →
+    zeros end first lengths r s ≡ zeros count first lengths r s
+all_cleared count first end room size lengths r s long left is = within end count first lengths r s (omega (arith, is)) (λ h. omega (arith, is, left, long, h))
+
+pub none_left : (lengths : List ℕ) (r : Reference) (first i count : ℕ) (s whole : State) → count ≤ i → zeros (count - i) (first + i) lengths r s ≡ whole → s ≡ whole
+none_left lengths r first i count s whole h all = let none : count - i ≡ 0 = omega (arith, h) in sym (ap (λ k. zeros k (first + i) lengths r s) none) ∙ all
+
 -- one element more, from number a on
-pub one_cleared : (lengths : List ℕ) (r : Reference) (a i count n : ℕ) (s t whole : State) → i < count → n ≡ a + i → t ≡ one_zero n lengths r s →
+pub one_cleared : (lengths : List ℕ) (r : Reference) (a i count : ℕ) (s t whole : State) → i < count → t ≡ one_zero (a + i) lengths r s →
     zeros (count - i) (a + i) lengths r s ≡ whole → zeros (count - (i + 1)) (a + (i + 1)) lengths r t ≡ whole
-one_cleared lengths r a i count n s t whole h at e all =
+one_cleared lengths r a i count s t whole h e all =
     let left : count - i ≡ suc (count - (i + 1)) = omega arith in
     let number : a + (i + 1) ≡ suc (a + i) = omega arith in
     ap (λ x. zeros (count - (i + 1)) x lengths r t) number
-    ∙ ap (λ t. zeros (count - (i + 1)) (suc (a + i)) lengths r t) (e ∙ ap (λ n. one_zero n lengths r s) at)
+    ∙ ap (zeros (count - (i + 1)) (suc (a + i)) lengths r) e
     ∙ sym (ap (λ k. zeros k (a + i) lengths r s) left) ∙ all
 
 -- one character

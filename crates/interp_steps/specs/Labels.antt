@@ -1,5 +1,5 @@
 -- The result of the code's search for the labels of a switch (6.8.4.2).
-use Rattle.std.specs.Prelude.{ℤ, List, [], ◌∷◌, map, Option, Some, None}
+use Rattle.std.specs.Prelude.{ℤ, List, [], ◌∷◌, ◌+◌, ◌-◌, ◌<◌, ◌^◌, length, map, Option, Some, None, ⊤}
 use Rattle.std.specs.Borrow.{Bor}
 use Rattle.typing_spec.specs.Types as type
 use Rattle.typing_spec.specs.Program as typed
@@ -29,3 +29,8 @@ abbrev pub comes_to : List type.ObjectType → ℤ → typed.Statements → Soug
 comes_to objects v all (sought.Test c more n default) s =
     moves [] (enters (on.case_test objects v c (labels_of (statements_of (map statement_of more.now))) n default all)) s
 comes_to objects v all (sought.Jump label) s = jumps objects label all s
+
+-- the number of a case that is tested and those of the labels after it are numbers that memory has
+abbrev pub HasRoom : Sought → Type 0
+HasRoom (sought.Test c more n default) = n + length more.now < 2 ^ 64 - 1
+HasRoom (sought.Jump label) = ⊤

@@ -70,7 +70,7 @@ fn clear_part(
     }
 }
 
-/// `count` elements or rows of the array at `r`, from `first` on, become zero (6.7.9p10, p21).
+/// `count` elements or rows of the array at `r`, from `first` on, become zero (6.7.9p10, p21), as far as it has them.
 ///
 /// Errors: memory ran out.
 pub fn clear(
@@ -84,11 +84,9 @@ pub fn clear(
     ensures ok { (o : Outside) → OnOk result (state_in scene.new o ≡ zeros count first lengths.now (reference_of r.now) (state_in scene.old o)) }
     ensures err { IfErr result (λ e. e ≡ Memory) }
 {
-    for i in 0..count {
-        let Some(n) = first.checked_add(i) else {
-            return Err(Stop::Memory);
-        };
-        match clear_part(scene, alloc, r, n, lengths) {
+    let end = count.min(scene.store.length(r).saturating_sub(first));
+    for i in 0..end {
+        match clear_part(scene, alloc, r, first + i, lengths) {
             Ok(()) => {}
             Err(stop) => return Err(stop),
         }

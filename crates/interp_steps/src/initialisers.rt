@@ -1,6 +1,6 @@
 //! Initialisers (6.7.9).
 
-ghost use Rattle.std.specs.Prelude.{◌≡◌, ◌*◌, ◌-◌, suc, IfErr, IfOk, map, slice_get};
+ghost use Rattle.std.specs.Prelude.{◌≡◌, ◌+◌, ◌*◌, ◌-◌, ◌<◌, ◌^◌, suc, IfErr, IfOk, length, map, slice_get};
 ghost use Rattle.typing_spec.specs.Types.{elements_in};
 ghost use Rattle.typed_ast.specs.View.{initialiser_of, initialisers_of, value_of};
 ghost use Rattle.csem.specs.Statements.{characters, first_length, inner_lengths, text_or_none, zeros};
@@ -35,7 +35,7 @@ use typed_ast::{Initialiser, Value};
 /// How many elements `count` rows of these lengths have.
 ///
 /// Errors: memory ran out, where they are more than it has numbers.
-pub fn element_count(count: usize, lengths: &[u32]) -> Result<usize, Stop>
+fn element_count(count: usize, lengths: &[u32]) -> Result<usize, Stop>
     ensures ok { IfOk result (λ n. n ≡ count * elements_in lengths.now) }
     ensures err { IfErr result (λ e. e ≡ Memory) }
 {
@@ -169,20 +169,21 @@ fn end_list<'p>(
 /// A braced list, from a part on (6.7.9p17).
 ///
 /// Errors: memory ran out.
-fn list<'p>(machine: &mut Machine<'p>, l: Listed<'p>) -> Result<Step<'p>, Stop>
-    ensures takes { Takes (λ p s. listed p (initialisers_of (map initialiser_of l.entry.more.now))
-        l.entry.ty l.entry.count l.entry.number l.entry.lengths.now (reference_of l.entry.array) s) machine.old result machine.new }
+fn list<'p>(
+    machine: &mut Machine<'p>,
+    all: &'p [Initialiser],
+    ty: IntType,
+    count: usize,
+    number: usize,
+    lengths: &'p [u32],
+    array: Reference,
+) -> Result<Step<'p>, Stop>
+    requires room { number + length all.now < 2 ^ 64 }
+    ensures takes { Takes (λ p s. listed p (initialisers_of (map initialiser_of all.now)) ty count number lengths.now (reference_of array) s)
+        machine.old result machine.new }
     ensures program { machine.new.program ≡ machine.old.program }
 {
-    let Listed {
-        more,
-        ty,
-        count,
-        number,
-        lengths,
-        array,
-    } = l;
-    match more.split_first() {
+    match all.split_first() {
         None => end_list(machine, count, number, lengths, array),
         Some((x, more)) => match part(machine.alloc, &array, number) {
             Ok(r) => {
@@ -246,14 +247,12 @@ pub fn enter_initialiser<'p>(
         Initialiser::InBraces(i) => Ok(Step::Enters(Node::Initialiser(i, ty, lengths, r))),
         Initialiser::List(all) => list(
             machine,
-            Listed {
-                more: all.as_slice(),
-                ty,
-                count: first_of(lengths),
-                number: 0,
-                lengths: inner_of(lengths),
-                array: r,
-            },
+            all.as_slice(),
+            ty,
+            first_of(lengths),
+            0,
+            inner_of(lengths),
+            r,
         ),
     }
 }
@@ -266,20 +265,15 @@ fn next_part<'p>(machine: &mut Machine<'p>, l: Listed<'p>) -> Result<Step<'p>, S
         l.entry.ty (l.entry.count - 1) (suc l.entry.number) l.entry.lengths.now (reference_of l.entry.array) s) machine.old result machine.new }
     ensures program { machine.new.program ≡ machine.old.program }
 {
-    match l.number.checked_add(1) {
-        Some(number) => list(
-            machine,
-            Listed {
-                more: l.more,
-                ty: l.ty,
-                count: l.count.saturating_sub(1),
-                number,
-                lengths: l.lengths,
-                array: l.array,
-            },
-        ),
-        None => Err(Stop::Memory),
-    }
+    list(
+        machine,
+        l.more,
+        l.ty,
+        l.count.saturating_sub(1),
+        l.number + 1,
+        l.lengths,
+        l.array,
+    )
 }
 
 /// The step of a frame once a first value is given.

@@ -1,16 +1,14 @@
 //! The labels of a `switch` (6.8.4.2).
 
-ghost use Rattle.std.specs.Prelude.{◌≡◌, IfErr, IfOk, Some, ℤ, List, length, map};
+ghost use Rattle.std.specs.Prelude.{◌≡◌, ◌+◌, ◌<◌, ◌^◌, Some, ℤ, List, length, map};
 ghost use Rattle.typing_spec.specs.Types as type;
 ghost use Rattle.typing_spec.specs.Program as typed;
 ghost use Rattle.typed_ast.specs.View.{statement_of, statements_of};
 ghost use Rattle.csem.specs.Machine.{State};
 ghost use Rattle.csem.specs.Statements.{labels_at, labels_of};
 ghost use Rattle.interp_store.specs.layer.Steps.{from_label, sought};
-ghost use Rattle.interp_store.specs.declared.stop.Stop.TheVariants.{Memory};
-ghost use Rattle.interp_steps.specs.Labels.{label_kind, begins_at, comes_to};
+ghost use Rattle.interp_steps.specs.Labels.{HasRoom, label_kind, begins_at, comes_to};
 
-use interp_store::stop::Stop;
 use typed_ast::Statement;
 
 /// The kind of label that a statement is.
@@ -79,29 +77,25 @@ pub fn find_label<'p>(
 }
 
 /// The next case to test, the labels from number `n` on being left (6.8.4.2p5).
-///
-/// Errors: memory ran out.
-pub fn seek<'p>(all: &'p [Statement], n: usize, default: Option<usize>) -> Result<Sought<'p>, Stop>
-    ensures ok { (objects : List type.ObjectType) (v : ℤ) (whole : typed.Statements) (s : State) →
-        IfOk result (λ x. sought objects v (labels_of (statements_of (map statement_of all.now))) n default whole s ≡ comes_to objects v whole x s) }
-    ensures err { IfErr result (λ e. e ≡ Memory) }
+pub(crate) fn seek<'p>(all: &'p [Statement], n: usize, default: Option<usize>) -> Sought<'p>
+    requires room { n + length all.now < 2 ^ 64 }
+    ensures sought { (objects : List type.ObjectType) (v : ℤ) (whole : typed.Statements) (s : State) →
+        sought objects v (labels_of (statements_of (map statement_of all.now))) n default whole s ≡ comes_to objects v whole result s }
+    ensures room { HasRoom result }
 {
     let mut number = n;
     let mut passed = default;
     let mut rest = all;
     while let Some((a, more)) = rest.split_first() {
         match label_of(a) {
-            Label::Case(c) => return Ok(Sought::Test(c, more, number, passed)),
+            Label::Case(c) => return Sought::Test(c, more, number, passed),
             Label::Default => {
                 passed = Some(number);
-                let Some(next) = number.checked_add(1) else {
-                    return Err(Stop::Memory);
-                };
-                number = next;
+                number += 1;
             }
             Label::None => {}
         }
         rest = more;
     }
-    Ok(Sought::Jump(passed))
+    Sought::Jump(passed)
 }

@@ -1,6 +1,6 @@
 //! `switch` (6.8.4.2).
 
-ghost use Rattle.std.specs.Prelude.{◌≡◌, None, map};
+ghost use Rattle.std.specs.Prelude.{◌≡◌, ◌+◌, ◌<◌, ◌^◌, None, length, map};
 ghost use Rattle.typed_ast.specs.View.{object_type_of, statement_of, statements_of};
 ghost use Rattle.csem.specs.Statements.{labels_of};
 ghost use Rattle.interp_store.specs.layer.Agrees.{Takes};
@@ -71,12 +71,13 @@ fn go_on<'p>(
     default: Option<usize>,
     all: &'p Vec<Statement>,
 ) -> Result<Step<'p>, Stop>
+    requires room { number + length more.now < 2 ^ 64 }
     ensures takes { Takes (λ p s. sought (map object_type_of objects.now) value (labels_of (statements_of (map statement_of more.now))) number default
         (statements_of (map statement_of all.now.items)) s) machine.old result machine.new }
     ensures program { machine.new.program ≡ machine.old.program }
 {
     match seek(more, number, default) {
-        Ok(Sought::Test(case, more, number, default)) => {
+        Sought::Test(case, more, number, default) => {
             let test = CaseTest {
                 objects,
                 value,
@@ -88,8 +89,7 @@ fn go_on<'p>(
             };
             Ok(Step::Enters(Node::CaseTest(test)))
         }
-        Ok(Sought::Jump(label)) => jump(machine, objects, label, all),
-        Err(stop) => Err(stop),
+        Sought::Jump(label) => jump(machine, objects, label, all),
     }
 }
 
@@ -134,8 +134,13 @@ pub fn enter_case<'p>(machine: &mut Machine<'p>, t: CaseTest<'p>) -> Result<Step
     if same_value(t.case, t.value) {
         return jump(machine, t.objects, Some(t.number), t.all);
     }
-    match t.number.checked_add(1) {
-        Some(next) => go_on(machine, t.objects, t.value, t.more, next, t.default, t.all),
-        None => Err(Stop::Memory),
-    }
+    go_on(
+        machine,
+        t.objects,
+        t.value,
+        t.more,
+        t.number + 1,
+        t.default,
+        t.all,
+    )
 }

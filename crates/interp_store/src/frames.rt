@@ -2,6 +2,8 @@
 //!
 //! Statements are borrowed in their boxes and vectors where they can be: a type that reaches too many fields is rejected.
 
+ghost use Rattle.std.specs.Prelude.{◌+◌, ◌-◌, ◌<◌, ◌^◌, length};
+
 use crate::reference::Reference;
 use ctypes::{BinOp, IntType};
 use srcset::Pos;
@@ -83,7 +85,7 @@ pub struct SwitchBlock<'p> {
 }
 
 /// A label of a `switch` whose value is tested: its number, the statements after it, and the number of `default`, if that was
-/// passed.
+/// passed. Its number and those of the labels after it are numbers that memory has.
 #[derive(Clone, Copy)]
 pub struct CaseTest<'p> {
     pub objects: &'p [ObjectType],
@@ -93,6 +95,7 @@ pub struct CaseTest<'p> {
     pub number: usize,
     pub default: Option<usize>,
     pub all: &'p Vec<Statement>,
+    ghost room: { number + length more.now < 2 ^ 64 - 1 },
 }
 
 /// The operation that follows once a number of ticks is spent.
@@ -196,8 +199,8 @@ pub enum FlowFrame<'p> {
     ForStarts(Option<&'p Value>, Loop<'p>),
 }
 
-/// A braced list: the rest of it, the type of its elements, how many elements or rows are left and the number of the first of
-/// these, and where they lie (6.7.9p17).
+/// A braced list that waits for a part: the parts after that, the type of its elements, how many elements or rows are left with the part and
+/// the number of the part, and where they lie (6.7.9p17). Its number and those of the parts after it are numbers that memory has.
 #[derive(Drop)]
 pub struct Listed<'p> {
     pub more: &'p [Initialiser],
@@ -206,6 +209,7 @@ pub struct Listed<'p> {
     pub number: usize,
     pub lengths: &'p [u32],
     pub array: Reference,
+    ghost room: { number + length more.now < 2 ^ 64 - 1 },
 }
 
 /// A frame that waits for a first value.

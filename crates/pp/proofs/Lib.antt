@@ -2,6 +2,7 @@ mod Rows
 pub mod TextLemmas
 pub mod GroupLemmas
 pub mod GuardLemmas
+pub mod NearLemmas
 pub mod StateLemmas
 pub mod RestLemmas
 pub mod FileLemmas

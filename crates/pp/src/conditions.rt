@@ -1,5 +1,7 @@
 //! Which branches of conditionals are taken (ISO/IEC 9899:2011 6.10.1).
-ghost use Rattle.std.specs.Prelude.{◌≡◌, ◌<◌, ◌+◌, ◌&&◌, ℕ, codes, length, IfOk, IfErr, OnOk, Some};
+#![tactic(auto, using(crate::proofs::NearLemmas::first_near))]
+
+ghost use Rattle.std.specs.Prelude.{◌≡◌, ◌<◌, ◌+◌, ◌&&◌, ℕ, codes, length, All, IfOk, IfErr, OnOk, Some};
 ghost use Rattle.srcset.specs.NameTable.{Texts, KeepsNumbers};
 ghost use Rattle.srcset.specs.declared.refusal.Refusal.TheVariants.{At};
 ghost use Rattle.srcset.specs.declared.code.Code.TheVariants.{BadDirective, NotConstantCondition};
@@ -8,7 +10,7 @@ ghost use Rattle.pp_expand.specs.Expands.{HaveFiles};
 ghost use Rattle.pp.specs.Phase4.{State as Done, truth_token, is_macro, name_operand, operand_of, defined_resolved, condition_by, macro_asked, else_asked, branch_taken, else_checked, end_checked, presume, Around};
 ghost use Rattle.pp.specs.Rest.{next_branch};
 ghost use Rattle.pp.specs.Held.{Agrees, IsSound};
-ghost use Rattle.pp.specs.inside.Stepping.{Asks, Does, line_with, operand_meant, PutsResolved, Resolves, IsUnresolved};
+ghost use Rattle.pp.specs.inside.Stepping.{IsNear, Asks, Does, line_with, operand_meant, PutsResolved, Resolves, IsUnresolved};
 
 use crate::conditionals::BranchState;
 use crate::state::{State, bad_directive};
@@ -164,7 +166,8 @@ fn condition<'a>(
     at: Pos,
     names: &Names,
 ) -> Result<bool, Refusal>
-    requires { IsSound names.now state.old }
+    requires sound { IsSound names.now state.old }
+    requires near { All IsNear further.now }
     ensures asks { (texts : Texts) (s : Done) → KeepsNumbers names.now texts → Agrees names.now state.old s → Asks s.given result names.now state.new (condition_by texts at (defined_resolved 0 s (presume s further.now)) s) }
     ensures sound { OnOk result (IsSound names.now state.new) }
     ensures given { state.new.given ≡ state.old.given }
@@ -217,7 +220,8 @@ fn branch_taken<'a>(
     line: &[PpToken<'a>],
     names: &Names,
 ) -> Result<bool, Refusal>
-    requires { IsSound names.now state.old }
+    requires sound { IsSound names.now state.old }
+    requires near { All IsNear line.now }
     ensures asks { (texts : Texts) (end : ℕ) (s : Done) → KeepsNumbers names.now texts → Agrees names.now state.old s → Asks s.given result names.now state.new (branch_taken texts (line_with line.now end) s) }
     ensures sound { OnOk result (IsSound names.now state.new) }
     ensures given { state.new.given ≡ state.old.given }
@@ -225,7 +229,7 @@ fn branch_taken<'a>(
     let [hash, name, further @ ..] = line else {
         return Ok(false);
     };
-    let at = state.presumed.place(hash.pos())?;
+    let at = state.presumed.place(hash.pos());
     if is_spelled(name, b"ifdef") {
         return macro_asked(state, true, further, at, names);
     }
@@ -240,20 +244,22 @@ fn branch_taken<'a>(
 
 // Refused where anything follows an `#else`.
 fn check_else<'a>(state: &State<'a>, line: &[PpToken<'a>]) -> Result<(), Refusal>
+    requires { All IsNear line.now }
     ensures { (names : Texts) (end : ℕ) → Does result names state.now names state.now (else_checked (line_with line.now end)) }
 {
     if is_else(line) && line.len() > 2 {
-        return Err(bad_directive(state.presumed.place(place_of(line))?));
+        return Err(bad_directive(state.presumed.place(place_of(line))));
     }
     Ok(())
 }
 
 /// Refused where anything follows an `#endif`.
 pub fn check_end<'a>(state: &State<'a>, line: &[PpToken<'a>]) -> Result<(), Refusal>
+    requires { All IsNear line.now }
     ensures { (names : Texts) (end : ℕ) → Does result names state.now names state.now (end_checked (line_with line.now end)) }
 {
     if line.len() > 2 {
-        return Err(bad_directive(state.presumed.place(place_of(line))?));
+        return Err(bad_directive(state.presumed.place(place_of(line))));
     }
     Ok(())
 }
@@ -266,7 +272,8 @@ pub fn next_branch<'a>(
     before: BranchState,
     names: &Names,
 ) -> Result<BranchState, Refusal>
-    requires { IsSound names.now state.old }
+    requires sound { IsSound names.now state.old }
+    requires near { All IsNear line.now }
     ensures asks { (around : Around) (end : ℕ) (s : Done) → KeepsNumbers names.now around.texts → Agrees names.now state.old s → Asks s.given result names.now state.new (next_branch before around (line_with line.now end) s) }
     ensures sound { OnOk result (IsSound names.now state.new) }
     ensures given { state.new.given ≡ state.old.given }

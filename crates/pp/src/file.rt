@@ -1,5 +1,7 @@
 //! The lines of a file, one after another.
-ghost use Rattle.std.specs.Prelude.{◌≡◌, ◌&&◌, ℕ, [], false, not, drop, OnOk};
+#![tactic(auto, using(crate::proofs::NearLemmas::first_near))]
+
+ghost use Rattle.std.specs.Prelude.{◌≡◌, ◌&&◌, ℕ, [], false, not, drop, All, OnOk};
 ghost use Rattle.std.specs.List.{list_all};
 ghost use Rattle.srcset.specs.NameTable.{Texts, KeepsNumbers};
 ghost use Rattle.srcset.specs.declared.refusal.Refusal.TheVariants.{At};
@@ -12,7 +14,7 @@ ghost use Rattle.pp.specs.inside.Including.{is_include};
 ghost use Rattle.pp.specs.Rest.{nowhere, is_active, rest_done};
 ghost use Rattle.pp.specs.Held.{IsSound, Agrees};
 ghost use Rattle.pp.specs.Left.{Stands};
-ghost use Rattle.pp.specs.inside.Stepping.{line_with, role_meant, EndsOrGoes, RestsOrStops, StandsOrStops};
+ghost use Rattle.pp.specs.inside.Stepping.{IsNear, line_with, role_meant, EndsOrGoes, RestsOrStops, StandsOrStops};
 
 use crate::conditionals::{BranchState, Conditionals, Open};
 use crate::conditions::{check_end, next_branch};
@@ -51,11 +53,12 @@ fn opens<'a>(
 ) -> Result<(), Refusal>
     requires sound { IsSound names.now state.old }
     requires role { role_of line.now ≡ opens }
+    requires near { All IsNear line.now }
     ensures rests { (around : Around) (end : ℕ) (p : Parsed) (s : Done) → KeepsNumbers names.now around.texts → Agrees names.now state.old s → RestsOrStops s.given result names.now state.new around conditionals.new p (rest_done around conditionals.old (with_line opens (line_with line.now end) p) s) }
     ensures sound { OnOk result (IsSound names.now state.new) }
     ensures given { state.new.given ≡ state.old.given }
 {
-    let at = state.presumed.place(place_of(line))?;
+    let at = state.presumed.place(place_of(line));
     if conditionals.is_full() {
         return Err(Refusal::At {
             code: Code::NestingLimit,
@@ -80,11 +83,12 @@ fn divides<'a>(
 ) -> Result<(), Refusal>
     requires sound { IsSound names.now state.old }
     requires role { role_of line.now ≡ divides }
+    requires near { All IsNear line.now }
     ensures rests { (around : Around) (end : ℕ) (p : Parsed) (s : Done) → KeepsNumbers names.now around.texts → Agrees names.now state.old s → RestsOrStops s.given result names.now state.new around conditionals.new p (rest_done around conditionals.old (with_line divides (line_with line.now end) p) s) }
     ensures sound { OnOk result (IsSound names.now state.new) }
     ensures given { state.new.given ≡ state.old.given }
 {
-    let at = state.presumed.place(place_of(line))?;
+    let at = state.presumed.place(place_of(line));
     let Some(innermost) = conditionals.pop() else {
         return Err(unbalanced(at));
     };
@@ -106,9 +110,10 @@ fn closes<'a>(
     state: &State<'a>,
 ) -> Result<(), Refusal>
     requires role { role_of line.now ≡ closes }
+    requires near { All IsNear line.now }
     ensures rests { (names : Texts) (around : Around) (end : ℕ) (p : Parsed) (s : Done) → Agrees names state.now s → RestsOrStops s.given result names state.now around conditionals.new p (rest_done around conditionals.old (with_line closes (line_with line.now end) p) s) }
 {
-    let at = state.presumed.place(place_of(line))?;
+    let at = state.presumed.place(place_of(line));
     let Some(innermost) = conditionals.pop() else {
         return Err(unbalanced(at));
     };
@@ -133,6 +138,7 @@ fn directive_done<'a>(
     requires sound { IsSound names.old state.old }
     requires other { is_include line.now ≡ false }
     requires role { role_of line.now ≡ role_meant role }
+    requires near { All IsNear line.now }
     ensures rests { (around : Around) (p : Parsed) (s : Done) → KeepsNumbers names.new around.texts → Agrees names.old state.old s → RestsOrStops s.given result names.new state.new around file.new.conditionals p (rest_done around file.old.conditionals (with_line (role_meant role) (line_with line.now (first_end (drop index file.old.ends))) p) s) }
     ensures sound { OnOk result (IsSound names.new state.new) }
     ensures given { state.new.given ≡ state.old.given }
@@ -167,6 +173,7 @@ pub fn line_done<'a>(
     requires ended { (file.old.run.begun && not (is_text (role_of line.now))) ≡ false }
     requires idle { file.old.run.begun ≡ false → file.old.run.tokens ≡ [] }
     requires other { is_include line.now ≡ false }
+    requires near { All IsNear line.now }
     ensures stands { (around : Around) (p : Parsed) (o : Outcome Done) → KeepsNumbers names.new around.texts → Stands names.old state.old file.old.run around file.old.conditionals (with_line (role_of line.now) (line_with line.now (first_end (drop index file.old.ends))) p) o → StandsOrStops result names.new state.new file.new.run around file.new.conditionals p o }
     ensures sound { OnOk result (IsSound names.new state.new) }
     ensures given { state.new.given ≡ state.old.given }

@@ -1,5 +1,5 @@
 //! `#include` (ISO/IEC 9899:2011 6.10.2).
-ghost use Rattle.std.specs.Prelude.{◌≡◌, ◌++◌, [], ℕ, true, false, codes, Some, IfOk, IfErr, IfSome, OnOk};
+ghost use Rattle.std.specs.Prelude.{◌≡◌, ◌++◌, [], ℕ, true, false, codes, Some, All, IfOk, IfErr, IfSome, OnOk};
 ghost use Rattle.std.specs.Str.{byte};
 ghost use Rattle.srcset.specs.Headers.{header_of};
 ghost use Rattle.srcset.specs.NameTable.{Texts, KeepsNumbers, NumbersOnce};
@@ -10,7 +10,7 @@ ghost use Rattle.pp.specs.Phase4.{State as Done, Outcome, Enter, presume, built_
 ghost use Rattle.pp.specs.Left.{around_with, Stands};
 ghost use Rattle.pp.specs.inside.Including.{is_include, IsNumber, IsMeant, CanRead, EntersOrStops, IncludesOrStops, StandsOrWaits};
 ghost use Rattle.pp.specs.Held.{Agrees, IsSound};
-ghost use Rattle.pp.specs.inside.Stepping.{line_with};
+ghost use Rattle.pp.specs.inside.Stepping.{IsNear, line_with};
 
 use crate::file::OpenFile;
 use crate::line_directive::{inside, is_plain_string};
@@ -203,7 +203,8 @@ fn included<'a>(
     state: &mut State<'a>,
     names: &mut Names,
 ) -> Result<Source<'a>, Refusal>
-    requires { IsSound names.old state.old }
+    requires sound { IsSound names.old state.old }
+    requires near { All IsNear further.now }
     ensures includes { (texts : Texts) (s : Done) → KeepsNumbers names.new texts → Agrees names.old state.old s → IncludesOrStops s.given result names.new state.new set.now texts room (include_done texts (entered room set.now texts) at (presume s further.now) s) }
     ensures ok { IfOk result (CanRead names.new room) }
     ensures sound { OnOk result (IsSound names.new state.new) }
@@ -237,6 +238,7 @@ pub fn include_done<'a>(
     requires ended { file.now.run.begun ≡ false }
     requires idle { file.now.run.tokens ≡ [] }
     requires include { is_include line.now ≡ true }
+    requires near { All IsNear line.now }
     ensures waits { (texts : Texts) (end : ℕ) (p : Parsed) (o : Outcome Done) → KeepsNumbers names.new texts → Stands names.old state.old file.now.run (around_with room set.now texts) file.now.conditionals (with_line (role_of line.now) (line_with line.now end) p) o → StandsOrWaits result names.new state.new file.now set.now texts room p o }
     ensures ok { IfOk result (λ included. IfSome included (CanRead names.new room)) }
     ensures sound { OnOk result (IsSound names.new state.new) }
@@ -249,7 +251,7 @@ pub fn include_done<'a>(
     let [hash, _, further @ ..] = line else {
         return Ok(None);
     };
-    let at = state.presumed.place(hash.pos())?;
+    let at = state.presumed.place(hash.pos());
     let source = included(alloc, set, room, further, at, state, names)?;
     Ok(Some(source))
 }

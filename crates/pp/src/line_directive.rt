@@ -1,5 +1,5 @@
 //! `#line` (ISO/IEC 9899:2011 6.10.4).
-ghost use Rattle.std.specs.Prelude.{◌≡◌, ◌≤◌, [], ◌∷◌, ℕ, Some, OnOk};
+ghost use Rattle.std.specs.Prelude.{◌≡◌, ◌≤◌, [], ◌∷◌, ℕ, All, Some, OnOk};
 ghost use Rattle.std.specs.List.{list_all};
 ghost use Rattle.srcset.specs.NameTable.{KeepsNumbers, Texts};
 ghost use Rattle.phases.specs.Token.{Token};
@@ -7,9 +7,9 @@ ghost use Rattle.srcset.specs.declared.refusal.Refusal.TheVariants.{At};
 ghost use Rattle.srcset.specs.declared.code.Code.TheVariants.{BadLineDirective};
 ghost use Rattle.pp.specs.Phase4.{is_file_byte, is_file_text, is_plain_string, is_string_kind, inside, line_made, line_done, presume};
 ghost use Rattle.pp.specs.Held.{IsSound};
-ghost use Rattle.pp.specs.inside.Stepping.{Does, IsNextDigit, IsLineNumber};
+ghost use Rattle.pp.specs.inside.Stepping.{IsNear, Does, IsNextDigit, IsLineNumber};
 
-use crate::places::Presumed;
+use crate::places::{GivenLine, Presumed};
 use crate::state::State;
 use phases::{Kind, PpToken};
 use srcset::{Code, Names, Pos, Refusal};
@@ -37,7 +37,7 @@ fn with_digit(value: u32, byte: u8) -> Option<u32>
 }
 
 // The line that the digits give; `None` where they give none.
-fn line_number(text: &[u8]) -> Option<u32>
+fn line_number(text: &[u8]) -> Option<GivenLine>
     ensures { IsLineNumber result text.now }
 {
     let mut value = 0;
@@ -47,7 +47,11 @@ fn line_number(text: &[u8]) -> Option<u32>
         };
         value = next;
     }
-    if value == 0 { None } else { Some(value) }
+    if value == 0 {
+        None
+    } else {
+        Some(GivenLine::new(value))
+    }
 }
 
 /// The text between the quotes or brackets.
@@ -116,7 +120,7 @@ fn bad_line(at: Pos) -> Refusal
 fn rename<'a>(
     state: &mut State<'a>,
     end: u32,
-    line: u32,
+    line: GivenLine,
     name: &PpToken<'a>,
     at: Pos,
     names: &mut Names,
@@ -145,7 +149,7 @@ fn rename<'a>(
 fn renumber<'a>(
     state: &mut State<'a>,
     end: u32,
-    line: u32,
+    line: GivenLine,
     further: &[PpToken<'a>],
     at: Pos,
     names: &mut Names,
@@ -180,6 +184,7 @@ pub fn line_done<'a>(
     names: &mut Names,
 ) -> Result<(), Refusal>
     requires sound { IsSound names.old state.old }
+    requires near { All IsNear further.now }
     ensures does { (texts : Texts) → KeepsNumbers names.new texts → Does result names.old state.old names.new state.new (λ s. line_done texts end at (presume s further.now) s) }
     ensures sound { OnOk result (IsSound names.new state.new) }
     ensures given { state.new.given ≡ state.old.given }

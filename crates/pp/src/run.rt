@@ -1,8 +1,8 @@
 //! Text lines with no directive between.
-ghost use Rattle.std.specs.Prelude.{◌≡◌, ◌++◌, true, false, [], IfErr, OnOk};
+ghost use Rattle.std.specs.Prelude.{◌≡◌, ◌++◌, true, false, [], All, IfErr, OnOk};
 ghost use Rattle.srcset.specs.declared.refusal.Refusal.TheVariants.{Memory};
 ghost use Rattle.pp.specs.Held.{presumed_of};
-ghost use Rattle.pp.specs.inside.Stepping.{placed, behind_line};
+ghost use Rattle.pp.specs.inside.Stepping.{IsNear, placed, behind_line};
 
 use crate::places::Presumed;
 use phases::PpToken;
@@ -17,11 +17,12 @@ fn gather<'a>(
     presumed: Presumed,
     tokens: &mut Unexpanded<'a>,
 ) -> Result<(), Refusal>
+    requires { All IsNear line.now }
     ensures ok { OnOk result (tokens.new ≡ tokens.old ++ placed (presumed_of presumed) line.now) }
     ensures err { IfErr result (λ refusal. refusal ≡ Memory) }
 {
     for token in line {
-        let pos = presumed.place(token.pos())?;
+        let pos = presumed.place(token.pos());
         tokens.push(token.copy_at(token.space_before(), pos)?)?;
     }
     Ok(())
@@ -49,6 +50,7 @@ impl<'a> Run<'a> {
 
     /// Appends a line. A newline between two lines is white space (ISO/IEC 9899:2011 6.10.3p10).
     pub fn put_line(&mut self, line: &[PpToken<'a>], presumed: Presumed) -> Result<(), Refusal>
+        requires { All IsNear line.now }
         ensures begun { self.new.begun ≡ true }
         ensures ok { OnOk result (self.new.tokens ≡ self.old.tokens ++ placed (presumed_of presumed) (behind_line self.old.begun line.now)) }
         ensures err { IfErr result (λ refusal. refusal ≡ Memory) }
@@ -58,7 +60,7 @@ impl<'a> Run<'a> {
         let [first, further @ ..] = line else {
             return Ok(());
         };
-        let pos = presumed.place(first.pos())?;
+        let pos = presumed.place(first.pos());
         let space_before = later || first.space_before();
         self.tokens.push(first.copy_at(space_before, pos)?)?;
         gather(further, presumed, &mut self.tokens)

@@ -1,10 +1,11 @@
 //! Files that were read, so that one that is included again is passed over, or need not be scanned again.
-ghost use Rattle.std.specs.Prelude.{◌≡◌, ◌≤◌, length, slice_get, option_map, true, Ok, Err, IfOk, IfErr, IfSome, ◌⊎◌};
+ghost use Rattle.std.specs.Prelude.{◌≡◌, ◌≤◌, length, slice_get, option_map, true, All, Ok, Err, IfOk, IfErr, IfSome, ◌⊎◌};
 ghost use Rattle.srcset.specs.declared.refusal.Refusal.TheVariants.{Memory};
 ghost use Rattle.phases.specs.Lines.{scanned};
 ghost use Rattle.pp.specs.Phase4.{State as Done, max_tokens};
 ghost use Rattle.pp.specs.inside.Guards.{IsPassedOver, IsGuarded};
 ghost use Rattle.pp.specs.Held.{Agrees};
+ghost use Rattle.pp.specs.inside.Stepping.{IsNear};
 
 use crate::conditions::is_macro;
 use crate::guards::guard_of;
@@ -29,7 +30,7 @@ pub struct Scanned<'a> {
 }
 
 impl<'a> Model for Scanned<'a> {
-    ghost use Rattle.std.specs.Prelude.{◌≡◌, List, Ok};
+    ghost use Rattle.std.specs.Prelude.{◌≡◌, ◌≤◌, List, Ok, length};
     ghost use Rattle.phases.specs.Token.{Token};
     ghost use Rattle.phases.specs.Lines.{scanned};
 
@@ -37,7 +38,7 @@ impl<'a> Model for Scanned<'a> {
 
     ghost view = { λ s. s.lines.value };
 
-    ghost invariant = { λ s. scanned s.name s.bytes.now ≡ Ok s.lines.value };
+    ghost invariant = { λ s. (scanned s.name s.bytes.now ≡ Ok s.lines.value) × (length s.bytes.now ≤ 1048576) };
 }
 
 impl<'a> Scanned<'a> {
@@ -67,7 +68,8 @@ impl<'a> Scanned<'a> {
 
     /// The tokens of the line with this number, counted from 0. `None` where there are fewer lines.
     pub fn get(&self, index: usize) -> Option<&[PpToken<'a>]>
-        ensures { option_map (λ line. line.now) result ≡ slice_get self.now index }
+        ensures line { option_map (λ line. line.now) result ≡ slice_get self.now index }
+        ensures near { IfSome result (λ line. All IsNear line.now) }
     {
         self.lines.get(index)
     }

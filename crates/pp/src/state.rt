@@ -1,5 +1,5 @@
 //! The state of phase 4, and the effect on it of ends of runs and of directives.
-ghost use Rattle.std.specs.Prelude.{◌≡◌, ◌<◌, true, false, length, drop, codes, IfOk, IfErr, OnOk};
+ghost use Rattle.std.specs.Prelude.{◌≡◌, ◌<◌, true, false, length, drop, codes, All, IfOk, IfErr, OnOk};
 ghost use Rattle.srcset.specs.NameTable.{Texts, KeepsNumbers};
 ghost use Rattle.srcset.specs.declared.refusal.Refusal.TheVariants.{At};
 ghost use Rattle.srcset.specs.declared.code.Code.TheVariants.{BadDirective};
@@ -12,7 +12,7 @@ ghost use Rattle.pp.specs.Phase4.{State as Done, Enter, start, expand, presume, 
 ghost use Rattle.pp.specs.inside.Including.{is_include};
 ghost use Rattle.pp.specs.inside.Pending.{is_directive};
 ghost use Rattle.pp.specs.Held.{Agrees, IsSound};
-ghost use Rattle.pp.specs.inside.Stepping.{line_with, Gives, GivesFirst, StopsAs, Does};
+ghost use Rattle.pp.specs.inside.Stepping.{IsNear, line_with, Gives, GivesFirst, StopsAs, Does};
 
 use crate::ends::LineEnds;
 use crate::error_directive::refusal_of;
@@ -125,7 +125,8 @@ impl<'a> State<'a> {
         at: Pos,
         names: &mut Names,
     ) -> Result<(), Refusal>
-        requires { IsSound names.old self.old }
+        requires sound { IsSound names.old self.old }
+        requires near { All IsNear line.now }
         ensures does { Does result names.old self.old names.new self.new (λ s. with_macros s at (define s.macros (presume s line.now))) }
         ensures sound { OnOk result (IsSound names.new self.new) }
         ensures keeps { KeepsNumbers names.old names.new }
@@ -165,6 +166,7 @@ impl<'a> State<'a> {
     ) -> Result<(), Refusal>
         requires sound { IsSound names.old self.old }
         requires other { is_spelled (codes "include") name.now ≡ false }
+        requires near { All IsNear further.now }
         ensures does { (texts : Texts) (enter : Enter) → KeepsNumbers names.new texts → Does result names.old self.old names.new self.new (λ s. named texts enter name.now (presume s further.now) (first_end (drop index ends.old)) at s) }
         ensures sound { OnOk result (IsSound names.new self.new) }
         ensures keeps { KeepsNumbers names.old names.new }
@@ -202,6 +204,7 @@ impl<'a> State<'a> {
         requires sound { IsSound names.old self.old }
         requires other { is_include line.now ≡ false }
         requires hash { is_directive line.now ≡ true }
+        requires near { All IsNear line.now }
         ensures does { (texts : Texts) (enter : Enter) → KeepsNumbers names.new texts → Does result names.old self.old names.new self.new (directive_done texts enter (line_with line.now (first_end (drop index ends.old)))) }
         ensures sound { OnOk result (IsSound names.new self.new) }
         ensures keeps { KeepsNumbers names.old names.new }
@@ -211,7 +214,7 @@ impl<'a> State<'a> {
         let [hash, name, further @ ..] = line else {
             return Ok(());
         };
-        let at = self.presumed.place(hash.pos())?;
+        let at = self.presumed.place(hash.pos());
         if !is_identifier(name) {
             return Err(bad_directive(at));
         }

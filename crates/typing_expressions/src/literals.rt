@@ -2,7 +2,6 @@
 #![tactic(auto)]
 
 ghost use Rattle.std.specs.Prelude.{◌≡◌, ◌+◌, ◌-◌, ◌<◌, length, slice_get, IfErr, IfOk, OnOk, [], false};
-ghost use Rattle.srcset.specs.declared.refusal.Refusal.TheVariants.{Memory};
 ghost use Rattle.tree.specs.Tree.{string};
 ghost use Rattle.typing_spec.specs.Verdict.{fine};
 ghost use Rattle.typing_spec.specs.Scope.{Scope, or_empty};
@@ -15,6 +14,7 @@ ghost use Rattle.typing_expressions.specs.Forms.{checked_of};
 ghost use Rattle.typing_expressions.specs.Numbered.{typing_at};
 
 use crate::forms::{Checked, Elements, broken};
+use crate::literal_counts::LiteralCount;
 use ctypes::IntType;
 use srcset::{Code, Names, Pos, Refusal};
 use typed_ast::{Place, Storage};
@@ -61,25 +61,11 @@ fn literal<'s>(names: &Names, number: usize, pos: Pos, name: usize) -> Result<Ch
     Ok(array(pos, number, characters as u32 + 1))
 }
 
-/// The number of the next literal.
-fn next_number(literals: &mut usize) -> Result<usize, Refusal>
-    ensures ok { IfOk result (λ n. n ≡ literals.old) }
-    ensures count { OnOk result (literals.new ≡ literals.old + 1) }
-    ensures err { IfErr result (λ r. r ≡ Memory) }
-{
-    let number = *literals;
-    let Some(next) = number.checked_add(1) else {
-        return Err(Refusal::Memory);
-    };
-    *literals = next;
-    Ok(number)
-}
-
-/// A string literal (6.4.5p6) after `literals` others. Fails with 801 where their number is the maximum of `usize`.
+/// A string literal (6.4.5p6) after `literals` others.
 #[inline(never)]
 pub fn next_literal<'s>(
     names: &Names,
-    literals: &mut usize,
+    literals: &mut LiteralCount,
     pos: Pos,
     name: usize,
 ) -> Result<Checked<'s>, Refusal>
@@ -87,7 +73,7 @@ pub fn next_literal<'s>(
     ensures err { (s : Scope) → IfErr result (λ r. Tells r (typing_at names.now literals.old s (string pos name))) }
     ensures count { OnOk result (literals.new ≡ literals.old + 1) }
 {
-    let Ok(number) = next_number(literals) else {
+    let Ok(number) = literals.next() else {
         return Err(Refusal::Memory);
     };
     literal(names, number, pos, name)

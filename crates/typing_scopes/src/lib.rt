@@ -3,6 +3,7 @@
 
 mod bindings;
 mod built_ins;
+mod depth;
 mod first_names;
 mod newest_names;
 mod scopes;

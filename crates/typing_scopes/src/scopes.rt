@@ -9,6 +9,7 @@ ghost use Rattle.typed_ast.specs.View.{object_type_of};
 ghost use Rattle.srcset.specs.declared.refusal.Refusal.TheVariants.{Memory};
 
 use crate::bindings::{Binding, Linkage, Meaning, State, StaticObject, Tag};
+use crate::depth::Depth;
 use crate::first_names::FirstNames;
 use crate::newest_names::NewestNames;
 use srcset::Refusal;
@@ -22,7 +23,7 @@ use typed_ast::ObjectType;
 pub struct Block {
     names: usize,
     tags: usize,
-    level: usize,
+    level: Depth,
 }
 
 /// The names and tags in scope, and the declarations of the program so far.
@@ -35,7 +36,9 @@ pub struct Scope {
     names: NewestNames,
     tags: Vec<Tag>,
     tag_names: NewestNames,
-    level: usize,
+    level: Depth,
+    // A byte for each level of the deepest block so far.
+    levels: Vec<u8>,
     literals: Vec<usize>,
     statics: Vec<StaticObject>,
     objects: Vec<ObjectType>,
@@ -64,7 +67,8 @@ impl Scope {
             names: NewestNames::new(alloc),
             tags: Vec::new(alloc),
             tag_names: NewestNames::new(alloc),
-            level: 0,
+            level: Depth::file(),
+            levels: Vec::new(alloc),
             literals: Vec::new(alloc),
             statics: Vec::new(alloc),
             objects: Vec::new(alloc),
@@ -98,13 +102,6 @@ impl Scope {
         self.definitions.find(name)
     }
 
-    /// How many string literals there are so far.
-    pub fn literal_count(&self) -> usize
-        ensures { result ≡ length self.now.literals }
-    {
-        self.literals.len()
-    }
-
     /// The string literals so far, by the numbers of their texts.
     pub fn literals(&self) -> &[usize]
         ensures { result.now ≡ self.now.literals }
@@ -116,7 +113,7 @@ impl Scope {
     pub fn level(&self) -> usize
         ensures { result ≡ self.now.level }
     {
-        self.level
+        self.level.get()
     }
 
     /// How many objects with static storage there are so far.
@@ -221,7 +218,7 @@ impl Scope {
     {
         let binding = Binding {
             name,
-            level: self.level,
+            level: self.level.get(),
             meaning,
             linkage,
             state,
@@ -246,7 +243,7 @@ impl Scope {
     {
         let tag = Tag {
             name,
-            level: self.level,
+            level: self.level.get(),
             complete,
         };
         let Ok(()) = self.tag_names.declare(name) else {
@@ -260,7 +257,8 @@ impl Scope {
             }
         }
     }
-    /// Enters a block. It is 801 where the depth exceeds a `usize`.
+
+    /// Enters a block.
     pub fn inside(&mut self) -> Result<Block, Refusal>
         ensures ok { IfOk result (λ b. (b ≡ block_of self.old) × (self.new ≡ typed.inside self.old)) }
         ensures err { OnErr result (self.new ≡ self.old) }
@@ -271,7 +269,7 @@ impl Scope {
             tags: self.tags.len(),
             level: self.level,
         };
-        let Some(level) = self.level.checked_add(1) else {
+        let Ok(level) = self.level.deeper(&mut self.levels) else {
             return Err(Refusal::Memory);
         };
         self.level = level;

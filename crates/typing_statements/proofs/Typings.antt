@@ -15,8 +15,8 @@ use Rattle.const_expr.proofs.Numbered.{typing_same}
 whole : (t : List (List ℕ)) (n : ℕ) (s : Scope) (e : Tree) → n ≡ length s.literals → typing_at t n s e ≡ typing (with_texts t s) e
 whole t n s e h = typing_same t (replicate n 0) s.literals s (length-replicate {A = ℕ} n 0 ∙ h) e
 
-pub typed_fine : (t : List (List ℕ)) (n : ℕ) (s : Scope) (e : Tree) (x : Checked) → n ≡ length s.literals → typing_at t n s e ≡ fine x → typing (with_texts t s) e ≡ fine x
-typed_fine t n s e x h f = sym (whole t n s e h) ∙ f
+pub typed_fine : (t : List (List ℕ)) (n : ℕ) (l : List ℕ) (s : Scope) (e : Tree) (x : Checked) → n ≡ length l → l ≡ s.literals → typing_at t n s e ≡ fine x → typing (with_texts t s) e ≡ fine x
+typed_fine t n l s e x h g f = sym (whole t n s e (h ∙ ap length g)) ∙ f
 
-pub typed_tells : (t : List (List ℕ)) (n : ℕ) (s : Scope) (e : Tree) (r : Refusal) → n ≡ length s.literals → Tells r (typing_at t n s e) → Tells r (typing (with_texts t s) e)
-typed_tells t n s e r h f = subst (λ v. Tells r v) (whole t n s e h) f
+pub typed_tells : (t : List (List ℕ)) (n : ℕ) (l : List ℕ) (s : Scope) (e : Tree) (r : Refusal) → n ≡ length l → l ≡ s.literals → Tells r (typing_at t n s e) → Tells r (typing (with_texts t s) e)
+typed_tells t n l s e r h g f = subst (λ v. Tells r v) (whole t n s e (h ∙ ap length g)) f

@@ -19,7 +19,7 @@ use srcset::{Code, Names, Pos, Refusal};
 use std::alloc::Global;
 use tree::Expr;
 use typed_ast::Value;
-use typing_expressions::{Checked, Worth, effect, valued};
+use typing_expressions::{Checked, LiteralCount, Worth, effect, valued};
 use typing_scopes::Scope;
 
 /// Types an expression in the scope, which stays as it is.
@@ -33,7 +33,7 @@ fn typed_in<'s>(
     ensures ok { IfOk result (λ x. expressions.typing (with_texts names.now scope.now) (tree_of e.now) ≡ fine (checked_of x)) }
     ensures err { IfErr result (λ r. Tells r (expressions.typing (with_texts names.now scope.now) (tree_of e.now))) }
 {
-    let mut literals = scope.literal_count();
+    let mut literals = LiteralCount::behind(alloc, scope.literals());
     match expression(alloc, names, scope, &mut literals, e) {
         Ok(x) => Ok(x),
         Err(refusal) => Err(refusal),

@@ -48,6 +48,10 @@ behind_first (o ∷ os) = os
 
 -- ---- places
 
+-- a file of at most 1,048,576 bytes has no further lines
+abbrev pub IsNear : Token → Type 0
+IsNear x = x.pos.line ≤ 1048577
+
 abbrev pub presumed_by : Presumed → Pos → Pos
 presumed_by p at = record { file = p.file; line = at.line - p.from + p.line }
 

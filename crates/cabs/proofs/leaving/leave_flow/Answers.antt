@@ -19,3 +19,21 @@ pub returns-in-Returns-clause-acts : goal.returns-in-Returns-clause-acts
 returns-in-Returns-clause-acts c =
     let m = c.args.machine.now in
     flow_as (kept_of c.args.kept) _ (flow_of c.args.flow) m c.come_back.new.machine c.come_back.result (ap kept_of c.in-Returns.is ∙ sym c.return_of-r.ensures) c.come_back.ensures.acts
+
+pub returns-in-Turn-clause-acts : goal.returns-in-Turn-clause-acts
+returns-in-Turn-clause-acts c =
+    let m = c.args.machine.now in
+    let i = c.in-Turn in
+    flow_as (kept_of c.args.kept) _ (flow_of c.args.flow) m c.after_turn-in-Turn.new.machine c.after_turn-in-Turn.result (ap kept_of i.is) (takes_acts m c.after_turn-in-Turn.new.machine c.after_turn-in-Turn.result (λ p s. left_by_flow p (kept_of (kept.Turn i.objects i.body)) (flow_of c.args.flow) s) c.after_turn-in-Turn.ensures.takes)
+
+pub returns-in-TurnTested-clause-acts : goal.returns-in-TurnTested-clause-acts
+returns-in-TurnTested-clause-acts c =
+    let m = c.args.machine.now in
+    let i = c.in-TurnTested in
+    flow_as (kept_of c.args.kept) _ (flow_of c.args.flow) m c.after_turn-in-TurnTested.new.machine c.after_turn-in-TurnTested.result (ap kept_of i.is) (takes_acts m c.after_turn-in-TurnTested.new.machine c.after_turn-in-TurnTested.result (λ p s. left_by_flow p (kept_of (kept.TurnTested i.objects i.test i.body)) (flow_of c.args.flow) s) c.after_turn-in-TurnTested.ensures.takes)
+
+pub returns-in-TurnStepped-clause-acts : goal.returns-in-TurnStepped-clause-acts
+returns-in-TurnStepped-clause-acts c =
+    let m = c.args.machine.now in
+    let i = c.in-TurnStepped in
+    flow_as (kept_of c.args.kept) _ (flow_of c.args.flow) m c.after_turn-in-TurnStepped.new.machine c.after_turn-in-TurnStepped.result (ap kept_of i.is) (takes_acts m c.after_turn-in-TurnStepped.new.machine c.after_turn-in-TurnStepped.result (λ p s. left_by_flow p (kept_of (kept.TurnStepped i.objects i.body i.step)) (flow_of c.args.flow) s) c.after_turn-in-TurnStepped.ensures.takes)

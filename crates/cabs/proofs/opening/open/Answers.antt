@@ -33,7 +33,7 @@ returns-in-If-clause-does c = λ run h.
     let m = c.args.machine.now in
     let i = c.in-If in
     let objects = map object_type_of c.args.objects.now in
-    c.later-in-If.ensures.does run (ticked_as run (program_of m.program.now) c.args.clock.now.spent c.tick.new.self.spent (frames_of m) m.scene (on.statement objects (statement_of c.args.a.now))
+    c.branch-machine.ensures.does run (ticked_as run (program_of m.program.now) c.args.clock.now.spent c.tick.new.self.spent (frames_of m) m.scene (on.statement objects (statement_of c.args.a.now))
     (on.statement objects (typed.branch (value_of i.e) (statement_of i.a.value))) c.tick.result (ap (on.statement objects) (sees_if c.args.a.now i.field-0 i.e i.a i.is)) c.if-not-tick.false c.tick.ensures.taken h)
 
 pub returns-in-IfElse-clause-does : goal.returns-in-IfElse-clause-does
@@ -41,7 +41,7 @@ returns-in-IfElse-clause-does c = λ run h.
     let m = c.args.machine.now in
     let i = c.in-IfElse in
     let objects = map object_type_of c.args.objects.now in
-    c.later-in-IfElse.ensures.does run (ticked_as run (program_of m.program.now) c.args.clock.now.spent c.tick.new.self.spent (frames_of m) m.scene (on.statement objects (statement_of c.args.a.now))
+    c.branches.ensures.does run (ticked_as run (program_of m.program.now) c.args.clock.now.spent c.tick.new.self.spent (frames_of m) m.scene (on.statement objects (statement_of c.args.a.now))
     (on.statement objects (typed.branches (value_of i.e) (statement_of i.a.value) (statement_of i.b.value))) c.tick.result (ap (on.statement objects) (sees_if_else c.args.a.now i.field-0 i.e i.a i.b i.is)) c.if-not-tick.false c.tick.ensures.taken h)
 
 pub returns-in-Block-clause-does : goal.returns-in-Block-clause-does

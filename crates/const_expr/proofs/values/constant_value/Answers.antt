@@ -1,4 +1,4 @@
-use Rattle.std.proofs.Common.{◌≡◌, sym, subst, IfOk, IfErr}
+use Rattle.std.proofs.Common.{◌≡◌, length, ap, ◌∙◌, sym, subst, IfOk, IfErr}
 use Rattle.tree.specs.View.{tree_of}
 use Rattle.typing_spec.specs.Verdict.{fine}
 use Rattle.typing_expressions.specs.Refused.{Tells}
@@ -13,15 +13,15 @@ returns-in-Err-clause-err c = value_form c.args.names.now c.args.scope.now (tree
 pub returns-in-Ok-expression-clause-ok : goal.returns-in-Ok-expression-clause-ok
 returns-in-Ok-expression-clause-ok c =
     subst (λ v. IfOk c.constant_worth.result (λ x. v ≡ fine (constant_of x)))
-    (sym (value_rule c.args.names.now c.literal_count-literals.result c.args.scope.now (tree_of c.args.e.now) (checked_of c.in-Ok-expression.x) c.literal_count-literals.ensures c.in-Ok.ensures.ok c.in-Ok-expression.ensures.ok))
+    (sym (value_rule c.args.names.now c.behind-literals.result c.args.scope.now (tree_of c.args.e.now) (checked_of c.in-Ok-expression.x) (c.behind-literals.ensures ∙ ap length c.literals.ensures) c.in-Ok.ensures.ok c.in-Ok-expression.ensures.ok))
     c.constant_worth.ensures.ok
 
 pub returns-in-Ok-expression-clause-err : goal.returns-in-Ok-expression-clause-err
 returns-in-Ok-expression-clause-err c =
     subst (λ v. IfErr c.constant_worth.result (λ r. Tells r v))
-    (sym (value_rule c.args.names.now c.literal_count-literals.result c.args.scope.now (tree_of c.args.e.now) (checked_of c.in-Ok-expression.x) c.literal_count-literals.ensures c.in-Ok.ensures.ok c.in-Ok-expression.ensures.ok))
+    (sym (value_rule c.args.names.now c.behind-literals.result c.args.scope.now (tree_of c.args.e.now) (checked_of c.in-Ok-expression.x) (c.behind-literals.ensures ∙ ap length c.literals.ensures) c.in-Ok.ensures.ok c.in-Ok-expression.ensures.ok))
     c.constant_worth.ensures.err
 
-pub returns-in-Err-expression-clause-err : goal.returns-in-Err-expression-clause-err
-returns-in-Err-expression-clause-err c =
-    value_typing c.args.names.now c.literal_count-literals.result c.args.scope.now (tree_of c.args.e.now) c.in-Err-expression.refusal c.literal_count-literals.ensures c.in-Ok.ensures.ok c.in-Err-expression.ensures.err
+pub returns-clause-err : goal.returns-clause-err
+returns-clause-err c =
+    value_typing c.args.names.now c.behind-literals.result c.args.scope.now (tree_of c.args.e.now) c.in-Err-expression.refusal (c.behind-literals.ensures ∙ ap length c.literals.ensures) c.in-Ok.ensures.ok c.in-Err-expression.ensures.err

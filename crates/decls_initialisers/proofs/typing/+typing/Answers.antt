@@ -3,7 +3,7 @@ use Rattle.typed_ast.specs.View.{initialiser_of, initialisers_of}
 use Rattle.tree.specs.View.{init_of, inits_of}
 use Rattle.typing_spec.specs.Verdict.{fine}
 use Rattle.typing_expressions.specs.Numbered.{numbered}
-use Rattle.decls_initialisers.specs.Numbered.{initialiser_at}
+use Rattle.decls_initialisers.specs.inside.Numbered.{initialiser_at}
 use Rattle.decls_initialisers.specs.inside.Braces.{initialisers_at}
 use Rattle.decls_initialisers.proofs.Readings.{begun, step, ended}
 use Rattle.decls_initialisers.proofs.Rules.{gives, tells, braced_text_rule, list_of_none, array_rule}

@@ -13,7 +13,7 @@ pub resolved-requires : goal.resolved-requires
 resolved-requires c =
     let p = presumed_of c.args.state.now.presumed in
     let e = c.deref.ensures.value ∙ c.in_ok-put.ensures.ok ∙ ap (λ l. l ++ placed p c.args.further.now) c.new-placed.ensures.items in
-    subst (HaveFiles c.args.names.now) (sym e) (placed_files c.args.names.now p c.args.further.now c.requires.has_file)
+    subst (HaveFiles c.args.names.now) (sym e) (placed_files c.args.names.now p c.args.further.now c.requires.sound.has_file)
 
 pub returns-in_err-tokens-clause-asks : goal.returns-in_err-tokens-clause-asks
 returns-in_err-tokens-clause-asks c texts s keeps a =

@@ -11,7 +11,7 @@ pub returns-in_default : goal.returns-in_default
 returns-in_default c = record {
   rests = λ names around end p s a.
       subst (λ r. StopsAs s.given names r (rest_done around c.args.conditionals.now (with_line closes (line_with c.args.line.now end) p) s)) (sym c.unbalanced.ensures)
-      (closes_alone names c.args.state.now around c.args.conditionals.now c.args.line.now end p s c.in_ok-at.at (a, c.in_ok-at.ensures.ok ∙ ap (λ p. presumed_by (presumed_of c.args.state.now.presumed) p) c.place_of.ensures) c.in_default.ensures.first);
+      (closes_alone names c.args.state.now around c.args.conditionals.now c.args.line.now end p s c.place-at.result (a, c.place-at.ensures ∙ ap (λ p. presumed_by (presumed_of c.args.state.now.presumed) p) c.place_of.ensures) c.in_default.ensures.first);
 }
 
 pub returns-in-Skipped : goal.returns-in-Skipped

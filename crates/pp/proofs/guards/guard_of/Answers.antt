@@ -10,7 +10,7 @@ pub loop-index-preserved : goal.loop-index-preserved
 loop-index-preserved c =
     let l = c.loop-index in
     let passed = c.if-not-line_passed.false in
-    passes_next l.guard c.line_passed.new.guard c.args.lines.now l.index c.in-Some.line.now l.conditionals c.line_passed.new.conditionals (sym c.in-Some.ensures)
+    passes_next l.guard c.line_passed.new.guard c.args.lines.now l.index c.in-Some.line.now l.conditionals c.line_passed.new.conditionals (sym c.in-Some.ensures.line)
     (c.line_passed.ensures.stays passed) l.invariant (c.line_passed.ensures.passes passed)
 
 pub returns-in-None : goal.returns-in-None

@@ -26,13 +26,13 @@ returns-then-is_header_kind-clause-includes c texts s keeps a =
 
 pub returns-then-is_header_kind-clause-sound : goal.returns-then-is_header_kind-clause-sound
 returns-then-is_header_kind-clause-sound c =
-    on_ok c.header_named.result (still_sound c.args.names.now c.header_named.new.names c.args.state.now c.args.state.now c.header_named.ensures.keeps c.requires refl refl)
+    on_ok c.header_named.result (still_sound c.args.names.now c.header_named.new.names c.args.state.now c.args.state.now c.header_named.ensures.keeps c.requires.sound refl refl)
 
 pub expand_first-requires-clause-files : goal.expand_first-requires-clause-files
 expand_first-requires-clause-files c =
     let p = presumed_of c.args.state.now.presumed in
     let e = c.deref.ensures.value ∙ c.in_ok-put.ensures.ok ∙ ap (λ l. l ++ placed p c.args.further.now) c.new-placed.ensures.items in
-    subst (HaveFiles c.args.names.now) (sym e) (placed_files c.args.names.now p c.args.further.now c.requires.has_file)
+    subst (HaveFiles c.args.names.now) (sym e) (placed_files c.args.names.now p c.args.further.now c.requires.sound.has_file)
 
 pub returns-in_err-tokens-clause-includes : goal.returns-in_err-tokens-clause-includes
 returns-in_err-tokens-clause-includes c texts s keeps a =

@@ -13,15 +13,15 @@ succ i = omega arith
 
 pub include_done-requires-clause-ended : goal.include_done-requires-clause-ended
 include_done-requires-clause-ended c =
-    idle_by c.args.self.now c.in-Some.line.now (sym c.in-Some.ensures) c.requires.ended (ap is_text (include_role c.in-Some.line.now (sym c.is_include.ensures ∙ c.if-is_include.true)))
+    idle_by c.args.self.now c.in-Some.line.now (sym c.in-Some.ensures.line) c.requires.ended (ap is_text (include_role c.in-Some.line.now (sym c.is_include.ensures ∙ c.if-is_include.true)))
 
 pub include_done-requires-clause-idle : goal.include_done-requires-clause-idle
 include_done-requires-clause-idle c =
-    c.requires.idle (idle_by c.args.self.now c.in-Some.line.now (sym c.in-Some.ensures) c.requires.ended
+    c.requires.idle (idle_by c.args.self.now c.in-Some.line.now (sym c.in-Some.ensures.line) c.requires.ended
     (ap is_text (include_role c.in-Some.line.now (sym c.is_include.ensures ∙ c.if-is_include.true))))
 
 pub line_done-requires-clause-ended : goal.line_done-requires-clause-ended
-line_done-requires-clause-ended c = ended_by c.args.self.now c.in-Some.line.now (sym c.in-Some.ensures) c.requires.ended
+line_done-requires-clause-ended c = ended_by c.args.self.now c.in-Some.line.now (sym c.in-Some.ensures.line) c.requires.ended
 
 pub returns-then-is_include-clause-waits : goal.returns-then-is_include-clause-waits
 returns-then-is_include-clause-waits c texts o keeps st =
@@ -30,7 +30,7 @@ returns-then-is_include-clause-waits c texts o keeps st =
     let around = around_with c.args.room c.args.set.now texts in
     let p = ap (λ k. parsed (drop k (lines_with r.lines r.file.ends))) (succ r.next) in
     let end = first_end (drop r.next r.file.ends) in
-    let next = next_stands c.args.names.now c.args.state.now r.file.run around r.file.conditionals r.lines r.file.ends r.next ts o (sym c.in-Some.ensures) st in
+    let next = next_stands c.args.names.now c.args.state.now r.file.run around r.file.conditionals r.lines r.file.ends r.next ts o (sym c.in-Some.ensures.line) st in
     c.include_done.ensures.waits texts end (parsed (drop (r.next + 1) (lines_with r.lines r.file.ends))) o keeps
     (subst (λ (p : Parsed). Stands c.args.names.now c.args.state.now r.file.run around r.file.conditionals (with_line (role_of ts) (line_with ts end) p) o) p next)
 
@@ -40,7 +40,7 @@ returns-in_err-line_done-clause-waits c texts o keeps st =
     let r = c.args.self.now in
     let ts = c.in-Some.line.now in
     let around = around_with c.args.room c.args.set.now texts in
-    let next = next_stands c.args.names.now c.args.state.now r.file.run around r.file.conditionals r.lines r.file.ends r.next ts o (sym c.in-Some.ensures) st in
+    let next = next_stands c.args.names.now c.args.state.now r.file.run around r.file.conditionals r.lines r.file.ends r.next ts o (sym c.in-Some.ensures.line) st in
     rw (q.1, q.2) (c.in_err-line_done.ensures.stands around (parsed (drop (suc r.next) (lines_with r.lines r.file.ends))) o keeps next)
 
 pub returns-clause-waits : goal.returns-clause-waits
@@ -51,6 +51,6 @@ returns-clause-waits c texts o keeps st =
     let p = ap (λ k. parsed (drop k (lines_with r.lines r.file.ends))) (succ r.next)
     ∙ ap (λ (e : List ℕ). parsed (drop (r.next + 1) (lines_with r.lines e))) (sym c.in_ok-line_done.ensures.ends) in
     let end = first_end (drop r.next r.file.ends) in
-    let next = next_stands c.args.names.now c.args.state.now r.file.run around r.file.conditionals r.lines r.file.ends r.next ts o (sym c.in-Some.ensures) st in
+    let next = next_stands c.args.names.now c.args.state.now r.file.run around r.file.conditionals r.lines r.file.ends r.next ts o (sym c.in-Some.ensures.line) st in
     c.in_ok-line_done.ensures.stands around (parsed (drop (r.next + 1) (lines_with r.lines c.line_done.new.file.ends))) o keeps
     (subst (λ (p : Parsed). Stands c.args.names.now c.args.state.now r.file.run around r.file.conditionals (with_line (role_of ts) (line_with ts end) p) o) p next)

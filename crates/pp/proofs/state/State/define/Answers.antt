@@ -17,4 +17,4 @@ returns-clause-does c s a =
 pub returns-clause-sound : goal.returns-clause-sound
 returns-clause-sound c =
     let new = record c.args.self.now { table = c.try_define.new.self } in
-    on_ok c.try_define.result (still_sound c.args.names.now c.try_define.new.names c.args.self.now new c.try_define.ensures.keeps c.requires refl refl)
+    on_ok c.try_define.result (still_sound c.args.names.now c.try_define.new.names c.args.self.now new c.try_define.ensures.keeps c.requires.sound refl refl)
