@@ -88,7 +88,7 @@ function count(node) {
   return all;
 }
 
-// ---- the places of three-address code, of flat code and of items
+// ---- the places of three-address code and of items
 
 // An instruction without a place is of the statement that began last before it.
 function placeCode(tree) {
@@ -101,28 +101,13 @@ function placeCode(tree) {
   }
 }
 
-const isLike = (one, other) => /^(Call|Return)/.exec(one.code)?.[0] === /^(Call|Return)/.exec(other?.code ?? '')?.[0];
-
-// Flat code has the instructions of three-address code behind the moves of its parameters; where that is seen, it has their places.
-function placeFlat(flat, tac) {
-  const functions = new Map(tac.parts.filter(one => one.node === 'function').map(one => [one.name, one.parts]));
-  for (const one of flat.parts.filter(part => part.node === 'function')) {
-    const from = functions.get(one.name) ?? [], moves = one.parts.length - from.length;
-    if (moves < 0 || moves > 64 || !from.every((part, k) => isLike(part, one.parts[k + moves]))) continue;
-    for (const [k, part] of from.entries()) if (part.file !== undefined) Object.assign(one.parts[k + moves], { file: part.file, line: part.line });
-  }
-}
-
-// The tree of a form, in which each instruction has a place where one is known.
+// The tree of a form, in which each instruction has a place where one is known: none has in flat code, whose order is another.
 async function placed(number) {
   const got = await treeOf(number);
-  if (!got?.tree || number < FORMS.tac) return got;
-  const tac = structuredClone((number === FORMS.flat ? await treeOf(FORMS.tac) : got)?.tree ?? { parts: [] });
-  placeCode(tac);
-  if (number !== FORMS.flat) return { tree: tac };
-  const flat = structuredClone(got.tree);
-  placeFlat(flat, tac);
-  return { tree: flat };
+  if (!got?.tree || number < FORMS.tac || number === FORMS.flat) return got;
+  const tree = structuredClone(got.tree);
+  placeCode(tree);
+  return { tree };
 }
 
 // Shows the form that is chosen, where it is not shown yet.

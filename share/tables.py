@@ -15,11 +15,11 @@ A program is one unit: where it has several C files, MAIN includes the others.
 With -I DIR the program reads what is included itself: each name in quotes in an #include line of a file that is read, also in groups that are skipped, is looked for beside the including file and then in each DIR, in their order; the file that is found is read under the name as it stands there.
 A name that is found nowhere is fault 232 where it is included. Two different files that would have one name are fault 101. -I . finds what lies beside the including file. A name that a macro makes is not found: give that file among FILES.
 .PP
--D and -U hold for the whole program; a macro that has both is not defined, whatever their order. A fault in a macro names the word: -D SIZE:1: 202. One level of includes fewer is left.
+-D and -U hold for the whole program, in their order. A fault in a macro names the word: -D SIZE:1: 202. One level of includes fewer is left.
 .PP
 A fault is one line on standard error, FILE:LINE: CODE TEXT; one that no file is to blame for, and how a run stopped, begins with cc: in place of a file.
 .PP
-Words that other compilers take are taken where they change nothing: -W.., -w, -O.., -g.., -f.., -m.., -pedantic, -pipe, -static, -nostdlib and its like, and -std= of C99, C11 and C17. -MD, -MMD, -MF, -MT, -MQ and -MP stand for --depend and its like, -isystem and -iquote for -I. Other words of theirs (-c, -l, -L, -shared, -M, -x, -include, -fsanitize, -march of another machine) are refused in a line that says what to write. Where no command stands first, it is build."""
+Words that other compilers take are taken where they change nothing: -W.., -w, -O.., -g.., -f.., -m.., -pedantic, -pipe, -pthread, -static, -no-pie, -nostdlib and its like, and -std= of C99, C11 and C17. -MD, -MMD, -MF, -MT, -MQ and -MP of build stand for --depend and its like. Folders are searched in the order -iquote, -I, -isystem, -idirafter. check takes -Werror, -w, and -Wno-NAME for a warning that has this name. Other words of theirs (-c, -l, -L, -shared, -M, -x of another language, -include, -fsanitize, -fwrapv, -march of another machine) are refused in a line that says what to write. Where no command stands first, it is build."""
 
 BEHIND = """.SH EXIT STATUS
 .TP

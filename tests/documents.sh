@@ -79,7 +79,7 @@ script python3 tests/memory_arms.py
 # documents tell what is, not what was or will be; README may say what is there at its date
 set -- bench/README.md crates/*/README.md
 for page in docs/*.md docs/design/*.md docs/design/decisions/*.md; do [ "$page" = docs/TRUST.md ] || set -- "$@" "$page"; done
-if grep -nwiE 'today|so far|to come|not yet|at the moment|699' "$@" | grep -v '^docs/GATE.md:[0-9]*:| `' >"$work/diary"; then
+if grep -nwiE 'today|so far|to come|not yet|at the moment|699' "$@" | grep -v '^docs/GATE.md:[0-9]*:| `' | grep -v ',699 ' >"$work/diary"; then
     fail "a document speaks of its day: $(head -n 3 "$work/diary")"
 else
     pass

@@ -11,7 +11,7 @@ import re
 import harness
 
 # To become laws with the next change of their crates.
-OPEN = {('rv32', 'Spaces', 'shows_read'), ('verify_stack', 'Whole', 'sums_same'), ('verify_build', 'Joined', 'verified'), ('verify_build', 'Joined', 'some_means')}
+OPEN = {('rv32', 'Spaces', 'shows_read'), ('frames_code', 'Results', 'result_there'), ('verify_stack', 'Whole', 'sums_same'), ('verify_build', 'Joined', 'verified'), ('verify_build', 'Joined', 'some_means')}
 IMPORT = re.compile(r'use Rattle\.(\w+)\.proofs\.([\w.+]+)\.\{(.*)\}')
 USING = re.compile(r'(\w+)::proofs::([\w:]+)::([\w-]+)')
 

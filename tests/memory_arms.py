@@ -28,9 +28,7 @@ OPEN = {
     ('interp_store/src/grid.rt', 'fill'),
     ('interp_store/src/grid.rt', 'set'),
     ('interp_store/src/scene.rt', 'object_behind'),
-    ('lower_ops/src/row_sizes.rt', 'times'),
     ('lower_ops/src/waiting.rt', 'next'),
-    ('tac/src/elements.rt', 'limit_of'),
     ('tac/src/initialisers.rt', 'ahead_of'),
 }
 

@@ -18,7 +18,7 @@ RECIPES = {
     'fault': (r'\bLabelTwice\b|\b540\b', ()),
     'built-in': (r'[gG]et_?[bB]yte|\bGotEnd\b|[gG]et_?[fF]ollows|\bPort for\b|(==|≡) 63\b|\beqb \w+ 63\b|\b63 if\b|li +t1, 63\b|\btrait Port\b', ('phases', 'lexer')),
     'instruction': (r'MulHighSignedUnsigned|mulhsu', ()),
-    'option': (r'is_plain|--plain\b|"plain"', ('phases', 'pp', 'lexer', 'lower_exprs')),
+    'option': (r'is_plain|--plain\b|"plain"', ('phases', 'pp', 'lexer', 'lower_exprs', 'frames_layout')),
     'limit': (r'function_node_limit|MAX_FUNCTION_NODES|FunctionNodeLimit|\b710\b', ()),
 }
 

@@ -6,6 +6,11 @@ from commands import Commands, TOUR
 NONE = '551 no int main(void)'
 
 
+def alone(name):
+    """The note on a further C file that nothing includes."""
+    return f'note: no file includes {name}, so it is no part of the program, which is one unit: write #include "{name}" in MAIN'
+
+
 class Build(Commands):
     def setUp(self):
         self.write('main.c', TOUR)
@@ -28,7 +33,7 @@ class Build(Commands):
         self.refused(f'main.c:1: {NONE}', 'main.c')
 
     def test_a_refused_main_file_of_another_name(self):
-        self.refused(f'rest.c:1: {NONE}', 'rest.c', 'main.c')
+        self.refused(f'{alone("main.c")}\nrest.c:1: {NONE}', 'rest.c', 'main.c')
 
     def test_a_refusal_leaves_what_stood_there(self):
         self.write('kept', 'kept\n')
@@ -63,7 +68,7 @@ class Build(Commands):
     def test_a_file_of_1048576_bytes_and_one_more(self):
         self.write('large.c', bytes(1048576))
         self.refused('large.c:1: 111 file does not end in a newline', 'large.c')
-        self.builds('main.c', 'large.c')
+        self.ends(('build', 'main.c', 'large.c', '-o', 'program'), 0, line=alone('large.c'))
         self.write('large.c', bytes(1048576) + b'\n')
         self.refused('large.c:0: 701 limit: file size', 'large.c')
         self.refused('large.c:0: 701 limit: file size', 'main.c', 'large.c')

@@ -68,8 +68,8 @@ class Budgets(Built):
     def test_budgets(self):
         """The largest; just enough; one too few; few."""
         self.ends(('run', 'hello', '--max', '9223372036854775807'), 42, b'H')
-        self.ends(('run', '--max', '24', 'hello'), 42, b'H')
-        self.ends(('run', 'hello', '--max', '23'), 124, b'H', USED)
+        self.ends(('run', '--max', '23', 'hello'), 42, b'H')
+        self.ends(('run', 'hello', '--max', '22'), 124, b'H', USED)
         self.ends(('run', 'hello', '--max', '5'), 124, line=USED)
         self.ends(('run', 'hello', '--max', '1'), 124, line=USED)
 

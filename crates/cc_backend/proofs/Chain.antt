@@ -28,12 +28,12 @@ use Rattle.tac_code.specs.Sound.{AreBytes}
 use Rattle.cc_backend.specs.FlatImages.{IsImageOf}
 use Rattle.cc_backend.specs.Runs.{bytes_or_none}
 use Rattle.cc_backend.specs.Simulation.{Doing, System, AreWithin, both, step_for_step}
-use Rattle.cc_backend.specs.Chain.{StandsBelow, of_program, of_tac, of_plain, of_flat, of_image, into_file, TacSimulatesProgram, FlatSimulatesTac, ImageSimulatesFlat, FlatSimulatesProgram, FileSimulatesProgram}
+use Rattle.cc_backend.specs.Chain.{StandsBelow, of_program, of_tac, of_plain, of_flat, of_image, anew, into_file, TacSimulatesProgram, FlatSimulatesTac, ImageSimulatesFlat, FlatSimulatesProgram, FileSimulatesProgram}
 use Rattle.cc_backend.proofs.Simulation.{compose}
 use Rattle.cc_backend.proofs.FlatImages.{image_goes_on, image_ends}
 use Rattle.cc_backend.proofs.Known.{AreKnown, Known, run_known}
 use Rattle.cc_backend.proofs.Forms.{none_within, frame_within, frames_fit}
-use Rattle.cc_backend.proofs.Optimising.{optimised_simulates_flat, optimised_form}
+use Rattle.cc_backend.proofs.Optimising.{optimised_simulates_flat, simplified_simulates_flat, laid_out_simulates_flat, optimised_form}
 use Rattle.cc_backend.proofs.Renumbering.{renumbered_simulates_flat, renumbered_form}
 
 -- ---- sums of weights
@@ -190,14 +190,20 @@ image_simulates_flat weight f parts input image bytes each = record {
 
 pub flat_simulates_program : FlatSimulatesProgram
 flat_simulates_program weight limit p f input made bytes =
-    compose step_for_step (both step_for_step (both step_for_step step_for_step)) weight limit _ _ _ (tac_simulates_program weight limit p made.code input made.lowered bytes)
-    (compose step_for_step (both step_for_step step_for_step) weight limit _ _ _ (flat_simulates_tac weight limit made.code made.plain input made.flattened bytes)
-    (compose step_for_step step_for_step weight limit _ _ _ (optimised_simulates_flat weight limit made.plain made.simpler input made.optimised)
-    (renumbered_simulates_flat weight limit made.simpler f input made.renumbered)))
+    let best = both step_for_step step_for_step in
+    let laid = both anew best in
+    let simple = both step_for_step laid in
+    let plain = both step_for_step simple in
+    compose step_for_step plain weight limit _ _ _ (tac_simulates_program weight limit p made.code input made.lowered bytes)
+    (compose step_for_step simple weight limit _ _ _ (flat_simulates_tac weight limit made.code made.plain input made.flattened bytes)
+    (compose step_for_step laid weight limit _ _ _ (simplified_simulates_flat weight limit made.plain made.better.simple input made.better.simplified)
+    (compose anew best weight limit _ _ _ (laid_out_simulates_flat weight limit made.better.simple made.better.laid input made.better.laid_out)
+    (compose step_for_step step_for_step weight limit _ _ _ (optimised_simulates_flat weight limit made.better.laid made.simpler input made.better.optimised)
+    (renumbered_simulates_flat weight limit made.simpler f input made.renumbered)))))
 
 pub file_simulates_program : FileSimulatesProgram
 file_simulates_program p f parts input made image bytes =
-    let form = renumbered_form made.code made.simpler f (optimised_form made.code made.plain made.simpler made.flattened made.optimised) made.renumbered in
+    let form = renumbered_form made.code made.simpler f (optimised_form made.code made.plain made.simpler made.flattened made.better) made.renumbered in
     compose _ (into_file f) (weight_in p) parts.stack _ _ _ (flat_simulates_program (weight_in p) parts.stack p f input made bytes)
     (image_simulates_flat (weight_in p) f parts input image bytes (frame_within p made.code f made.lowered form))
 

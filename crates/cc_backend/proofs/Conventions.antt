@@ -1,5 +1,5 @@
 -- All frames of flat code's run fit the stack where the abstract machine's calls do.
-use Rattle.std.proofs.Common.{◌≡◌, ⊎_elim, ℕ, ◌+◌, ◌-◌, ◌≤◌, List, refl, sym, ap, ◌∙◌, subst, arith}
+use Rattle.std.proofs.Common.{◌≡◌, ⊎_elim, ℕ, ◌+◌, ◌-◌, ◌*◌, ◌≤◌, List, refl, sym, ap, ◌∙◌, subst, arith}
 use Rattle.std.proofs.lemmas.Bool.{cases_lt}
 use Rattle.typing_spec.specs.Program as typed
 use Rattle.csem.specs.History.{trace_of, active, weight_in, greatest_sum}
@@ -12,6 +12,7 @@ use Rattle.frames_code.specs.Run as flat_run
 use Rattle.frames.specs.Flattened.{behind}
 use Rattle.frames_correct.proofs.Runs.{run_both}
 use Rattle.cc_backend.specs.FlatImages.{FitStack}
+use Rattle.frames_layout.specs.LaidOut.{pace}
 use Rattle.cc_backend.specs.Made.{IsFlatCodeOf}
 use Rattle.cc_backend.specs.Convention.{FramesAreWeighed}
 use Rattle.cc_backend.proofs.Forms.{frame_within, frames_fit}
@@ -28,7 +29,7 @@ module _ (p : typed.Program) (f : flat.Program) (input : List ℕ) (code : IsFla
       frames_fit (weight_in p) f code.sound (frame_within p code.code f code.lowered (form_of p f code)) limit input k (behind f input k) refl
       (λ s e. small (flat_run.active s) (its (flat_run.active s) (k, s, le, e, refl)))
 
-  goes : (n : ℕ) (s : machine.State) → cstep n p input ≡ Stops TicksUsed s → (k : ℕ) → k ≤ n → FitStack (greatest_sum (weight_in p) s.history) f (behind f input k)
+  goes : (n : ℕ) (s : machine.State) → cstep n p input ≡ Stops TicksUsed s → (k : ℕ) → pace * k ≤ n → FitStack (greatest_sum (weight_in p) s.history) f (behind f input k)
   goes n s over k le =
       let most = greatest_sum (weight_in p) s.history in
       let small = calls_are_within p input most n (subst (λ r. greatest_sum (weight_in p) (last_of r).history ≤ most) (sym over) (omega arith)) in

@@ -42,7 +42,7 @@ use Rattle.cc_backend.proofs.Forms.{none_within}
 use Rattle.cc_backend.proofs.Making.{way_of, form_of}
 use Rattle.cc_backend.proofs.Chain.{file_simulates_program, calls_are_within}
 use Rattle.frames_correct.proofs.Whole.{flat_is_flattened}
-use Rattle.frames_hoist.specs.Optimised.{IsOptimised}
+use Rattle.cc_backend.specs.Better.{IsBetter}
 use Rattle.cc_backend.specs.Runs.{RunsAs}
 use Rattle.cc_backend.specs.Made.{IsReady, IsFlatCodeOf, FramesFit, FunctionsFit, most_text, IsFileOf, AreItemsOf}
 use Rattle.cc_backend.proofs.FunctionSizes.{part_within, function_among}
@@ -72,14 +72,14 @@ past n a k le some = let whole : suc a * k ≡ a * k + k = suc-mul a k in omega 
 start_short : (main : ℕ) → longest (start_items main) ≡ 32
 start_short main = refl
 
-pub code_of : (p : typed.Program) (q : tac.Program) (g f : flat.Program) → IsLowered p q → IsOptimised (flat_program q) g → IsRenumbered g f → IsFlatCodeOf p f
-code_of p q g f made optimised renumbered = record {
+pub code_of : (p : typed.Program) (q : tac.Program) (g f : flat.Program) → IsLowered p q → IsBetter (flat_program q) g → IsRenumbered g f → IsFlatCodeOf p f
+code_of p q g f made better renumbered = record {
   code = q;
   lowered = made;
   simpler = g;
-  optimised = optimised;
+  better = better;
   renumbered = renumbered;
-  sound = stays_sound g f renumbered (optimised.sound (flat_is_flattened q made.sound).sound);
+  sound = stays_sound g f renumbered (better.optimised.sound (better.laid_out.sound (better.simplified.sound (flat_is_flattened q made.sound).sound)));
 }
 
 module _ (p : typed.Program) (f : flat.Program) (ready : IsReady p) (made : IsFlatCodeOf p f) where

@@ -10,7 +10,7 @@ use Rattle.frames_code.specs.declared.code.Instruction.TheVariants as instructio
 use Rattle.frames_code.specs.Code.{Program}
 use Rattle.frames_code.specs.Sound.{IsSoundProgram}
 use Rattle.frames_code.specs.Costs.{next_of}
-use Rattle.frames_code.specs.Run.{Value, Bytes, Frame, State, Progress, running, ended, stuck, value, word_at, reference_in, set, next, past, goes_to, place, memory, name_of, changed_among, with_frames, with_memory, with_element, element_in, gives, gives_word, operate, converted, loaded, stored, put, got, returned, act, step, run, goes_on, ◌>>=◌}
+use Rattle.frames_code.specs.Run.{Value, Bytes, Frame, State, Progress, running, ended, stuck, value, word_at, word_in, reference_in, set, next, past, goes_to, place, memory, name_of, changed_among, with_frames, with_memory, with_element, element_in, gives, gives_word, operate, converted, loaded, stored, put, got, result_of, returned, act, step, run, goes_on, ◌>>=◌}
 use Rattle.frames_code.specs.Run as flat
 use Rattle.select_correct.proofs.Fits.{function_fits}
 use Rattle.cc_backend.proofs.Plain.{bool_cases}
@@ -72,9 +72,9 @@ module _ (p : Program) (sound : IsSoundProgram p) where
     sets (target.Temporary k) v s2 r = r
     sets (target.Cell c) v s2 r = r
 
-    returns : (ws : List Frame) → AreKnown n ws → Known (returned s ws)
-    returns [] r = used (word_at s (operand.Temporary 0)) (λ v. ended (v % 2 ^ 8) s.input s.trace) (λ v. tt)
-    returns (w ∷ ws) r = r
+    returns : (result : Option Value) (ws : List Frame) → AreKnown n ws → Known (returned s result ws)
+    returns result [] r = used (word_in result) (λ v. ended (v % 2 ^ 8) s.input s.trace) (λ v. tt)
+    returns result (w ∷ ws) r = r
 
     gets : (input : List ℕ) → Known (got s input)
     gets [] = q
@@ -110,7 +110,7 @@ module _ (p : Program) (sound : IsSoundProgram p) where
     acts instruction.PutByte e = used (word_at s (operand.Temporary 0)) (put s) (λ v. q)
     acts instruction.GetByte e = gets s.input
     acts instruction.Exit e = used (word_at s (operand.Temporary 0)) (λ v. ended (v % 2 ^ 8) s.input s.trace) (λ v. tt)
-    acts instruction.Return e = returns s.waiting q.1
+    acts instruction.Return e = returns (result_of p s) s.waiting q.1
 
     any : (o : Option Instruction) → next_of p s ≡ o → Known (o >>= act p s)
     any None e = tt

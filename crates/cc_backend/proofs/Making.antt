@@ -16,10 +16,10 @@ way_of p f made = record {
   plain = flat_program made.code;
   flattened = flat_is_flattened made.code made.lowered.sound;
   simpler = made.simpler;
-  optimised = made.optimised;
+  better = made.better;
   renumbered = made.renumbered;
 }
 
 pub form_of : (p : typed.Program) (f : flat.Program) → (made : IsFlatCodeOf p f) → IsFormOf made.code f
 form_of p f made =
-    renumbered_form made.code made.simpler f (optimised_form made.code (flat_program made.code) made.simpler (flat_is_flattened made.code made.lowered.sound) made.optimised) made.renumbered
+    renumbered_form made.code made.simpler f (optimised_form made.code (flat_program made.code) made.simpler (flat_is_flattened made.code made.lowered.sound) made.better) made.renumbered

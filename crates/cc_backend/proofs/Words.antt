@@ -1,5 +1,5 @@
 -- The words of calls and returns, from three-address code to the flat code of a program.
-use Rattle.std.proofs.Common.{◌≡◌, ⊎_elim, ℕ, ◌+◌, ◌-◌, ◌≤◌, List, refl, sym, ap, ◌∙◌, subst, arith}
+use Rattle.std.proofs.Common.{◌≡◌, ⊎_elim, ℕ, ◌+◌, ◌-◌, ◌*◌, ◌≤◌, ◌<◌, List, refl, sym, ap, ◌∙◌, subst, arith}
 use Rattle.std.proofs.lemmas.Bool.{cases_lt}
 use Rattle.typing_spec.specs.Program as typed
 use Rattle.csem.specs.History.{Entry, trace_of}
@@ -18,14 +18,17 @@ use Rattle.frames.specs.Translated.{flat_program}
 use Rattle.frames.specs.Flattened.{before, behind, HasItsCalls}
 use Rattle.frames_correct.proofs.Runs.{run_both}
 use Rattle.frames_correct.proofs.Whole.{flat_is_in_step}
-use Rattle.frames_opt.specs.Simplified.{DoesTheSame, IsDefined}
+use Rattle.frames_opt.specs.Simplified.{DoesTheSame, IsDefined, IsAtCall as IsAtFlatCall}
+use Rattle.frames_opt.proofs.InTurn.{defined_alike}
+use Rattle.frames_layout.specs.LaidOut.{pace, IsRunning, HasDone, IsLaidOut}
 use Rattle.frames_hoist.specs.Optimised.{IsOptimised}
 use Rattle.frames_regalloc.specs.Renumbered.{IsRenumbered}
 use Rattle.frames_regalloc.specs.Laws.{words_of, moved, moved_progress}
 use Rattle.frames_regalloc.proofs.Whole.{runs_alike, calls_alike}
+use Rattle.cc_backend.specs.Better.{IsBetter}
 use Rattle.cc_backend.specs.Made.{IsFlatCodeOf}
 use Rattle.cc_backend.specs.Words.{IsAsMeant, StepsAreAsMeant}
-use Rattle.cc_backend.proofs.Optimising.{defined_before}
+use Rattle.cc_backend.proofs.Optimising.{defined_before, defined_within}
 use Rattle.cc_backend.proofs.Renumbering.{calls_same}
 
 same_running : (s t : flat_run.State) → flat_run.running s ≡ flat_run.running t → s ≡ t
@@ -78,6 +81,88 @@ module _ (f g : flat.Program) (better : IsOptimised f g) (input : List ℕ) wher
           absurd (let z : ⊥ = cc in z)
       on flat_run.stuck h = absurd (subst IsDefined h (defined_before f g better input k m le defined))
 
+-- ---- the state before the code was laid out anew
+
+-- laid out anew, it is defined where it has gone as far as the first
+laid_defined : (f g : flat.Program) (laid : IsLaidOut f g) (input : List ℕ) (k n : ℕ) → pace * k ≤ n → IsDefined (behind f input n) → IsDefined (behind g input k)
+laid_defined f g laid input k n le defined = ⊎_elim (λ lt. late lt) (λ ge. defined_within g input k d.steps ge there) (cases_lt d.steps k)
+  where
+    d : HasDone f g n 0 (flat_run.start f input) (flat_run.start g input)
+    d = laid.does n input defined
+
+    defined_too : (x y : flat_run.Progress) → DoesTheSame x y → IsDefined x → IsDefined y
+    defined_too (flat_run.running s) (flat_run.running t) same ok = tt
+    defined_too (flat_run.running s) (flat_run.ended status left trace) same ok = absurd same
+    defined_too (flat_run.running s) flat_run.stuck same ok = absurd same
+    defined_too (flat_run.ended status left trace) y same ok = subst IsDefined (sym same) tt
+    defined_too flat_run.stuck y same ok = absurd ok
+
+    there : IsDefined (behind g input d.steps)
+    there = defined_too (behind f input n) (behind g input d.steps) d.same defined
+
+    late : d.steps < k → IsDefined (behind g input k)
+    late lt = on (behind f input n) refl
+      where
+        sum : k ≡ d.steps + (k - d.steps)
+        sum = omega (arith, lt)
+
+        on : (x : flat_run.Progress) → behind f input n ≡ x → IsDefined (behind g input k)
+        on (flat_run.running s) e = absurd (let far : n ≤ pace * d.steps = d.fast (subst IsRunning (sym e) tt) in omega (arith, lt, le, far))
+        on (flat_run.ended status left trace) e =
+            let over : behind g input d.steps ≡ flat_run.ended status left trace = subst (λ x. DoesTheSame x (behind g input d.steps)) e d.same in
+            let whole : behind g input k ≡ flat_run.ended status left trace =
+            ap (behind g input) sum ∙ (run_both g d.steps (k - d.steps) (flat_run.start g input) ∙ ap (λ x. flat_run.goes_on x (flat_run.run g (k - d.steps))) over) in
+            subst IsDefined (sym whole) tt
+        on flat_run.stuck e = absurd (subst IsDefined e defined)
+
+at_call_twice : (p q r : flat.Program) (s t u : flat_run.State) → IsAtFlatCall p q s t → IsAtFlatCall q r t u → IsAtFlatCall p r s u
+at_call_twice p q r s t u one two = record {
+  calls = λ g e. let b = two.calls g e in let a = one.calls g b.0 in (a.0, λ k v h. b.1 k v (a.1 k v h));
+  returns = λ e. let b = two.returns e in let a = one.returns b.0 in (a.0, λ v h. b.1 v (a.1 v h));
+}
+
+-- ---- the state before the code was made better
+
+module _ (f g : flat.Program) (better : IsBetter f g) (input : List ℕ) where
+  pub record First (k : ℕ) (v : flat_run.State) : Type 0 where
+    pub steps : ℕ
+    pub state : flat_run.State
+    pub slow : steps ≤ pace * k
+    pub is : behind f input steps ≡ flat_run.running state
+    pub calls : flat_run.active v ≡ flat_run.active state
+    pub at_call : IsAtFlatCall f g state v
+
+  -- where the first program is defined far enough on
+  pub first_of : (m k : ℕ) (v : flat_run.State) → pace * k + 1 ≤ m → IsDefined (behind f input m) → behind g input k ≡ flat_run.running v → First k v
+  first_of m k v le defined e =
+      let simple_defined : IsDefined (behind better.simple input m) = defined_alike f better.simple better.simplified.runs m input defined in
+      let laid_defined_here = laid_defined better.simple better.laid better.laid_out input k m (omega (arith, le)) simple_defined in
+      let b = original better.laid g better.optimised input k laid_defined_here k v (omega arith) e in
+      let c = better.laid_out.comes k m input b.state le simple_defined b.is in
+      let d = simply_original c.steps c.state c.is (omega (arith, c.slow, le)) in
+      record {
+        steps = c.steps;
+        state = d.0;
+        slow = c.slow;
+        is = d.1.0;
+        calls = b.calls ∙ (c.calls ∙ d.1.1);
+        at_call = at_call_twice f better.simple g d.0 c.state v (better.simplified.at_calls c.steps input d.0 c.state d.1.0 c.is)
+            (at_call_twice better.simple better.laid g c.state b.state v c.at_call (better.optimised.at_calls k input b.state v b.is e));
+      }
+    where
+      simply_original : (i : ℕ) (u : flat_run.State) → behind better.simple input i ≡ flat_run.running u → i ≤ m → (s : flat_run.State) × ((behind f input i ≡ flat_run.running s) × (flat_run.active u ≡ flat_run.active s))
+      simply_original i u h below = on (behind f input i) refl
+        where
+          on : (x : flat_run.Progress) → behind f input i ≡ x → (s : flat_run.State) × ((behind f input i ≡ flat_run.running s) × (flat_run.active u ≡ flat_run.active s))
+          on (flat_run.running w) at =
+              let both : DoesTheSame (flat_run.running w) (flat_run.running u) = subst (DoesTheSame (flat_run.running w)) h (subst (λ x. DoesTheSame x (behind better.simple input i)) at (better.simplified.runs i input)) in
+              (w, (at, both.2))
+          on (flat_run.ended status left trace) at =
+              let over : behind better.simple input i ≡ flat_run.ended status left trace = subst (λ x. DoesTheSame x (behind better.simple input i)) at (better.simplified.runs i input) in
+              let never : flat_run.ended status left trace ≡ flat_run.running u = sym over ∙ h in
+              absurd (let z : ⊥ = cc in z)
+          on flat_run.stuck at = absurd (subst IsDefined at (defined_within f input i m below defined))
+
 -- ---- the whole way
 
 -- the history of a step is the beginning of that of each later one
@@ -90,15 +175,16 @@ module _ (p : typed.Program) (f : flat.Program) (input : List ℕ) (made : IsFla
   abbrev plain : flat.Program
   plain = flat_program made.code
 
-  -- at a step among m, which are n of three-address code
-  meant : (n m : ℕ) (history : List Entry) → HasItsCalls made.code plain input n m → IsDefined (behind plain input m) → ((i : ℕ) (t : tac_run.State) → i ≤ n → before made.code input i ≡ tac_run.running t → Grows t.history history)
-      → (k : ℕ) (u : flat_run.State) → k ≤ m → behind f input k ≡ flat_run.running u → IsAsMeant made.code f input history u
-  meant n m history its defined within k u le e =
+  -- where the flat code at first is defined for m steps, and comes to what three-address code does within n in those that are no more than `last`
+  meant : (n last m : ℕ) (history : List Entry) → HasItsCalls made.code plain input n last → IsDefined (behind plain input m)
+      → ((i : ℕ) (t : tac_run.State) → i ≤ n → before made.code input i ≡ tac_run.running t → Grows t.history history)
+      → (k : ℕ) (u : flat_run.State) → pace * k + 1 ≤ m → ((i : ℕ) (s : flat_run.State) → i ≤ pace * k → behind plain input i ≡ flat_run.running s → i ≤ last)
+      → behind f input k ≡ flat_run.running u → IsAsMeant made.code f input history u
+  meant n last m history its defined within k u le inside e =
       let a = unnumbered made.simpler f made.renumbered input k u e in
-      let b = original plain made.simpler made.optimised input m defined k a.state le a.is in
-      let c = its k b.state le b.is in
+      let b = first_of plain made.simpler made.better input m k a.state le defined a.is in
+      let c = its b.steps b.state (inside b.steps b.state b.slow b.is) b.is in
       let same = calls_alike made.simpler f made.renumbered a.state in
-      let better = made.optimised.at_calls k input b.state a.state b.is a.is in
       subst (IsAsMeant made.code f input history) a.now
       (record {
         step = c.0;
@@ -108,43 +194,49 @@ module _ (p : typed.Program) (f : flat.Program) (input : List ℕ) (made : IsFla
         calls = calls_same (from made.simpler f made.renumbered input) a.state ∙ (b.calls ∙ c.2.2);
         at_call = record {
           calls = λ g h.
-              let one = better.calls g (same.0 g h) in
+              let one = b.at_call.calls g (same.0 g h) in
               let two = c.2.3.calls g one.0 in
               (two.0, λ j w ew. one.1 j (flat_run.word w) (two.1 j w ew));
           returns = λ h.
-              let one = better.returns (same.1 h) in
+              let there = same.1 h in
+              let one = b.at_call.returns there.0 in
               let two = c.2.3.returns one.0 in
-              (two.0, λ w ew. one.1 (flat_run.word w) (two.1 w ew));
+              (two.0, λ some w ew. there.1 ∙ one.1 (flat_run.word w) (two.1 some w ew));
         };
       })
 
-  goes : (n : ℕ) (s : machine.State) → cstep n p input ≡ Stops TicksUsed s → (k : ℕ) (u : flat_run.State) → k ≤ n → behind f input k ≡ flat_run.running u → IsAsMeant made.code f input s.history u
+  goes : (n : ℕ) (s : machine.State) → cstep n p input ≡ Stops TicksUsed s → (k : ℕ) (u : flat_run.State) → pace * k + 1 ≤ n → behind f input k ≡ flat_run.running u → IsAsMeant made.code f input s.history u
   goes n s over k u le e =
       let b = (made.lowered.behaves input bytes).goes_on n s over in
       let c = (flat_is_in_step made.code made.lowered.sound input bytes).goes_on b.0 b.2.0 b.2.1 in
-      meant b.0 c.0 s.history c.4 (subst IsDefined (sym c.2.1) tt)
+      meant b.0 c.0 c.0 s.history c.4 (subst IsDefined (sym c.2.1) tt)
       (λ i t lt et.
       let later : ComesOf (tac_run.running t) (tac_run.running b.2.0) = subst (ComesOf (tac_run.running t)) b.2.1 (subst (λ x. ComesOf x (before made.code input b.0)) et (leads made.code input i b.0 lt)) in
       subst (Grows t.history) b.2.2 later)
-      k u (omega (arith, le, b.1, c.1)) e
+      k u (omega (arith, le, b.1, c.1)) (λ i t below h. omega (arith, below, le, b.1, c.1)) e
+
+  -- an ended run stays so
+  stays_ended : (m j : ℕ) (done : flat_run.Progress) → flat_run.goes_on done (flat_run.run plain j) ≡ done → behind plain input m ≡ done → behind plain input (m + j) ≡ done
+  stays_ended m j done same e = run_both plain m j (flat_run.start plain input) ∙ (ap (λ x. flat_run.goes_on x (flat_run.run plain j)) e ∙ same)
 
   ends : (n status : ℕ) (s : machine.State) → cstep n p input ≡ Stops (Ended status) s → (k : ℕ) (u : flat_run.State) → behind f input k ≡ flat_run.running u → IsAsMeant made.code f input s.history u
   ends n status s over k u e =
       let b = (made.lowered.behaves input bytes).ends n status s over in
       let c = (flat_is_in_step made.code made.lowered.sound input bytes).ends b.0 status s.input s.history b.1 in
-      ⊎_elim
-      (λ lt. meant b.0 c.0 s.history c.3 (subst IsDefined (sym c.1) tt)
-      (λ i t below et. subst (ComesOf (tac_run.running t)) b.1 (subst (λ x. ComesOf x (before made.code input b.0)) et (leads made.code input i b.0 below)))
-      k u (omega (arith, lt)) e)
-      (λ ge.
       let done : flat_run.Progress = flat_run.ended status s.input (trace_of s.history) in
-      let better : behind made.simpler input c.0 ≡ done = subst (λ x. DoesTheSame x (behind made.simpler input c.0)) c.1 (made.optimised.runs c.0 input) in
-      let last : behind f input c.0 ≡ done = runs_alike made.simpler f made.renumbered c.0 input ∙ ap (moved_progress (words_of made.simpler.functions f.functions made.renumbered.functions)) better in
-      let sum : k ≡ c.0 + (k - c.0) = omega (arith, ge) in
-      let whole : behind f input k ≡ done = ap (behind f input) sum ∙ (run_both f c.0 (k - c.0) (flat_run.start f input) ∙ ap (λ x. flat_run.goes_on x (flat_run.run f (k - c.0))) last) in
-      let no : done ≡ flat_run.running u = sym whole ∙ e in
+      let far : behind plain input (c.0 + (pace * k + 1)) ≡ done = stays_ended c.0 (pace * k + 1) done refl c.1 in
+      meant b.0 c.0 (c.0 + (pace * k + 1)) s.history c.3 (subst IsDefined (sym far) tt)
+      (λ i t below et. subst (ComesOf (tac_run.running t)) b.1 (subst (λ x. ComesOf x (before made.code input b.0)) et (leads made.code input i b.0 below)))
+      k u (omega arith)
+      (λ i t below h.
+      ⊎_elim (λ lt. omega (arith, lt))
+      (λ ge.
+      let sum : i ≡ c.0 + (i - c.0) = omega (arith, ge) in
+      let over : behind plain input i ≡ done = ap (behind plain input) sum ∙ stays_ended c.0 (i - c.0) done refl c.1 in
+      let never : done ≡ flat_run.running t = sym over ∙ h in
       absurd (let z : ⊥ = cc in z))
-      (cases_lt k c.0)
+      (cases_lt i c.0))
+      e
 
 pub steps_are_as_meant : StepsAreAsMeant
 steps_are_as_meant p f input made bytes = (goes p f input made bytes, ends p f input made bytes)

@@ -27,9 +27,12 @@ use Rattle.frames_code.specs.Run as flat_run
 use Rattle.frames.specs.Costs as flat_costs
 use Rattle.frames.specs.Flattened.{IsFlattened, before, behind}
 use Rattle.frames_code.specs.Costs.{spent_with_entry}
+use Rattle.frames_opt.specs.Simplified.{IsSimplified}
+use Rattle.frames_layout.specs.LaidOut.{pace, IsLaidOut}
 use Rattle.frames_hoist.specs.Optimised.{IsOptimised}
 use Rattle.frames_regalloc.specs.Renumbered.{IsRenumbered}
 use Rattle.select_correct.specs.Runs.{slack}
+use Rattle.cc_backend.specs.Better.{IsBetter}
 use Rattle.cc_backend.specs.FlatImages.{IsImageOf}
 use Rattle.cc_backend.specs.Runs.{bytes_or_none}
 use Rattle.cc_backend.specs.Simulation.{Doing, Done, System, Terms, Simulates, step_for_step, both}
@@ -119,6 +122,20 @@ FlatSimulatesTac =
     (weight : ℕ → ℕ) (limit : ℕ) (q : tac.Program) (f : flat.Program) (input : List ℕ) → IsFlattened q f → AreBytes input
     → Simulates step_for_step weight limit (of_tac q input) (of_plain f input)
 
+abbrev pub SimplifiedSimulatesFlat : Type 0
+SimplifiedSimulatesFlat =
+    (weight : ℕ → ℕ) (limit : ℕ) (f g : flat.Program) (input : List ℕ) → IsSimplified f g
+    → Simulates step_for_step weight limit (of_plain f input) (of_plain g input)
+
+-- in fewer steps
+abbrev pub anew : Terms
+anew = record { more = 0; more_at_end = 0; slack = pace; least = 0 }
+
+abbrev pub LaidOutSimulatesFlat : Type 0
+LaidOutSimulatesFlat =
+    (weight : ℕ → ℕ) (limit : ℕ) (f g : flat.Program) (input : List ℕ) → IsLaidOut f g
+    → Simulates anew weight limit (of_plain f input) (of_plain g input)
+
 abbrev pub OptimisedSimulatesFlat : Type 0
 OptimisedSimulatesFlat =
     (weight : ℕ → ℕ) (limit : ℕ) (f g : flat.Program) (input : List ℕ) → IsOptimised f g
@@ -149,11 +166,11 @@ pub record IsMadeOf (p : typed.Program) (f : flat.Program) : Type 0 where
   pub plain : flat.Program
   pub flattened : IsFlattened code plain
   pub simpler : flat.Program
-  pub optimised : IsOptimised plain simpler
+  pub better : IsBetter plain simpler
   pub renumbered : IsRenumbered simpler f
 
 abbrev pub into_flat : Terms
-into_flat = both step_for_step (both step_for_step (both step_for_step step_for_step))
+into_flat = both step_for_step (both step_for_step (both step_for_step (both anew (both step_for_step step_for_step))))
 
 abbrev pub FlatSimulatesProgram : Type 0
 FlatSimulatesProgram =

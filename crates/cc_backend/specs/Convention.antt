@@ -1,5 +1,5 @@
 -- The calling convention of the code of an image, and where all frames of flat code's run fit the stack.
-use Rattle.std.specs.Prelude.{◌≡◌, ◌≤◌, ℕ, suc, ◌+◌, List, length}
+use Rattle.std.specs.Prelude.{◌≡◌, ◌≤◌, ℕ, suc, ◌+◌, ◌*◌, List, length}
 use Rattle.memory_map.specs.MemoryMap.{text_start, data_start}
 use Rattle.elf_out.specs.Layout.{Parts}
 use Rattle.elf_out.specs.Program.{program_image}
@@ -11,6 +11,7 @@ use Rattle.csem.specs.Machine.{Stops, Ended, TicksUsed}
 use Rattle.csem.specs.Meaning.{cstep}
 use Rattle.frames_code.specs.Code.{Program}
 use Rattle.frames_code.specs.Run.{State, running, entered, run, start}
+use Rattle.frames_layout.specs.LaidOut.{pace}
 use Rattle.select_correct.specs.Laws.{AreBytes}
 use Rattle.select_correct.specs.Convention.{KeepsConvention, ComesToCall, behind_call}
 use Rattle.cc_backend.specs.FlatImages.{IsImageOf, FitStack}
@@ -38,11 +39,11 @@ ImageMainKeepsConvention =
     (q.assembled.env p.main) (text_start + 24) (start p input) (FitsFor parts.stack p (start p input))
 
 -- The frames of the calls that are active in a run of a program's flat code are never more than the greatest sum of weights that the abstract machine reports:
--- not in its first n steps, where that has used n ticks, and not at all, where that has ended.
+-- not in its first steps, one for so many ticks that were used, and not at all, where that has ended.
 abbrev pub FramesAreWeighed : Type 0
 FramesAreWeighed =
     (p : typed.Program) (f : Program) (input : List ℕ) → IsFlatCodeOf p f → AreBytes input
     → ((n : ℕ) (s : machine.State) → cstep n p input ≡ Stops TicksUsed s
-    → (k : ℕ) → k ≤ n → FitStack (greatest_sum (weight_in p) s.history) f (run f k (start f input)))
+    → (k : ℕ) → pace * k ≤ n → FitStack (greatest_sum (weight_in p) s.history) f (run f k (start f input)))
     × ((n status : ℕ) (s : machine.State) → cstep n p input ≡ Stops (Ended status) s
     → (k : ℕ) → FitStack (greatest_sum (weight_in p) s.history) f (run f k (start f input)))

@@ -10,6 +10,7 @@ pub use Rattle.select_correct.specs.Runs as Simulated
 pub use Rattle.select_correct.specs.Reaching
 pub use Rattle.select_correct.specs.Convention as Conventional
 pub mod Runs
+pub mod Better
 pub mod Made
 pub mod Sizes
 pub mod FlatImages

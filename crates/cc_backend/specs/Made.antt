@@ -24,8 +24,8 @@ use Rattle.frames_code.specs.Code.{frame_bytes}
 use Rattle.frames_code.specs.Sound as flat_sound
 use Rattle.frames.specs.Translated.{flat_program}
 use Rattle.frames_regalloc.specs.Renumbered.{IsRenumbered}
-use Rattle.frames_hoist.specs.Optimised.{IsOptimised}
 use Rattle.select.specs.Program.{program_items, function_items, shorten_calls, calls_are_near}
+use Rattle.cc_backend.specs.Better.{IsBetter}
 use Rattle.cc_backend.specs.FlatImages.{IsImageOf}
 use Rattle.cc_backend.specs.Runs.{RunsAs}
 
@@ -45,12 +45,12 @@ UnitsAreSmall =
     (stack : ℕ) (texts : List (List ℕ)) (whole : Pos) (unit : List ExternalTree) (p : Program) → unit_typed stack texts whole unit ≡ fine p
     → nodes_of p.functions ≤ unit_nodes unit
 
--- Flat code of the program: its three-address code is flattened and optimised, and the words of its frames are renumbered by their use.
+-- Flat code of the program: its three-address code is flattened, and made better, and the words of its frames are renumbered by their use.
 pub record IsFlatCodeOf (p : Program) (f : flat.Program) : Type 0 where
   pub code : tac.Program
   pub lowered : IsLowered p code
   pub simpler : flat.Program
-  pub optimised : IsOptimised (flat_program code) simpler
+  pub better : IsBetter (flat_program code) simpler
   pub renumbered : IsRenumbered simpler f
   pub sound : flat_sound.IsSoundProgram f
 

@@ -189,37 +189,42 @@ fn settle(references: &mut [Reference], data: u32) {
     }
 }
 
-/// The rows of a function, whose first instruction has the label `first`.
-fn rows(
-    alloc: Global,
-    starts: &[CodeStart],
-    labels: &[u32],
+/// Where the flat code of a function has come to lie: the addresses of labels, the label of its first instruction, and the places there of its
+/// instructions as flattening gives them, from the first on that is no move of a parameter.
+#[derive(Clone, Copy)]
+struct Lie<'l> {
+    labels: &'l [u32],
     first: usize,
-) -> Result<Vec<CodeRow>, AllocError> {
+    places: &'l [usize],
+    begin: usize,
+}
+
+fn address_in(lie: &Lie<'_>, number: usize) -> u32 {
+    let place = lie.places.get(lie.begin.saturating_add(number)).copied();
+    address_at(lie.labels, lie.first.saturating_add(place.unwrap_or(0)))
+}
+
+/// The rows of a function.
+fn rows(alloc: Global, starts: &[CodeStart], lie: &Lie<'_>) -> Result<Vec<CodeRow>, AllocError> {
     let mut rows = Vec::with_capacity(alloc, starts.len())?;
     for start in starts {
         rows.push(CodeRow {
             place: start.place,
-            address: address_at(labels, first.saturating_add(start.number)),
+            address: address_in(lie, start.number),
         })?;
     }
     Ok(rows)
 }
 
-/// The scopes of a function, whose first instruction has the label `first`.
-fn scopes(
-    alloc: Global,
-    found: &[CodeScope],
-    labels: &[u32],
-    first: usize,
-) -> Result<Vec<ScopeCode>, AllocError> {
+/// The scopes of a function.
+fn scopes(alloc: Global, found: &[CodeScope], lie: &Lie<'_>) -> Result<Vec<ScopeCode>, AllocError> {
     let mut scopes = Vec::with_capacity(alloc, found.len())?;
     for scope in found {
         scopes.push(ScopeCode {
             first: scope.first,
             count: scope.count,
-            start: address_at(labels, first.saturating_add(scope.start)),
-            end: address_at(labels, first.saturating_add(scope.end)),
+            start: address_in(lie, scope.start),
+            end: address_in(lie, scope.end),
         })?;
     }
     Ok(scopes)
@@ -237,13 +242,20 @@ fn function_code(
 ) -> Result<FunctionCode, AllocError> {
     let starts = code_starts(alloc, program, function)?;
     let found = code_scopes(alloc, program, function)?;
-    let body = first.saturating_add(function.function_type.parameters.len());
+    let lie = Lie {
+        labels,
+        first,
+        places: homes.places.as_slice(),
+        begin: function.function_type.parameters.len(),
+    };
+    let rows = rows(alloc, starts.as_slice(), &lie)?;
+    let scopes = scopes(alloc, found.as_slice(), &lie)?;
     Ok(FunctionCode {
         name: function.name,
         start,
         end: 0,
-        rows: rows(alloc, starts.as_slice(), labels, body)?,
-        scopes: scopes(alloc, found.as_slice(), labels, body)?,
+        rows,
+        scopes,
         homes,
     })
 }

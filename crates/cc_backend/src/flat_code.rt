@@ -11,8 +11,10 @@ ghost use Rattle.cc_backend.specs.inside.FlatFunctions.{IsFlatFunctionOf, AreFla
 use frames::{Starts, data_alone, flatten_function};
 use frames_code::FlatProgram;
 use frames_hoist::hoist_function;
+use frames_layout::{known_bytes, lay_out};
 use frames_leaf::allocate_leaf;
 use frames_opt::simplify_function;
+use frames_reach::remove_unreachable;
 use frames_regalloc::renumber_function;
 use srcset::Fault;
 use std::alloc::{AllocError, Global};
@@ -42,8 +44,11 @@ fn flat_function(
     let code = lower_function(alloc, program, function, is_main)?;
     let long = flatten_function(alloc, starts, &code)?;
     drop(code);
+    let most = known_bytes(&long.code);
     let simple = simplify_function(alloc, long)?;
-    let hoisted = hoist_function(alloc, simple)?;
+    let reached = remove_unreachable(alloc, simple)?;
+    let laid = lay_out(alloc, most, reached)?;
+    let hoisted = hoist_function(alloc, laid)?;
     let allocated = allocate_leaf(alloc, hoisted)?;
     renumber_function(alloc, &allocated)
 }

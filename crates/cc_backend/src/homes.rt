@@ -6,8 +6,10 @@ ghost use Rattle.cc_backend.specs.Made.{IsReady};
 
 use frames::{Home, Starts, flatten_function, object_homes};
 use frames_hoist::hoist_function;
+use frames_layout::{known_bytes, lay_out, new_places};
 use frames_leaf::{allocate_leaf, leaf_words};
 use frames_opt::simplify_function;
+use frames_reach::remove_unreachable;
 use frames_regalloc::word_numbers;
 use std::alloc::{AllocError, Global};
 use tac::lower_function;
@@ -29,6 +31,8 @@ pub struct FunctionHomes {
     pub objects: Vec<ObjectHome>,
     /// Its parameters that are arrays, in their order: where the address is.
     pub arrays: Vec<ObjectHome>,
+    /// The place in the code of the file of each instruction that flattening gives, and of the end.
+    pub places: Vec<usize>,
 }
 
 /// A function's words under their numbers in its flat code, and the description of its frame that they give.
@@ -103,6 +107,7 @@ fn lived_in(
     function: &Function,
     homes: &[Home],
     words: &Words,
+    places: Vec<usize>,
 ) -> Result<FunctionHomes, AllocError> {
     let mut objects = Vec::with_capacity(alloc, homes.len())?;
     for home in homes {
@@ -115,7 +120,11 @@ fn lived_in(
             arrays.push(words.home(first.saturating_add(arrays.len())))?;
         }
     }
-    Ok(FunctionHomes { objects, arrays })
+    Ok(FunctionHomes {
+        objects,
+        arrays,
+        places,
+    })
 }
 
 /// Where the objects of a function live. Its flat code, `flat`, is made of it as in `flat_program`.
@@ -134,8 +143,12 @@ fn homes_of(
     let homes = object_homes(alloc, &code)?;
     let long = flatten_function(alloc, starts, &code)?;
     drop(code);
+    let most = known_bytes(&long.code);
     let simple = simplify_function(alloc, long)?;
-    let hoisted = hoist_function(alloc, simple)?;
+    let reached = remove_unreachable(alloc, simple)?;
+    let places = new_places(alloc, most, &reached.code)?;
+    let laid = lay_out(alloc, most, reached)?;
+    let hoisted = hoist_function(alloc, laid)?;
     let temporaries = leaf_words(alloc, &hoisted)?;
     let allocated = allocate_leaf(alloc, hoisted)?;
     let words = Words {
@@ -144,7 +157,7 @@ fn homes_of(
         resident: flat.map_or(0, |flat| flat.resident),
         outgoing: allocated.outgoing,
     };
-    lived_in(alloc, function, homes.as_slice(), &words)
+    lived_in(alloc, function, homes.as_slice(), &words, places)
 }
 
 /// Where the objects of each function live, in the order of their definitions. `flat` has their flat code, by `flat_program`.

@@ -3,7 +3,7 @@
 ghost use Rattle.cc_backend.specs.FlatImages.{ImageGoesOn, ImageEnds, ImageCallsKeep};
 ghost use Rattle.cc_backend.specs.Convention.{ImageCallsKeepConvention, ImageMainKeepsConvention, FramesAreWeighed};
 ghost use Rattle.cc_backend.specs.Words.{StepsAreAsMeant};
-ghost use Rattle.cc_backend.specs.Chain.{TacSimulatesProgram, FlatSimulatesTac, OptimisedSimulatesFlat, RenumberedSimulatesFlat, ImageSimulatesFlat, FlatSimulatesProgram, FileSimulatesProgram};
+ghost use Rattle.cc_backend.specs.Chain.{TacSimulatesProgram, FlatSimulatesTac, SimplifiedSimulatesFlat, LaidOutSimulatesFlat, OptimisedSimulatesFlat, RenumberedSimulatesFlat, ImageSimulatesFlat, FlatSimulatesProgram, FileSimulatesProgram};
 ghost use Rattle.cc_backend.specs.Sizes.{RowsFit, CodeFits, ProgramIsShort};
 ghost use Rattle.cc_backend.specs.Made.{UnitsAreSmall};
 
@@ -51,6 +51,16 @@ pub fn tac_simulates_program()
 /// Flat code simulates the three-address code that it was flattened from.
 pub fn flat_simulates_tac()
     ensures { FlatSimulatesTac }
+{}
+
+/// Simplified flat code does what the flat code does.
+pub fn simplified_simulates_flat()
+    ensures { SimplifiedSimulatesFlat }
+{}
+
+/// Flat code that is laid out anew does what the flat code does, in fewer steps.
+pub fn laid_out_simulates_flat()
+    ensures { LaidOutSimulatesFlat }
 {}
 
 /// Optimised flat code simulates the original.

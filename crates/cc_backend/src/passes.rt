@@ -7,8 +7,10 @@ ghost use Rattle.cc_backend.specs.Made.{IsReady};
 use frames::{Starts, data_alone, flatten_function};
 use frames_code::FlatProgram;
 use frames_hoist::hoist_function;
+use frames_layout::{known_bytes, lay_out};
 use frames_leaf::allocate_leaf;
 use frames_opt::simplify_function;
+use frames_reach::remove_unreachable;
 use frames_regalloc::renumber_function;
 use std::alloc::{AllocError, Global};
 use tac::lower_function;
@@ -21,6 +23,10 @@ pub enum Pass {
     Flatten,
     /// Constants are propagated, and dead stores removed.
     Simplify,
+    /// Instructions that no run comes to are gone.
+    RemoveUnreachable,
+    /// Jumps are threaded, and what does nothing is left out.
+    LayOut,
     /// Constants that loops use are in words of the frame.
     Hoist,
     /// Words of functions that call nothing are in those of a1 to a7 that are free.
@@ -47,11 +53,20 @@ fn function_after(
     if pass == Pass::Flatten {
         return Ok(long);
     }
+    let most = known_bytes(&long.code);
     let simple = simplify_function(alloc, long)?;
     if pass == Pass::Simplify {
         return Ok(simple);
     }
-    let hoisted = hoist_function(alloc, simple)?;
+    let reached = remove_unreachable(alloc, simple)?;
+    if pass == Pass::RemoveUnreachable {
+        return Ok(reached);
+    }
+    let laid = lay_out(alloc, most, reached)?;
+    if pass == Pass::LayOut {
+        return Ok(laid);
+    }
+    let hoisted = hoist_function(alloc, laid)?;
     if pass == Pass::Hoist {
         return Ok(hoisted);
     }

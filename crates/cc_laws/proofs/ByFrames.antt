@@ -18,6 +18,7 @@ use Rattle.frames.specs.Flattened.{behind}
 use Rattle.frames_correct.proofs.Runs.{run_both}
 use Rattle.cc_backend.specs.Runs.{IsInput}
 use Rattle.cc_backend.specs.FlatImages.{FitStack}
+use Rattle.frames_layout.specs.LaidOut.{pace}
 use Rattle.cc_backend.specs.Made.{IsFileOf}
 use Rattle.cc_backend.specs.Simulation.{Doing, Done, AreWithin, Simulates, both}
 use Rattle.cc_backend.specs.Chain.{of_program, of_flat, of_image, into_flat, into_file}
@@ -105,32 +106,33 @@ module _ (stack : ℕ) (p : Program) (file frames : List ℕ) (made : IsFileOf s
       frames_fit (frame_in sizes) flat_code made.code_is.sound (own_frame stack p file frames made input bytes) made.parts.stack input k (behind flat_code input k) refl
       (λ s e. within n (flat_run.active s) (its (flat_run.active s) (k, s, le, e, refl)))
 
-  fits_going : (n : ℕ) (s : State) → cstep n p input ≡ Stops TicksUsed s → FitStack made.parts.stack flat_code (behind flat_code input n)
-  fits_going n s over =
+  -- where the abstract machine has used n ticks, which are enough for k steps
+  fits_going : (n k : ℕ) (s : State) → pace * k ≤ n → cstep n p input ≡ Stops TicksUsed s → FitStack made.parts.stack flat_code (behind flat_code input k)
+  fits_going n k s enough over =
       let x : Doing = record { trace = trace_of s.history; input = s.input; calls = active s.history } in
       let c = (flat_simulates_program (frame_in sizes) made.parts.stack p flat_code input (way_of p flat_code made.code_is) bytes).goes_on n x (s, over, refl, refl, refl) (within n) in
-      fit_up_to n c.0 c.5 n (omega (arith, c.1))
+      fit_up_to n c.0 c.5 k (omega (arith, enough, c.1))
 
-  fits_ended : (n status : ℕ) (s : State) → cstep n p input ≡ Stops (Ended status) s → FitStack made.parts.stack flat_code (behind flat_code input n)
-  fits_ended n status s over =
+  fits_ended : (n k status : ℕ) (s : State) → cstep n p input ≡ Stops (Ended status) s → FitStack made.parts.stack flat_code (behind flat_code input k)
+  fits_ended n k status s over =
       let x : Done = record { status = status; trace = trace_of s.history; input = s.input } in
       let c = (flat_simulates_program (frame_in sizes) made.parts.stack p flat_code input (way_of p flat_code made.code_is) bytes).ends n x (s, over, refl, refl) (within n) in
       ⊎_elim
-      (λ lt. fit_up_to n c.0 c.3 n (omega (arith, lt)))
+      (λ lt. fit_up_to n c.0 c.3 k (omega (arith, lt)))
       (λ ge.
-      let sum : n ≡ c.0 + (n - c.0) = omega (arith, ge) in
-      let whole : behind flat_code input n ≡ flat_run.ended status s.input (trace_of s.history) =
-      ap (behind flat_code input) sum ∙ (run_both flat_code c.0 (n - c.0) (flat_run.start flat_code input) ∙ ap (λ x. flat_run.goes_on x (flat_run.run flat_code (n - c.0))) c.2) in
+      let sum : k ≡ c.0 + (k - c.0) = omega (arith, ge) in
+      let whole : behind flat_code input k ≡ flat_run.ended status s.input (trace_of s.history) =
+      ap (behind flat_code input) sum ∙ (run_both flat_code c.0 (k - c.0) (flat_run.start flat_code input) ∙ ap (λ x. flat_run.goes_on x (flat_run.run flat_code (k - c.0))) c.2) in
       subst (FitStack made.parts.stack flat_code) (sym whole) tt)
-      (cases_lt n c.0)
+      (cases_lt k c.0)
 
-  fits_at : (n : ℕ) (e : Ending) → IsDefined e → cstep n p input ≡ Stops e (last_of (cstep n p input)) → FitStack made.parts.stack flat_code (behind flat_code input n)
-  fits_at n (Ended status) ok stops = fits_ended n status (last_of (cstep n p input)) stops
-  fits_at n (Undefined act there) ok stops = absurd ok
-  fits_at n TicksUsed ok stops = fits_going n (last_of (cstep n p input)) stops
+  fits_at : (n k : ℕ) (e : Ending) → pace * k ≤ n → IsDefined e → cstep n p input ≡ Stops e (last_of (cstep n p input)) → FitStack made.parts.stack flat_code (behind flat_code input k)
+  fits_at n k (Ended status) enough ok stops = fits_ended n k status (last_of (cstep n p input)) stops
+  fits_at n k (Undefined act there) enough ok stops = absurd ok
+  fits_at n k TicksUsed enough ok stops = fits_going n k (last_of (cstep n p input)) enough stops
 
-  pub fits_within : (n : ℕ) → FitStack made.parts.stack flat_code (behind flat_code input n)
-  fits_within n = fits_at n (ending_of (cstep n p input)) (fine n).0 (run_stops n p input)
+  pub fits_within : (k : ℕ) → FitStack made.parts.stack flat_code (behind flat_code input k)
+  fits_within k = let n : ℕ = pace * k in fits_at n k (ending_of (cstep n p input)) (omega arith) (fine n).0 (run_stops n p input)
 
 -- if the frames of the active calls are within the stack, each call and main keep the convention
 pub files_keep_convention_within_frames : (stack : ℕ) (p : Program) (file frames : List ℕ) (made : IsFileOf stack p file frames)

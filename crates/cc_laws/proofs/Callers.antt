@@ -13,7 +13,7 @@ use Rattle.frames_code.specs.declared.code.Instruction.TheVariants as instructio
 use Rattle.frames_code.specs.Code.{Program}
 use Rattle.frames_code.specs.Sound.{IsSoundProgram, most_bytes}
 use Rattle.frames_code.specs.Costs.{next_of}
-use Rattle.frames_code.specs.Run.{Value, Bytes, Frame, State, Progress, running, ended, stuck, value, word_at, reference_in, set, next, past, goes_to, place, memory, name_of, changed_among, with_frames, with_memory, with_element, element_in, gives, gives_word, operate, converted, loaded, stored, put, got, returned, act, step, run, goes_on, function_at, bytes_of, ◌>>=◌}
+use Rattle.frames_code.specs.Run.{Value, Bytes, Frame, State, Progress, running, ended, stuck, value, word_at, word_in, reference_in, set, next, past, goes_to, place, memory, name_of, changed_among, with_frames, with_memory, with_element, element_in, gives, gives_word, operate, converted, loaded, stored, put, got, result_of, returned, act, step, run, goes_on, function_at, bytes_of, ◌>>=◌}
 use Rattle.frames_code.specs.Run as flat
 use Rattle.select_correct.proofs.Fits.{function_fits}
 use Rattle.cc_backend.proofs.Plain.{bool_cases}
@@ -114,9 +114,9 @@ module _ (p : Program) (sound : IsSoundProgram p) where
     q : FitsWithin p limit h s
     q = (callers, least, ([], refl))
 
-    returns : (ws : List Frame) → AreBehindCalls p ws → bytes_of p ws ≤ limit → Within p limit h (returned s ws)
-    returns [] r le = used limit h (word_at s (operand.Temporary 0)) (λ v. ended (v % 2 ^ 8) s.input s.trace) (λ v. ([], refl))
-    returns (w ∷ ws) r le = (r.1, le, ([], refl))
+    returns : (result : Option Value) (ws : List Frame) → AreBehindCalls p ws → bytes_of p ws ≤ limit → Within p limit h (returned s result ws)
+    returns result [] r le = used limit h (word_in result) (λ v. ended (v % 2 ^ 8) s.input s.trace) (λ v. ([], refl))
+    returns result (w ∷ ws) r le = (r.1, le, ([], refl))
 
     gets : (input : List ℕ) → Within p limit h (got s input)
     gets [] = (callers, least, (GotEnd ∷ [], refl))
@@ -152,7 +152,7 @@ module _ (p : Program) (sound : IsSoundProgram p) where
     acts instruction.PutByte e = used limit h (word_at s (operand.Temporary 0)) (put s) (λ v. (callers, least, (Put (v % 2 ^ 8) ∷ [], refl)))
     acts instruction.GetByte e = gets s.input
     acts instruction.Exit e = used limit h (word_at s (operand.Temporary 0)) (λ v. ended (v % 2 ^ 8) s.input s.trace) (λ v. ([], refl))
-    acts instruction.Return e = returns s.waiting callers (omega (arith, least))
+    acts instruction.Return e = returns (result_of p s) s.waiting callers (omega (arith, least))
 
     any : (o : Option Instruction) → next_of p s ≡ o → Within p limit h (o >>= act p s)
     any None e = tt

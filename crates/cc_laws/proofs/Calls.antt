@@ -1,5 +1,5 @@
 -- The calls that are active at a step of a file's flat code.
-use Rattle.std.proofs.Common.{◌≡◌, ⊎_elim, ℕ, ◌+◌, ◌-◌, ◌≤◌, List, refl, sym, ap, ◌∙◌, arith}
+use Rattle.std.proofs.Common.{◌≡◌, ⊎_elim, ℕ, ◌+◌, ◌-◌, ◌≤◌, List, refl, sym, ap, ◌∙◌, arith, ◌*◌}
 use Rattle.std.proofs.lemmas.Bool.{cases_lt}
 use Rattle.typing_spec.specs.Program.{Program}
 use Rattle.csem.specs.History.{Entry, trace_of, active, weight_in, greatest_sum}
@@ -9,6 +9,7 @@ use Rattle.frames_code.specs.Run as flat
 use Rattle.frames.specs.Flattened.{behind}
 use Rattle.frames_correct.proofs.Runs.{run_both}
 use Rattle.cc_backend.specs.Runs.{IsInput}
+use Rattle.frames_layout.specs.LaidOut.{pace}
 use Rattle.cc_backend.specs.Made.{IsFileOf}
 use Rattle.cc_backend.specs.Simulation.{Doing, Done}
 use Rattle.cc_backend.specs.Chain.{of_program, of_flat}
@@ -27,13 +28,13 @@ module _ (stack : ℕ) (p : Program) (file frames : List ℕ) (made : IsFileOf s
       let c = its (flat.active s) (k, s, le, e, refl) in
       (n, c.0, c.1, sym c.2)
 
-  at_ticks : (n : ℕ) (s : flat.State) → cstep n p input ≡ Stops TicksUsed (last_of (cstep n p input)) → behind made.code input n ≡ flat.running s → AsMeant s
-  at_ticks n s over e =
+  at_ticks : (n k : ℕ) (s : flat.State) → pace * k ≤ n → cstep n p input ≡ Stops TicksUsed (last_of (cstep n p input)) → behind made.code input k ≡ flat.running s → AsMeant s
+  at_ticks n k s enough over e =
       let stop = last_of (cstep n p input) in
       let most = greatest_sum (weight_in p) stop.history in
       let x : Doing = record { trace = trace_of stop.history; input = stop.input; calls = active stop.history } in
       let c = (flat_simulates_program (weight_in p) most p made.code input (way_of p made.code made.code_is) bytes).goes_on n x (stop, over, refl, refl, refl) (calls_are_within p input most n (omega arith)) in
-      on_the_way n c.0 c.5 n s (omega (arith, c.1)) e
+      on_the_way n c.0 c.5 k s (omega (arith, enough, c.1)) e
 
   at_end : (n status : ℕ) (s : flat.State) → cstep n p input ≡ Stops (Ended status) (last_of (cstep n p input)) → (k : ℕ) → behind made.code input k ≡ flat.running s → AsMeant s
   at_end n status s over k e =
@@ -50,13 +51,13 @@ module _ (stack : ℕ) (p : Program) (file frames : List ℕ) (made : IsFileOf s
       let both = sym e ∙ whole in cc)
       (cases_lt k c.0)
 
-  at_ending : (n : ℕ) (e : Ending) (s : flat.State) → IsDefined e → cstep n p input ≡ Stops e (last_of (cstep n p input)) → behind made.code input n ≡ flat.running s → AsMeant s
-  at_ending n (Ended status) s ok stops e = at_end n status s stops n e
-  at_ending n (Undefined act there) s ok stops e = absurd ok
-  at_ending n TicksUsed s ok stops e = at_ticks n s stops e
+  at_ending : (n k : ℕ) (e : Ending) (s : flat.State) → pace * k ≤ n → IsDefined e → cstep n p input ≡ Stops e (last_of (cstep n p input)) → behind made.code input k ≡ flat.running s → AsMeant s
+  at_ending n k (Ended status) s enough ok stops e = at_end n status s stops k e
+  at_ending n k (Undefined act there) s enough ok stops e = absurd ok
+  at_ending n k TicksUsed s enough ok stops e = at_ticks n k s enough stops e
 
   pub as_meant : (k : ℕ) (s : flat.State) → behind made.code input k ≡ flat.running s → AsMeant s
-  as_meant k s e = at_ending k (ending_of (cstep k p input)) s (fine k).0 (run_stops k p input) e
+  as_meant k s e = let n : ℕ = pace * k in at_ending n k (ending_of (cstep n p input)) s (omega arith) (fine n).0 (run_stops n p input) e
 
 pub files_call_as_meant : FilesCallAsMeant
 files_call_as_meant stack p file frames made input bytes fine k s e = as_meant stack p file frames made input bytes fine k s e

@@ -1,5 +1,5 @@
 -- The calling convention of a file made of a program.
-use Rattle.std.proofs.Common.{◌≡◌, ◌≤◌, ℕ, suc, ◌+◌, List, Some, Ok, sym, ap, ◌∙◌, subst, arith}
+use Rattle.std.proofs.Common.{◌≡◌, ◌≤◌, ℕ, suc, ◌+◌, List, Some, Ok, sym, ap, ◌∙◌, subst, arith, ◌*◌}
 use Rattle.memory_map.specs.MemoryMap.{text_start}
 use Rattle.loader.specs.File.{file_image}
 use Rattle.elf_out.specs.Program.{program_image}
@@ -15,6 +15,7 @@ use Rattle.typing_spec.specs.Program.{Program}
 use Rattle.csem.specs.Machine.{Ending, Ended, Undefined, TicksUsed, Stops}
 use Rattle.csem.specs.Meaning.{cstep, answer, ending_of, last_of}
 use Rattle.cc_backend.specs.Runs.{IsInput}
+use Rattle.frames_layout.specs.LaidOut.{pace}
 use Rattle.cc_backend.specs.Made.{IsFileOf}
 use Rattle.cc_backend.specs.FlatImages.{FitStack}
 use Rattle.cc_backend.specs.Convention.{FitsFor}
@@ -67,17 +68,20 @@ module _ (stack : ℕ) (p : Program) (file frames : List ℕ) (made : IsFileOf s
   abbrev run_at : ℕ → flat.Progress
   run_at k = flat.run made.code k (flat.start made.code input)
 
-  fits_ending : (k : ℕ) (e : Ending) → IsDefined e → cstep k p input ≡ Stops e (last_of (cstep k p input)) → FitStack stack made.code (run_at k)
-  fits_ending k (Ended status) ok stops =
-      fit_more (answer k p input).greatest stack made.code (run_at k) (fine k).1
-      ((frames_are_weighed p made.code input made.code_is bytes).1 k status (last_of (cstep k p input)) stops k)
-  fits_ending k (Undefined act there) ok stops = absurd ok
-  fits_ending k TicksUsed ok stops =
-      fit_more (answer k p input).greatest stack made.code (run_at k) (fine k).1
-      ((frames_are_weighed p made.code input made.code_is bytes).0 k (last_of (cstep k p input)) stops k (omega arith))
+  -- where the abstract machine has used n ticks, which are enough for k steps
+  fits_ending : (n k : ℕ) → pace * k ≤ n → (e : Ending) → IsDefined e → cstep n p input ≡ Stops e (last_of (cstep n p input)) → FitStack stack made.code (run_at k)
+  fits_ending n k le (Ended status) ok stops =
+      fit_more (answer n p input).greatest stack made.code (run_at k) (fine n).1
+      ((frames_are_weighed p made.code input made.code_is bytes).1 n status (last_of (cstep n p input)) stops k)
+  fits_ending n k le (Undefined act there) ok stops = absurd ok
+  fits_ending n k le TicksUsed ok stops =
+      fit_more (answer n p input).greatest stack made.code (run_at k) (fine n).1
+      ((frames_are_weighed p made.code input made.code_is bytes).0 n (last_of (cstep n p input)) stops k le)
 
   pub fits : (k : ℕ) → FitStack made.parts.stack made.code (run_at k)
-  fits k = subst (λ z. FitStack z made.code (run_at k)) (sym made.stack_is) (fits_ending k (ending_of (cstep k p input)) (fine k).0 (run_stops k p input))
+  fits k =
+      let n : ℕ = pace * k in
+      subst (λ z. FitStack z made.code (run_at k)) (sym made.stack_is) (fits_ending n k (omega arith) (ending_of (cstep n p input)) (fine n).0 (run_stops n p input))
 
 pub files_keep_convention : FilesKeepConvention
 files_keep_convention stack p file frames made =

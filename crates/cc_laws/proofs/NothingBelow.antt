@@ -1,5 +1,5 @@
 -- In the run of a file nothing below the stack pointer is loaded or stored, if the program stays defined.
-use Rattle.std.proofs.Common.{◌≡◌, ⊎_elim, ℕ, ◌+◌, ◌-◌, ◌≤◌, List, Ok, refl, sym, ap, ◌∙◌, subst, arith}
+use Rattle.std.proofs.Common.{◌≡◌, ⊎_elim, ℕ, ◌+◌, ◌-◌, ◌≤◌, List, Ok, refl, sym, ap, ◌∙◌, subst, arith, ◌*◌}
 use Rattle.std.proofs.lemmas.Bool.{cases_lt}
 use Rattle.loader.specs.File.{file_image}
 use Rattle.elf_out.specs.Program.{program_image}
@@ -12,6 +12,7 @@ use Rattle.cc_backend.specs.Runs.{IsInput}
 use Rattle.cc_backend.specs.Made.{IsFileOf}
 use Rattle.cc_laws.specs.Laws.{HasImage, TouchesNothingBelow, FilesTouchNothingBelow}
 use Rattle.cc_laws.specs.Overflow.{IsAlwaysDefined}
+use Rattle.frames_layout.specs.LaidOut.{pace}
 use Rattle.cc_laws.specs.Frames.{StaysWithinFrames}
 use Rattle.cc_laws.proofs.Below.{all_above}
 use Rattle.cc_laws.proofs.Conventions.{fits}
@@ -37,7 +38,7 @@ module _ (stack : ℕ) (p : Program) (file frames : List ℕ) (made : IsFileOf s
       (λ lt. let both = sym d.is ∙ at_later n d.m flat.stuck (omega (arith, lt)) e in cc)
       (λ ge. let both = sym e ∙ at_later d.m n (flat.ended d.status d.left d.trace) ge d.is in cc)
       (cases_lt n d.m))
-      (flat_at stack p file frames made input bytes fine n (ending_of (cstep n p input)) refl (fine n))
+      (flat_at stack p file frames made input bytes fine (pace * n) (ending_of (cstep (pace * n) p input)) refl (fine (pace * n)))
 
 pub files_touch_nothing_below : FilesTouchNothingBelow
 files_touch_nothing_below stack p file frames made =

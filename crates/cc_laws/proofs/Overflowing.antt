@@ -1,5 +1,5 @@
 -- A file whose calls need more stack than it has does what its program does until an access below the stack traps.
-use Rattle.std.proofs.Common.{◌≡◌, ◌⊎◌, inl, inr, ℕ, ◌+◌, ◌-◌, ◌*◌, ◌^◌, ◌<◌, ◌≤◌, List, [], ◌∷◌, ◌++◌, length, reverse, Ok, refl, sym, ap, ◌∙◌, subst, arith}
+use Rattle.std.proofs.Common.{◌≡◌, ◌⊎◌, inl, inr, ℕ, ◌+◌, ◌-◌, ◌*◌, ◌^◌, ◌<◌, ◌≤◌, List, [], ◌∷◌, ◌++◌, length, reverse, Ok, refl, sym, ap, ◌∙◌, subst, arith, mul_assoc}
 use Rattle.std.specs.Prelude.{replicate}
 use Rattle.std.proofs.Math.Nat.{lt_of_mul-lt-mul_left}
 use Rattle.std.proofs.lemmas.List.{append_assoc, reverse-append}
@@ -26,6 +26,7 @@ use Rattle.select_exec.proofs.Keeping.{runs_keep}
 use Rattle.select_correct.specs.Runs.{slack}
 use Rattle.select_correct.proofs.Real.{goes_on, ends_so, stands}
 use Rattle.cc_backend.specs.Runs.{IsInput}
+use Rattle.frames_layout.specs.LaidOut.{pace}
 use Rattle.cc_backend.specs.Made.{IsFileOf}
 use Rattle.cc_backend.specs.Simulation.{Doing, Done, AreWithin}
 use Rattle.cc_backend.specs.Chain.{of_program}
@@ -94,7 +95,7 @@ module _ (stack : ℕ) (p : Program) (file frames : List ℕ) (made : IsFileOf s
     pub m : ℕ
     pub state : flat.State
     pub is : at m ≡ flat.running state
-    pub far : n ≤ m
+    pub far : n ≤ pace * m
     pub same : reverse state.trace ≡ (answer n p input).trace
 
   pub record FlatEnds (n : ℕ) : Type 0 where
@@ -126,10 +127,17 @@ module _ (stack : ℕ) (p : Program) (file frames : List ℕ) (made : IsFileOf s
 
   -- ---- the machine, at n ticks
 
+  -- the ticks for one instruction at the most
+  abbrev whole_slack : ℕ
+  whole_slack = pace * slack code
+
+  paced : (n m k : ℕ) → n ≤ pace * m → m < slack code * k → n < whole_slack * k
+  paced n m k one two = let whole_is : whole_slack * k ≡ pace * (slack code * k) = mul_assoc pace (slack code) k in omega (arith, one, two, whole_is)
+
   record Goes (n : ℕ) : Type 0 where
     pub k : ℕ
     pub world : World
-    pub far : n < slack code * k
+    pub far : n < whole_slack * k
     pub is : widely k ≡ Running world
     pub same : reverse world.trace ≡ (answer n p input).trace
 
@@ -192,7 +200,7 @@ module _ (stack : ℕ) (p : Program) (file frames : List ℕ) (made : IsFileOf s
         | inl fits ↦
             let g = goes_on (wide_image.P code parts q) (whole.low code parts q) (wide_image.apart code parts q) code q.assembled.env (data_end parts) (whole.data_at code parts q) text_start (whole.past_text code parts q) (λ k. 0) (program_space parts).byte (replicate 32 0) input
             (wide_image.laid code parts q) (whole.zero_registers code parts q) bytes f.m f.state f.is fits in
-            inl (record { k = g.0; world = g.1; far = omega (arith, g.2, f.far); is = g.4; same = ap reverse g.5.trace ∙ f.same })
+            inl (record { k = g.0; world = g.1; far = paced n f.m g.0 f.far g.2; is = g.4; same = ap reverse g.5.trace ∙ f.same })
         | inr b ↦ inr (bursts n f.m f.state.trace b (ends_later f.m f.state.trace (λ s e. let both = sym e ∙ f.is in cc) (λ status left trace e. let both = sym e ∙ f.is in cc) (λ e. let both = sym e ∙ f.is in cc)) f.same)
       ]
 
@@ -251,9 +259,9 @@ module _ (stack : ℕ) (p : Program) (file frames : List ℕ) (made : IsFileOf s
   ended_too k (inl same) status w e = same ∙ ap (loose_progress wide) e
   ended_too k (inr r) status w e = let both = sym r.traps ∙ e in cc
 
-  after_goes : (k : ℕ) → Goes (slack code * k) → After k
+  after_goes : (k : ℕ) → Goes (whole_slack * k) → After k
   after_goes k g =
-      let past = lt_of_mul-lt-mul_left (slack code) {m = k} {n = g.k} g.far in
+      let past = lt_of_mul-lt-mul_left whole_slack {m = k} {n = g.k} g.far in
       let here = goes_before k g.k (loose_world wide begin) g.world (omega (arith, past)) g.is in
       let never = no_trap (widely k) here.0 here.1 in
       let beside = same_or_refused wide k begin (wide_image.widens code parts made.image_is) never in
@@ -261,13 +269,13 @@ module _ (stack : ℕ) (p : Program) (file frames : List ℕ) (made : IsFileOf s
       let last : machine.trace_of (widely (k + (g.k - k))) ≡ g.world.trace = ap (λ j. machine.trace_of (widely j)) sum ∙ ap machine.trace_of g.is in
       let on : IsEndOf (machine.trace_of (widely k)) g.world.trace = subst (IsEndOf (machine.trace_of (widely k))) last (runs_keep k (g.k - k) (loose_world wide begin)).0 in
       record {
-        n = slack code * k;
-        begins = begun k (slack code * k) g.world.trace (done_at k g.world.trace beside on) g.same;
+        n = whole_slack * k;
+        begins = begun k (whole_slack * k) g.world.trace (done_at k g.world.trace beside on) g.same;
         ends = λ status w e. let both = sym here.1 ∙ ended_too k beside status w e in cc;
         traps = traps_so k never beside;
       }
 
-  after_ends : (k : ℕ) → Ends (slack code * k) → After k
+  after_ends : (k : ℕ) → Ends (whole_slack * k) → After k
   after_ends k g =
       let order : k + g.k ≡ g.k + k = omega arith in
       let later : widely (k + g.k) ≡ sim.Ended g.status g.world = ap widely order ∙ (runs_keep g.k k (loose_world wide begin)).1 g.status g.world g.is in
@@ -275,8 +283,8 @@ module _ (stack : ℕ) (p : Program) (file frames : List ℕ) (made : IsFileOf s
       let beside = same_or_refused wide k begin (wide_image.widens code parts made.image_is) never in
       let on : IsEndOf (machine.trace_of (widely k)) g.world.trace = subst (IsEndOf (machine.trace_of (widely k))) (ap machine.trace_of later) (runs_keep k g.k (loose_world wide begin)).0 in
       record {
-        n = slack code * k;
-        begins = begun k (slack code * k) g.world.trace (done_at k g.world.trace beside on) g.same;
+        n = whole_slack * k;
+        begins = begun k (whole_slack * k) g.world.trace (done_at k g.world.trace beside on) g.same;
         ends = λ status w e.
             let both = sym later ∙ (runs_keep k g.k (loose_world wide begin)).1 status (loose_world wide w) (ended_too k beside status w e) in
             let which : g.status ≡ status = cc in
@@ -285,14 +293,14 @@ module _ (stack : ℕ) (p : Program) (file frames : List ℕ) (made : IsFileOf s
         traps = traps_so k never beside;
       }
 
-  after_overflows : (k : ℕ) → Overflows (slack code * k) → After k
+  after_overflows : (k : ℕ) → Overflows (whole_slack * k) → After k
   after_overflows k o =
       let order : k + o.k ≡ o.k + k = omega arith in
       let later : run_of image input (k + o.k) ≡ Trapped o.refused.reason o.refused.world = ap (run_of image input) order ∙ (runs_keep o.k k begin).2 o.refused.reason o.refused.world o.refused.traps in
       let on : IsEndOf (machine.trace_of (run_of image input k)) o.refused.world.trace = subst (IsEndOf (machine.trace_of (run_of image input k))) (ap machine.trace_of later) (runs_keep k o.k begin).0 in
       record {
-        n = slack code * k;
-        begins = begun k (slack code * k) o.whole (end_further (machine.trace_of (run_of image input k)) o.refused.world.trace o.whole on o.before) o.same;
+        n = whole_slack * k;
+        begins = begun k (whole_slack * k) o.whole (end_further (machine.trace_of (run_of image input k)) o.refused.world.trace o.whole on o.before) o.same;
         ends = λ status w e. let both = sym later ∙ (runs_keep k o.k begin).1 status w e in cc;
         traps = λ c w e.
             let both = sym later ∙ (runs_keep k o.k begin).2 c w e in
@@ -303,7 +311,7 @@ module _ (stack : ℕ) (p : Program) (file frames : List ℕ) (made : IsFileOf s
       }
 
   after : (k : ℕ) → After k
-  after k = elim (at_tick (slack code * k)) [ inl g ↦ after_goes k g | inr more ↦ elim more [ inl g ↦ after_ends k g | inr o ↦ after_overflows k o ] ]
+  after k = elim (at_tick (whole_slack * k)) [ inl g ↦ after_goes k g | inr more ↦ elim more [ inl g ↦ after_ends k g | inr o ↦ after_overflows k o ] ]
 
   -- ---- n ticks, in the file
 

@@ -2,7 +2,8 @@
 use Rattle.std.proofs.Common.{◌≡◌, ⊎_elim, ℕ, zero, suc, ◌+◌, ◌-◌, ◌*◌, ◌≤◌, ◌<◌, List, [], ◌∷◌, Option, Some, None, Ok, refl, sym, ap, ◌∙◌, subst, arith}
 use Rattle.std.proofs.lemmas.Bool.{cases_lt}
 use Rattle.std.proofs.lemmas.Bool.Decides.{nat_tests}
-use Rattle.std.specs.Prelude.{slice_get, nat_lt, true, false}
+use Rattle.std.specs.Prelude.{is_some, slice_get, nat_lt, true, false}
+use Rattle.ctypes.specs.declared.types.IntType.{IntType}
 use Rattle.rv32.specs.Space.{word_at}
 use Rattle.rv32.specs.Step.{register}
 use Rattle.loader.specs.File.{file_image}
@@ -15,6 +16,7 @@ use Rattle.csem.specs.Laws.{Grows}
 use Rattle.csem.specs.Machine.{Ending, Ended, Undefined, TicksUsed, Stops}
 use Rattle.csem.specs.Meaning.{cstep, ending_of, last_of}
 use Rattle.tac_code.specs.Code as tac_code
+use Rattle.tac_code.specs.declared.code.Instruction.{Instruction}
 use Rattle.tac_code.specs.declared.code.Instruction.TheVariants as tac_instruction
 use Rattle.tac_code.specs.Run as tac
 use Rattle.tac_code.specs.Run.{◌>>=◌}
@@ -26,8 +28,10 @@ use Rattle.lower_correct.proofs.History.{calls_pass_words, returns_pass_words}
 use Rattle.frames_code.specs.declared.code.Instruction.TheVariants as instruction
 use Rattle.frames_code.specs.Costs.{next_of}
 use Rattle.frames_code.specs.Run as flat
+use Rattle.frames_code.proofs.Results.{result_there}
 use Rattle.frames.specs.Flattened.{before, behind, IsAtCall, HasItsWords, HasItsResult}
 use Rattle.frames_correct.proofs.Runs.{run_both}
+use Rattle.frames_layout.specs.LaidOut.{pace}
 use Rattle.select_correct.specs.Convention.{passed, AtEntry, AtReturn, KeepsConvention, IsInCallee, ComesToCall}
 use Rattle.cc_backend.specs.Runs.{IsInput}
 use Rattle.cc_backend.specs.Made.{IsFileOf}
@@ -78,6 +82,20 @@ no_end q t f status left h call e =
 
 heads : (a b : ℕ) (xs ys : List ℕ) → a ∷ xs ≡ b ∷ ys → a ≡ b
 heads a b xs ys e = cc
+
+-- the type of the result of a function that has an instruction
+known_result : (q : tac_code.Program) (n i : ℕ) (r : Option IntType) (x : Instruction) → ((g : tac_code.Function) → slice_get q.functions n ≡ Some g → g.result ≡ r)
+    → slice_get (tac_code.function_at q n).code i ≡ Some x → (tac_code.function_at q n).result ≡ r
+known_result q n i r x = on (slice_get q.functions n)
+  where
+    on : (o : Option tac_code.Function) → ((g : tac_code.Function) → o ≡ Some g → g.result ≡ r) → slice_get (tac_code.or_no_function o).code i ≡ Some x → (tac_code.or_no_function o).result ≡ r
+    on None each e = absurd (let z : ⊥ = cc in z)
+    on (Some g) each e = each g refl
+
+-- a word is returned only where there is a result
+some_result : (r : Option IntType) (result : Option ℕ) (w : ℕ) → IsReturned r result → result ≡ Some w → is_some r ≡ true
+some_result None result w none e = absurd (let no : None ≡ Some w = sym none ∙ e in let z : ⊥ = cc in z)
+some_result (Some t) result w fits e = refl
 
 -- ---- what three-address code has done, the abstract machine has done
 
@@ -149,15 +167,18 @@ module _ (stack : ℕ) (p : Program) (file frames : List ℕ) (made : IsFileOf s
   point_in : (history : List Entry) (s : flat.State) → IsAsMeant q made.code input history s → Point s
   point_in history s m = (m.step, m.state, m.is, m.calls, m.at_call)
 
-  point_at : (k : ℕ) (s : flat.State) → behind made.code input k ≡ flat.running s → (e : Ending) → IsDefined e → cstep k p input ≡ Stops e (last_of (cstep k p input)) → Point s
-  point_at k s e (Ended status) ok stops =
-      point_in (last_of (cstep k p input)).history s ((steps_are_as_meant p made.code input made.code_is bytes).1 k status (last_of (cstep k p input)) stops k s e)
-  point_at k s e (Undefined act at) ok stops = absurd ok
-  point_at k s e TicksUsed ok stops =
-      point_in (last_of (cstep k p input)).history s ((steps_are_as_meant p made.code input made.code_is bytes).0 k (last_of (cstep k p input)) stops k s (omega arith) e)
+  -- where the abstract machine has used n ticks, which are enough for k steps
+  point_at : (n k : ℕ) (s : flat.State) → pace * k + 1 ≤ n → behind made.code input k ≡ flat.running s → (e : Ending) → IsDefined e → cstep n p input ≡ Stops e (last_of (cstep n p input)) → Point s
+  point_at n k s le e (Ended status) ok stops =
+      point_in (last_of (cstep n p input)).history s ((steps_are_as_meant p made.code input made.code_is bytes).1 n status (last_of (cstep n p input)) stops k s e)
+  point_at n k s le e (Undefined act at) ok stops = absurd ok
+  point_at n k s le e TicksUsed ok stops =
+      point_in (last_of (cstep n p input)).history s ((steps_are_as_meant p made.code input made.code_is bytes).0 n (last_of (cstep n p input)) stops k s le e)
 
   point : (k : ℕ) (s : flat.State) → behind made.code input k ≡ flat.running s → Point s
-  point k s e = point_at k s e (ending_of (cstep k p input)) (defined k) (run_stops k p input)
+  point k s e =
+      let n : ℕ = pace * k + 1 in
+      point_at n k s (omega arith) e (ending_of (cstep n p input)) (defined n) (run_stops n p input)
 
   -- of a call: what the history has, and what the flat code's temporaries have
   pub record CallsWith (f : ℕ) (g : Function) (s : flat.State) : Type 0 where
@@ -202,23 +223,27 @@ module _ (stack : ℕ) (p : Program) (file frames : List ℕ) (made : IsFileOf s
     pub returned : IsReturned g.type.result result
     pub given : (x : ℕ) → result ≡ Some x → s.temporaries 0 ≡ Some (flat.word x)
 
-  left_with : (g : Function) (s : flat.State) (i : ℕ) (t : tac.State) (n : ℕ) (h : List Entry) → before q input i ≡ tac.running t → flat.active s ≡ tac.open_calls t → HasItsResult s t
+  -- the function of three-address code has a result of the same type
+  abbrev HasResultOf : tac.State → Function → Type 0
+  HasResultOf t g = (tac_code.function_at q t.call.function).result ≡ g.type.result
+
+  left_with : (g : Function) (s : flat.State) (i : ℕ) (t : tac.State) (n : ℕ) (h : List Entry) → before q input i ≡ tac.running t → flat.active s ≡ tac.open_calls t → HasResultOf t g → HasItsResult q made.code s t
       → HasComeTo p input n h → LeavesWord g t h → ReturnsWith g s
-  left_with g s i t n h at same its done w = record {
+  left_with g s i t n h at same type its done w = record {
     ticks = n;
     earlier = t.history;
     result = w.0;
     ends = subst (HasComeTo p input n) w.1 done;
     calls_are = sym (calls_of p q lowered input bytes defined i t at) ∙ sym same;
     returned = w.2;
-    given = λ x ex. its x (w.3 x ex);
+    given = λ x ex. result_there made.code s (flat.word x) (its (ap is_some type ∙ some_result g.type.result w.0 x w.2 ex) x (w.3 x ex));
   }
 
-  return_goes : (g : Function) (s : flat.State) (i : ℕ) (t : tac.State) → before q input i ≡ tac.running t → flat.active s ≡ tac.open_calls t → HasItsResult s t
+  return_goes : (g : Function) (s : flat.State) (i : ℕ) (t : tac.State) → before q input i ≡ tac.running t → flat.active s ≡ tac.open_calls t → HasResultOf t g → HasItsResult q made.code s t
       → (r : tac.Progress) → HasDone p q lowered input bytes defined r → ReturnsWord g t r → ReturnsWith g s
-  return_goes g s i t at same its (tac.running u) done w = left_with g s i t done.0 u.history at same its done.1 w
-  return_goes g s i t at same its (tac.ended status left history) done w = left_with g s i t done.0 history at same its done.1 w
-  return_goes g s i t at same its tac.stuck done w = absurd done
+  return_goes g s i t at same type its (tac.running u) done w = left_with g s i t done.0 u.history at same type its done.1 w
+  return_goes g s i t at same type its (tac.ended status left history) done w = left_with g s i t done.0 history at same type its done.1 w
+  return_goes g s i t at same type its tac.stuck done w = absurd done
 
   returns_with : (k f : ℕ) (g : Function) (s : flat.State) → behind made.code input k ≡ flat.running s → next_of made.code s ≡ Some instruction.Return → s.frame.function ≡ f
       → slice_get p.functions f ≡ Some g → ReturnsWith g s
@@ -226,8 +251,10 @@ module _ (stack : ℕ) (p : Program) (file frames : List ℕ) (made : IsFileOf s
       let x = point k s e in
       let y = x.4.returns next in
       let function : x.1.call.function ≡ f = heads x.1.call.function s.frame.function _ _ (sym x.3) ∙ own in
-      return_goes g s x.0 x.1 x.2 x.3 y.1 (tac.step q x.1) (step_has_done p q lowered input bytes defined x.0 x.1 x.2)
-      (returns_pass_words p q lowered x.1 g y.0 (ap (slice_get p.functions) function ∙ known))
+      let there : slice_get p.functions x.1.call.function ≡ Some g = ap (slice_get p.functions) function ∙ known in
+      let type : HasResultOf x.1 g = known_result q x.1.call.function x.1.call.at g.type.result tac_instruction.Return (λ h e. (lowered.each x.1.call.function g h there e).result) y.0 in
+      return_goes g s x.0 x.1 x.2 x.3 type y.1 (tac.step q x.1) (step_has_done p q lowered input bytes defined x.0 x.1 x.2)
+      (returns_pass_words p q lowered x.1 g y.0 there)
 
   -- ---- on the machine
 

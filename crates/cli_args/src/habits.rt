@@ -9,12 +9,21 @@ enum Act {
     Leave,
     /// It stays, and so does the word after it, whatever that is.
     KeepValue,
-    /// It is replaced by this word.
-    Write(&'static str),
-    /// It is replaced by this word, whose value is the rest of the word after its matched beginning, or else the next word.
-    WriteValue(&'static str),
+    /// It is replaced by this word where the command is `build`, and else can't be done.
+    WriteInBuild(&'static str),
+    /// The same, with a value as `WriteValue` has it.
+    ValueInBuild(&'static str, &'static str),
+    /// It is replaced by the first word, whose value is the rest of the word after its matched beginning, or else the next word. The second says that there is no
+    /// next word.
+    WriteValue(&'static str, &'static str),
     /// It is replaced by this word where the command is `check`, and else is left out.
     WriteInCheck(&'static str),
+    /// It leaves the warning out that the rest of the word names, where the command is `check` and has it, and else is left out.
+    LeaveWarning,
+    /// It leaves all warnings out where the command is `check`, and else is left out.
+    LeaveWarnings,
+    /// It can't be done where the command is `check`, and has the warning that the rest of the word names; and else is left out.
+    OneError,
     /// It names the language of the sources by the next word; both are left out.
     Language,
     /// It can't be done, for this reason.
@@ -56,6 +65,28 @@ const OTHER_ENUMS: &str = "an enumeration is an int: leave the word out";
 
 const OTHER_CHARSET: &str =
     "a source is read as ASCII or UTF-8: convert it, and leave the word out";
+
+const NO_WRAP: &str =
+    "signed arithmetic does not wrap: compute with unsigned ints, and leave the word out";
+
+const NO_MARKERS: &str =
+    "zkc pp MAIN prints the tokens without markers: write it in place of -E -P";
+
+const NO_PASSING: &str = "write the options that follow -Wp, as words of their own";
+
+const ONE_ERROR: &str = "write --warn=NAME --werror for a warning that is an error";
+
+const NO_RULE_HERE: &str = "only zkc build writes a rule for make: leave -MD and its like out";
+
+const NO_RULE_FILE: &str = "the file of the rule is missing: -MF FILE";
+
+const NO_TARGET: &str = "the target of the rule is missing: -MT NAME or -MQ NAME";
+
+const NO_QUOTE_FOLDER: &str = "the folder is missing: -iquote DIR";
+
+const NO_SYSTEM_FOLDER: &str = "the folder is missing: -isystem DIR";
+
+const NO_LATE_FOLDER: &str = "the folder is missing: -idirafter DIR";
 
 const NO_RULE_ALONE: &str = "write zkc build MAIN -I DIR -o OUT -MD -MF FILE";
 
@@ -116,32 +147,32 @@ const HABITS: &[Habit] = &[
     Habit {
         text: "-MD",
         is_whole: true,
-        act: Act::Write("--depend"),
+        act: Act::WriteInBuild("--depend"),
     },
     Habit {
         text: "-MMD",
         is_whole: true,
-        act: Act::Write("--depend"),
+        act: Act::WriteInBuild("--depend"),
     },
     Habit {
         text: "-MP",
         is_whole: true,
-        act: Act::Write("--depend-phony"),
+        act: Act::WriteInBuild("--depend-phony"),
     },
     Habit {
         text: "-MF",
         is_whole: false,
-        act: Act::WriteValue("--depend-file"),
+        act: Act::ValueInBuild("--depend-file", NO_RULE_FILE),
     },
     Habit {
         text: "-MT",
         is_whole: false,
-        act: Act::WriteValue("--depend-target"),
+        act: Act::ValueInBuild("--depend-target", NO_TARGET),
     },
     Habit {
         text: "-MQ",
         is_whole: false,
-        act: Act::WriteValue("--depend-target"),
+        act: Act::ValueInBuild("--depend-quoted", NO_TARGET),
     },
     Habit {
         text: "-M",
@@ -151,17 +182,17 @@ const HABITS: &[Habit] = &[
     Habit {
         text: "-isystem",
         is_whole: false,
-        act: Act::WriteValue("-I"),
+        act: Act::WriteValue("--folder-system", NO_SYSTEM_FOLDER),
     },
     Habit {
         text: "-iquote",
         is_whole: false,
-        act: Act::WriteValue("-I"),
+        act: Act::WriteValue("--folder-quote", NO_QUOTE_FOLDER),
     },
     Habit {
         text: "-idirafter",
         is_whole: false,
-        act: Act::WriteValue("-I"),
+        act: Act::WriteValue("--folder-late", NO_LATE_FOLDER),
     },
     Habit {
         text: "-include",
@@ -247,6 +278,16 @@ const HABITS: &[Habit] = &[
         text: "-ftrapv",
         is_whole: true,
         act: Act::Refuse(NO_TRAP),
+    },
+    Habit {
+        text: "-fwrapv",
+        is_whole: true,
+        act: Act::Refuse(NO_WRAP),
+    },
+    Habit {
+        text: "-fno-strict-overflow",
+        is_whole: true,
+        act: Act::Refuse(NO_WRAP),
     },
     Habit {
         text: "-fsigned-char",
@@ -364,6 +405,21 @@ const HABITS: &[Habit] = &[
         act: Act::Refuse(NO_LINKER),
     },
     Habit {
+        text: "-Wp,",
+        is_whole: false,
+        act: Act::Refuse(NO_PASSING),
+    },
+    Habit {
+        text: "-Xlinker",
+        is_whole: true,
+        act: Act::Refuse(NO_LINKER),
+    },
+    Habit {
+        text: "-rdynamic",
+        is_whole: true,
+        act: Act::Refuse(NO_LINKER),
+    },
+    Habit {
         text: "-l",
         is_whole: false,
         act: Act::Refuse(NO_LINKER),
@@ -380,6 +436,11 @@ const HABITS: &[Habit] = &[
     },
     Habit {
         text: "-shared",
+        is_whole: true,
+        act: Act::Refuse(NO_LINKER),
+    },
+    Habit {
+        text: "-static-pie",
         is_whole: true,
         act: Act::Refuse(NO_LINKER),
     },
@@ -404,6 +465,21 @@ const HABITS: &[Habit] = &[
         act: Act::WriteInCheck("--werror"),
     },
     Habit {
+        text: "-Werror=",
+        is_whole: false,
+        act: Act::OneError,
+    },
+    Habit {
+        text: "-Wno-error=",
+        is_whole: false,
+        act: Act::OneError,
+    },
+    Habit {
+        text: "-Wno-",
+        is_whole: false,
+        act: Act::LeaveWarning,
+    },
+    Habit {
         text: "-W",
         is_whole: false,
         act: Act::Leave,
@@ -411,7 +487,7 @@ const HABITS: &[Habit] = &[
     Habit {
         text: "-w",
         is_whole: true,
-        act: Act::Leave,
+        act: Act::LeaveWarnings,
     },
     Habit {
         text: "-O",
@@ -464,6 +540,66 @@ const HABITS: &[Habit] = &[
         act: Act::Leave,
     },
     Habit {
+        text: "-static-libgcc",
+        is_whole: true,
+        act: Act::Leave,
+    },
+    Habit {
+        text: "-no-pie",
+        is_whole: true,
+        act: Act::Leave,
+    },
+    Habit {
+        text: "-pthread",
+        is_whole: true,
+        act: Act::Leave,
+    },
+    Habit {
+        text: "--specs=nano.specs",
+        is_whole: true,
+        act: Act::Leave,
+    },
+    Habit {
+        text: "-specs=nano.specs",
+        is_whole: true,
+        act: Act::Leave,
+    },
+    Habit {
+        text: "--specs=nosys.specs",
+        is_whole: true,
+        act: Act::Leave,
+    },
+    Habit {
+        text: "-specs=nosys.specs",
+        is_whole: true,
+        act: Act::Leave,
+    },
+    Habit {
+        text: "--specs",
+        is_whole: false,
+        act: Act::Refuse(NO_LINKER),
+    },
+    Habit {
+        text: "-specs",
+        is_whole: false,
+        act: Act::Refuse(NO_LINKER),
+    },
+    Habit {
+        text: "-trigraphs",
+        is_whole: true,
+        act: Act::Leave,
+    },
+    Habit {
+        text: "-undef",
+        is_whole: true,
+        act: Act::Leave,
+    },
+    Habit {
+        text: "-P",
+        is_whole: true,
+        act: Act::Refuse(NO_MARKERS),
+    },
+    Habit {
         text: "-s",
         is_whole: true,
         act: Act::Leave,
@@ -483,6 +619,25 @@ const HABITS: &[Habit] = &[
 /// The commands that read sources, in which these words may appear.
 const COMPILING: &[&str] = &[
     "build", "pp", "list", "interp", "explain", "show", "frames", "symbols", "check", "verify",
+];
+
+/// The warnings of `check` whose names gcc has too.
+const WARNINGS: &[&str] = &[
+    "unused-variable",
+    "unused-but-set-variable",
+    "unused-parameter",
+    "unused-but-set-parameter",
+    "unused-function",
+    "unused-value",
+    "unused-result",
+    "parentheses",
+    "empty-body",
+    "implicit-fallthrough",
+    "shadow",
+    "return-type",
+    "maybe-uninitialized",
+    "array-bounds",
+    "type-limits",
 ];
 
 /// The words that may appear in place of a command.
@@ -556,26 +711,36 @@ fn put_each<'a>(words: &'a [String], plain: &mut Vec<&'a str>) -> Result<(), Ref
 }
 
 /// The kind of a word, by those before it.
-#[derive(Clone, Copy, PartialEq, Eq)]
+#[derive(Clone, Copy)]
 enum Turn {
     /// Any word.
     Word,
     /// The value of the word before.
     Value,
+    /// The value of the word before, which is a word of another compiler. This says that there is none.
+    Wanted(&'static str),
     /// The name of a language.
     Language,
     /// After `--`, where all stay.
     Rest,
 }
 
+/// The command to which words belong, where the action on a word depends on that.
+#[derive(Clone, Copy, PartialEq, Eq)]
+enum Place {
+    Build,
+    Check,
+    Other,
+}
+
 /// Appends the words of a command that reads sources.
 fn put_words<'a>(words: &'a [String], plain: &mut Vec<&'a str>) -> Result<(), Refused> {
-    let is_check = is_check(words);
+    let place = place_of(words);
     let mut turn = Turn::Word;
     for word in words {
         turn = match turn {
-            Turn::Word => put_word(word.as_str(), is_check, plain)?,
-            Turn::Value => {
+            Turn::Word => put_word(word.as_str(), place, plain)?,
+            Turn::Value | Turn::Wanted(_) => {
                 put(word.as_str(), plain)?;
                 Turn::Word
             }
@@ -588,15 +753,23 @@ fn put_words<'a>(words: &'a [String], plain: &mut Vec<&'a str>) -> Result<(), Re
     }
     match turn {
         Turn::Language => Err(Refused::Told(OTHER_LANGUAGE)),
+        Turn::Wanted(missing) => Err(Refused::Told(missing)),
         Turn::Word | Turn::Value | Turn::Rest => Ok(()),
     }
 }
 
-/// Whether the words are those of the command `check`.
-fn is_check(words: &[String]) -> bool {
-    match words.first() {
-        Some(word) => word.as_str() == "check",
-        None => false,
+/// The command of the words, which is `build` where the first of them is none.
+fn place_of(words: &[String]) -> Place {
+    let first = match words.first() {
+        Some(word) => word.as_str(),
+        None => "",
+    };
+    if first == "check" {
+        Place::Check
+    } else if first != "build" && COMPILING.contains(&first) {
+        Place::Other
+    } else {
+        Place::Build
     }
 }
 
@@ -610,7 +783,7 @@ fn language(word: &str) -> Result<Turn, Refused> {
 }
 
 /// Appends the replacement of a word; returns the kind of the next word.
-fn put_word<'a>(word: &'a str, is_check: bool, plain: &mut Vec<&'a str>) -> Result<Turn, Refused> {
+fn put_word<'a>(word: &'a str, place: Place, plain: &mut Vec<&'a str>) -> Result<Turn, Refused> {
     let Some((act, behind)) = act_of(word) else {
         put(word, plain)?;
         return Ok(if word == "--" { Turn::Rest } else { Turn::Word });
@@ -621,26 +794,69 @@ fn put_word<'a>(word: &'a str, is_check: bool, plain: &mut Vec<&'a str>) -> Resu
             put(word, plain)?;
             Ok(Turn::Value)
         }
-        Act::Write(other) => {
-            put(other, plain)?;
-            Ok(Turn::Word)
-        }
-        Act::WriteValue(other) => {
-            put(other, plain)?;
-            if behind.is_empty() {
-                return Ok(Turn::Value);
-            }
-            put(behind, plain)?;
-            Ok(Turn::Word)
-        }
-        Act::WriteInCheck(other) => {
-            if is_check {
-                put(other, plain)?;
-            }
-            Ok(Turn::Word)
-        }
+        Act::WriteInBuild(other) => match place {
+            Place::Build => put_once(other, plain),
+            Place::Check | Place::Other => Err(Refused::Told(NO_RULE_HERE)),
+        },
+        Act::ValueInBuild(other, missing) => match place {
+            Place::Build => put_value(other, behind, missing, plain),
+            Place::Check | Place::Other => Err(Refused::Told(NO_RULE_HERE)),
+        },
+        Act::WriteValue(other, missing) => put_value(other, behind, missing, plain),
+        Act::WriteInCheck(other) => match place {
+            Place::Check => put_once(other, plain),
+            Place::Build | Place::Other => Ok(Turn::Word),
+        },
+        Act::LeaveWarning => leave_warning(behind, place, plain),
+        Act::LeaveWarnings => leave_warning("all", place, plain),
+        Act::OneError => one_error(behind, place),
         Act::Language => Ok(Turn::Language),
         Act::Refuse(why) => Err(Refused::Told(why)),
+    }
+}
+
+/// Appends a word, unless it is there.
+fn put_once<'a>(word: &'a str, plain: &mut Vec<&'a str>) -> Result<Turn, Refused> {
+    if !plain.contains(&word) {
+        put(word, plain)?;
+    }
+    Ok(Turn::Word)
+}
+
+/// Appends a word with its value, where that is in the same word; returns the kind of the next word.
+fn put_value<'a>(
+    word: &'a str,
+    value: &'a str,
+    missing: &'static str,
+    plain: &mut Vec<&'a str>,
+) -> Result<Turn, Refused> {
+    put(word, plain)?;
+    if value.is_empty() {
+        return Ok(Turn::Wanted(missing));
+    }
+    put(value, plain)?;
+    Ok(Turn::Word)
+}
+
+/// Leaves a warning of `check` out, where it has one of this name, or all of them.
+fn leave_warning<'a>(
+    name: &'a str,
+    place: Place,
+    plain: &mut Vec<&'a str>,
+) -> Result<Turn, Refused> {
+    if place == Place::Check && (name == "all" || WARNINGS.contains(&name)) {
+        put("--no-warn", plain)?;
+        put(name, plain)?;
+    }
+    Ok(Turn::Word)
+}
+
+/// A word by which one warning is an error, or none, which `check` does not have.
+fn one_error(name: &str, place: Place) -> Result<Turn, Refused> {
+    if place == Place::Check && WARNINGS.contains(&name) {
+        Err(Refused::Told(ONE_ERROR))
+    } else {
+        Ok(Turn::Word)
     }
 }
 

@@ -54,6 +54,7 @@ fn read_as<'a>(arg: Arg<'a>, kind: Kind) -> Arg<'a> {
         Kind::Flag => arg.action(ArgAction::SetTrue),
         Kind::Text => arg,
         Kind::Texts => arg.action(ArgAction::Append),
+        Kind::Hidden => arg.action(ArgAction::Append).hide(true),
         Kind::List => arg.action(ArgAction::Append).num_args(1..),
         Kind::Number(least, most) => arg.value_parser(value_parser!(u64).range(least..=most)),
         Kind::One(values) => arg.value_parser(values),

@@ -30,6 +30,10 @@ const BAD_STACK: &str =
 
 const BAD_MACRO: &str = "a macro is written -D NAME, -D NAME=VALUE or -U NAME, on one line";
 
+const ONE_INPUT: &str = "- is standard input, and stands for MAIN alone";
+
+const ONE_TEXT: &str = "-E and -S write one file: leave --listing and the rule for make out";
+
 const NEEDS_TRACE: &str = "--json is for --trace or --trace-file here";
 
 const NEEDS_MAP: &str = "--stack, -I, -D and -U are for --map here";
@@ -83,6 +87,9 @@ fn request<'a>(
     if !has_macros(inner) {
         return Ok(Reading::Wrong(BAD_MACRO));
     }
+    if inner.get_strs("FILES").unwrap_or_default().contains(&"-") {
+        return Ok(Reading::Wrong(ONE_INPUT));
+    }
     let main = match inner.get_str("MAIN") {
         Some(main) => main,
         None => inner.get_str("FILE").unwrap_or_default(),
@@ -99,10 +106,58 @@ fn words_of<'a>(alloc: Global, inner: &ArgMatches<'a>) -> Result<Vec<Word<'a>>, 
     let mut words = Vec::new(alloc);
     put_words(inner, "FILES", Role::File, &mut words)?;
     put_words(inner, "map", Role::File, &mut words)?;
+    put_words(inner, "folder-quote", Role::Folder, &mut words)?;
     put_words(inner, "folder", Role::Folder, &mut words)?;
-    put_words(inner, "define", Role::Define, &mut words)?;
-    put_words(inner, "undefine", Role::Undefine, &mut words)?;
+    put_words(inner, "folder-system", Role::Folder, &mut words)?;
+    put_words(inner, "folder-late", Role::Folder, &mut words)?;
+    put_macros(inner, &mut words)?;
+    put_words(inner, "depend-target", Role::Target, &mut words)?;
+    put_words(inner, "depend-quoted", Role::QuotedTarget, &mut words)?;
+    put_words(inner, "no-warn", Role::Unwarned, &mut words)?;
     Ok(words)
+}
+
+/// Puts the macros that are defined, and those whose definition is removed, in the order of the words.
+fn put_macros<'a>(inner: &ArgMatches<'a>, words: &mut Vec<Word<'a>>) -> Result<(), AllocError> {
+    let defines = inner.get_strs("define").unwrap_or_default();
+    let undefines = inner.get_strs("undefine").unwrap_or_default();
+    let mut defined: usize = 0;
+    let mut undefined: usize = 0;
+    for _ in 0..defines.len().saturating_add(undefines.len()) {
+        if place_of(inner, "define", defined) < place_of(inner, "undefine", undefined) {
+            put_one(defines, defined, Role::Define, words)?;
+            defined = defined.saturating_add(1);
+        } else {
+            put_one(undefines, undefined, Role::Undefine, words)?;
+            undefined = undefined.saturating_add(1);
+        }
+    }
+    Ok(())
+}
+
+/// The place among the words of the value of an option that has this number; the greatest number where there is none.
+fn place_of(inner: &ArgMatches<'_>, id: &str, number: usize) -> usize {
+    let places = inner.indices_of(id).unwrap_or_default();
+    match places.get(number).copied() {
+        Some(place) => place,
+        None => usize::MAX,
+    }
+}
+
+/// Puts the value with this number.
+fn put_one<'a>(
+    texts: &[&'a str],
+    number: usize,
+    role: Role,
+    words: &mut Vec<Word<'a>>,
+) -> Result<(), AllocError> {
+    match texts.get(number).copied() {
+        Some(text) => {
+            words.push(Word { role, text })?;
+            Ok(())
+        }
+        None => Ok(()),
+    }
 }
 
 fn put_words<'a>(
@@ -169,6 +224,26 @@ fn is_definition(text: &str) -> bool {
         && !text.contains('\r')
         && !text.ends_with("\\")
         && !text.ends_with("??/")
+        && !opens_comment(text)
+}
+
+/// Whether a comment begins in a text, outside of its strings, and does not end there: it would go on in the next line (6.4.9p1).
+fn opens_comment(text: &str) -> bool {
+    match text.rsplit_once("/*") {
+        Some((before, behind)) => !is_in_string(before) && behind.split_once("*/").is_none(),
+        None => false,
+    }
+}
+
+/// Whether a string is open at the end of a text.
+fn is_in_string(text: &str) -> bool {
+    let mut is_open = false;
+    for letter in text.chars() {
+        if letter == '"' {
+            is_open = !is_open;
+        }
+    }
+    is_open
 }
 
 /// The name at the beginning of a macro.
@@ -182,6 +257,9 @@ pub fn macro_name(text: &str) -> &str {
 fn build<'a>(inner: &ArgMatches<'a>) -> Result<Command<'a>, &'static str> {
     if inner.get_flag("list-files") {
         return Ok(Command::ListFiles);
+    }
+    if is_text(inner) && writes_more(inner) {
+        return Err(ONE_TEXT);
     }
     if inner.get_flag("S") {
         return Ok(list(inner));
@@ -203,12 +281,21 @@ fn build<'a>(inner: &ArgMatches<'a>) -> Result<Command<'a>, &'static str> {
     }
 }
 
+/// Whether a text is written in place of the executable file.
+fn is_text(inner: &ArgMatches<'_>) -> bool {
+    inner.get_flag("S") || inner.get_flag("E")
+}
+
+/// Whether the words request a listing or a rule beside the file.
+fn writes_more(inner: &ArgMatches<'_>) -> bool {
+    rule(inner).is_some() || inner.contains_id("listing")
+}
+
 /// The rule that the words request.
 fn rule<'a>(inner: &ArgMatches<'a>) -> Option<Rule<'a>> {
     if inner.get_flag("depend") || inner.get_str("depend-file").is_some() {
         Some(Rule {
             file: inner.get_str("depend-file"),
-            target: inner.get_str("depend-target"),
             has_phony: inner.get_flag("depend-phony"),
         })
     } else {

@@ -9,11 +9,17 @@ pub enum Role {
     Folder,
     /// A macro that is defined, as NAME or NAME=VALUE.
     Define,
-    /// A macro that is not defined.
+    /// A macro whose definition is removed.
     Undefine,
+    /// A target of the rule for make, as it is written.
+    Target,
+    /// A target that is quoted for make.
+    QuotedTarget,
+    /// The name of warnings that are left out.
+    Unwarned,
 }
 
-/// A word that belongs to the program.
+/// A word that belongs to the program, or that a command has several times.
 #[derive(Clone, Copy)]
 pub struct Word<'a> {
     pub role: Role,
@@ -25,7 +31,7 @@ pub struct Word<'a> {
 pub struct Program<'a> {
     /// The path of the main file; `-` is standard input. Of a command that takes an executable file, that file.
     pub main: &'a str,
-    /// The further files, folders and macros, in the order of the words of each role.
+    /// The further files, folders, macros, targets and warnings. Folders are in the order in which they are searched, the others in that of the words.
     pub words: Vec<Word<'a>>,
     /// The bytes of the stack: a multiple of 4096 from 4096 to 16777216.
     pub stack: u32,
@@ -107,8 +113,6 @@ pub enum ImageForm {
 pub struct Rule<'a> {
     /// The path of the file that has the rule; where there is none, that of the output with `d` as extension.
     pub file: Option<&'a str>,
-    /// The target of the rule; where none is given, the output.
-    pub target: Option<&'a str>,
     /// Whether each included file is a target of its own too, without a recipe, so that one that is removed stops no build.
     pub has_phony: bool,
 }

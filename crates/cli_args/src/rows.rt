@@ -158,6 +158,42 @@ pub const FOLDERS: Row = Row {
     apart: &[],
 };
 
+/// The folders that go before those of -I.
+pub const QUOTE_FOLDERS: Row = Row {
+    id: "folder-quote",
+    short: None,
+    long: Some("folder-quote"),
+    value: Some("DIR"),
+    kind: Kind::Hidden,
+    default: None,
+    help: "A folder of -iquote",
+    apart: &[],
+};
+
+/// The folders that follow those of -I.
+pub const SYSTEM_FOLDERS: Row = Row {
+    id: "folder-system",
+    short: None,
+    long: Some("folder-system"),
+    value: Some("DIR"),
+    kind: Kind::Hidden,
+    default: None,
+    help: "A folder of -isystem",
+    apart: &[],
+};
+
+/// The folders that follow all others.
+pub const LATE_FOLDERS: Row = Row {
+    id: "folder-late",
+    short: None,
+    long: Some("folder-late"),
+    value: Some("DIR"),
+    kind: Kind::Hidden,
+    default: None,
+    help: "A folder of -idirafter",
+    apart: &[],
+};
+
 /// The macros that are defined.
 pub const DEFINES: Row = Row {
     id: "define",
@@ -178,7 +214,7 @@ pub const UNDEFINES: Row = Row {
     value: Some("NAME"),
     kind: Kind::Texts,
     default: None,
-    help: "Leaves the definition of a macro out",
+    help: "Removes the definition of a macro",
     apart: &[],
 };
 
@@ -260,9 +296,21 @@ pub const DEPEND_TARGET: Row = Row {
     short: None,
     long: Some("depend-target"),
     value: Some("NAME"),
-    kind: Kind::Text,
+    kind: Kind::Texts,
     default: None,
     help: "The target of that rule, by default OUT; also -MT",
+    apart: &[],
+};
+
+/// The targets of the rule that are quoted for make.
+pub const DEPEND_QUOTED: Row = Row {
+    id: "depend-quoted",
+    short: None,
+    long: Some("depend-quoted"),
+    value: Some("NAME"),
+    kind: Kind::Hidden,
+    default: None,
+    help: "A target of -MQ",
     apart: &[],
 };
 
@@ -503,6 +551,18 @@ pub const WARN: Row = Row {
     kind: Kind::Text,
     default: Some("all"),
     help: "Which warnings: all, none, or names with commas between",
+    apart: &[],
+};
+
+/// The warnings that are left out.
+pub const NO_WARN: Row = Row {
+    id: "no-warn",
+    short: None,
+    long: Some("no-warn"),
+    value: Some("NAME"),
+    kind: Kind::Hidden,
+    default: None,
+    help: "A warning of -Wno-NAME",
     apart: &[],
 };
 

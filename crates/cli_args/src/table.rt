@@ -15,6 +15,8 @@ pub enum Kind {
     Text,
     /// An option with a value, which may be given several times.
     Texts,
+    /// The same, for a word of another compiler: help does not show it.
+    Hidden,
     /// An option with one value or more.
     List,
     /// An option with a number from the first to the second.

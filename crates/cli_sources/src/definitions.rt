@@ -1,11 +1,11 @@
 //! The macros that the words define.
 
 use crate::sources::{MACROS, Sources};
-use cli_args::{Program, Role, Word, macro_name};
+use cli_args::{Program, Role, macro_name};
 use srcset::Fault;
 use std::alloc::{AllocError, Global};
 
-/// Whether the words define a macro, or leave one out.
+/// Whether the words define a macro, or remove the definition of one.
 pub fn has_macros(program: &Program<'_>) -> bool {
     program.has(Role::Define) || program.has(Role::Undefine)
 }
@@ -26,18 +26,14 @@ pub fn put_macros(
     Ok(())
 }
 
-/// The text of that file. A macro that is both defined and left out is left out.
+/// The text of that file: each macro is defined, or its definition removed, in the order of the words.
 fn macro_text(alloc: Global, program: &Program<'_>, main: &str) -> Result<String, AllocError> {
     let mut text = String::from_str(alloc, "\n")?;
     for word in &program.words {
-        put_definition(*word, &mut text)?;
-    }
-    for word in &program.words {
-        if word.role == Role::Undefine {
-            put_texts(
-                &["#line 1 \"-U ", word.text, "\"\n#undef ", word.text, "\n"],
-                &mut text,
-            )?;
+        match word.role {
+            Role::Define => put_definition(word.text, &mut text)?,
+            Role::Undefine => put_removal(word.text, &mut text)?,
+            _ => {}
         }
     }
     put_texts(&["#include \"", main, "\"\n"], &mut text)?;
@@ -45,15 +41,12 @@ fn macro_text(alloc: Global, program: &Program<'_>, main: &str) -> Result<String
 }
 
 /// Puts the definition of a macro; faults in it name the word.
-fn put_definition(word: Word<'_>, text: &mut String) -> Result<(), AllocError> {
-    if word.role != Role::Define {
-        return Ok(());
-    }
-    let (defined, value) = match word.text.split_once('=') {
+fn put_definition(word: &str, text: &mut String) -> Result<(), AllocError> {
+    let (defined, value) = match word.split_once('=') {
         Some(parts) => parts,
-        None => (word.text, "1"),
+        None => (word, "1"),
     };
-    let name = macro_name(word.text);
+    let name = macro_name(word);
     put_texts(
         &[
             "#line 1 \"-D ",
@@ -66,6 +59,11 @@ fn put_definition(word: Word<'_>, text: &mut String) -> Result<(), AllocError> {
         ],
         text,
     )
+}
+
+/// Puts that a macro has no definition from here on; faults name the word.
+fn put_removal(name: &str, text: &mut String) -> Result<(), AllocError> {
+    put_texts(&["#line 1 \"-U ", name, "\"\n#undef ", name, "\n"], text)
 }
 
 fn put_texts(texts: &[&str], to: &mut String) -> Result<(), AllocError> {

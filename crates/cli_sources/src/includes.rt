@@ -26,18 +26,42 @@ pub fn included_names(alloc: Global, bytes: &[u8]) -> Result<Vec<String>, AllocE
     Ok(names)
 }
 
+/// Whether an `#include` line names what macros make (6.10.2p4).
+pub fn is_include_made(alloc: Global, bytes: &[u8]) -> Result<bool, AllocError>
+    requires { length bytes.now ≤ max_file_bytes }
+{
+    let lines = match try_scan(alloc, bytes, 0) {
+        Ok(lines) => lines,
+        Err(Refusal::Memory) => return Err(AllocError),
+        Err(_) => return Ok(false),
+    };
+    for at in 0..lines.len() {
+        if let Some(name) = header_of(lines.get(at).unwrap_or_default()) {
+            if name.kind() != Kind::HeaderName {
+                return Ok(true);
+            }
+        }
+    }
+    Ok(false)
+}
+
 /// The name in quotes that a line includes.
 fn included_name<'t>(line: &'t [PpToken<'_>]) -> Option<&'t str> {
-    let hash = line.first()?.spelling();
-    let word = line.get(1)?.spelling();
-    let name = line.get(2)?;
-    let is_include = (hash == b"#".as_slice() || hash == b"%:".as_slice())
-        && word == b"include".as_slice();
-    if is_include && name.kind() == Kind::HeaderName {
+    let name = header_of(line)?;
+    if name.kind() == Kind::HeaderName {
         quoted(name.spelling())
     } else {
         None
     }
+}
+
+/// The token after `#include` in a line.
+fn header_of<'t, 'b>(line: &'t [PpToken<'b>]) -> Option<&'t PpToken<'b>> {
+    let hash = line.first()?.spelling();
+    let word = line.get(1)?.spelling();
+    let is_include = (hash == b"#".as_slice() || hash == b"%:".as_slice())
+        && word == b"include".as_slice();
+    if is_include { line.get(2) } else { None }
 }
 
 /// The text between quotes.

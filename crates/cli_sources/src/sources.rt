@@ -1,6 +1,6 @@
 //! The files of a program, with the paths at which they were found.
 
-use crate::includes::included_names;
+use crate::includes::{included_names, is_include_made};
 use crate::reading::read_file;
 use cli_io::is_same;
 use srcset::{Code, Fault, FileSet};
@@ -91,13 +91,25 @@ impl<'a> Sources<'a> {
 
     /// The names that the file with this number includes.
     pub fn included(&self, alloc: Global, number: usize) -> Result<Vec<String>, AllocError> {
-        let name = match self.files.get(number) {
-            Some(file) => file.name.as_str(),
-            None => "",
-        };
-        match self.set.get(name) {
+        match self.set.get(self.name_at(number)) {
             Some(bytes) => included_names(alloc, bytes),
             None => Ok(Vec::new(alloc)),
+        }
+    }
+
+    /// Whether the file with this number includes what a macro names.
+    pub fn includes_by_macro(&self, alloc: Global, number: usize) -> Result<bool, AllocError> {
+        match self.set.get(self.name_at(number)) {
+            Some(bytes) => is_include_made(alloc, bytes),
+            None => Ok(false),
+        }
+    }
+
+    /// The name of the file with this number; empty where there is none.
+    fn name_at(&self, number: usize) -> &str {
+        match self.files.get(number) {
+            Some(file) => file.name.as_str(),
+            None => "",
         }
     }
 

@@ -2,11 +2,11 @@
 
 use crate::refused::{put_refused, put_unread};
 use cc::compile_with;
-use cli_args::{Program, Telling};
+use cli_args::{Program, Role, Telling};
 use cli_io::{put_out, say_memory, say_usage};
 use cli_sources::{Sources, read_sources, stack_size};
 use explain_cmd::VERSION;
-use lint::unknown_word;
+use lint::{Kind, selects, unknown_word};
 use lint_report::{Asked, Form, Said};
 use lint_unit::warn_of_sources;
 use std::alloc::{AllocError, Global};
@@ -60,17 +60,36 @@ fn said(
     warned: Warned<'_>,
 ) -> Result<Said, AllocError> {
     let names = sources.names(alloc)?;
+    let words = wanted(alloc, program, warned.words)?;
     let asked = Asked {
         names: names.as_slice(),
         main: sources.main,
         given: sources.given,
         stack: program.stack,
-        words: warned.words,
+        words: words.as_str(),
         are_errors: warned.are_errors,
         form: report_form(warned.telling),
         version: plain_version(),
     };
     warn_of_sources(alloc, &sources.set, asked)
+}
+
+/// The warnings of these words without those that the command leaves out, as a list with commas between.
+fn wanted(alloc: Global, program: &Program<'_>, words: &str) -> Result<String, AllocError> {
+    let mut wanted = String::from_str(alloc, "none")?;
+    for kind in Kind::all() {
+        if selects(words, *kind) && !is_unwarned(program, kind.name()) {
+            wanted.push_str(",")?;
+            wanted.push_str(kind.name())?;
+        }
+    }
+    Ok(wanted)
+}
+
+/// Whether the command leaves the warnings of this name out, or all of them.
+fn is_unwarned(program: &Program<'_>, name: &str) -> bool {
+    program.words.iter().any(|word| word.role == Role::Unwarned
+        && (word.text == "all" || word.text == name))
 }
 
 /// Prints a report; returns the exit status.

@@ -260,7 +260,7 @@ fn put_candidate(
         Topic::Hint,
         expected_help(candidate.expected, replaced),
     )?;
-    if is_head_of_main(words, site.number) {
+    if is_head_of_main(words, site.number) && !matches!(candidate.expected, Expected::Body) {
         noted.put_text(alloc, Topic::Hint, MAIN_FORM)?;
     }
     if candidate.is_fix {

@@ -86,7 +86,7 @@ pub struct Shown {
     pub place: Option<Place>,
     /// The token, as it is written; empty where it is not known.
     pub token: Vec<u8>,
-    /// The source line; empty where the file is not known.
+    /// The source line; empty where the file is not known, or the line has more than 4,096 bytes.
     pub source: Vec<u8>,
     pub notes: Vec<Note>,
     /// A change of the file that fixes the fault, where one is certain: none or one.
@@ -206,6 +206,14 @@ fn points(bytes: &[u8]) -> usize {
     count
 }
 
+/// The most bytes of a source line that is shown.
+const MAX_LINE: usize = 4096;
+
+/// A source line; nothing where it is too long to be shown.
+fn shown_line(line: &[u8]) -> &[u8] {
+    if line.len() > MAX_LINE { &[] } else { line }
+}
+
 /// A place in a file of the set, or its line alone, as it is shown.
 pub fn show_place(
     alloc: Global,
@@ -226,7 +234,7 @@ pub fn show_place(
     Ok(Shown {
         place,
         token: Vec::from_slice(alloc, token)?,
-        source: Vec::from_slice(alloc, source)?,
+        source: Vec::from_slice(alloc, shown_line(source))?,
         notes: noted.notes,
         fixes: noted.fixes,
     })

@@ -33,12 +33,26 @@ fn whole_hint(code: u16, token: &[u8]) -> &'static str {
         211 => "no `)` closes the arguments of this macro",
         213 => "a call of a macro stands in one piece: its `(` is behind a directive, or missing",
         214 => "write the comma before the variable arguments also where there are none: F(1,)",
-        231 => "each #if, #ifdef and #ifndef has its #endif in the same file",
+        231 => conditional_hint(token),
         232 => include_hint(token),
         233 => directive_hint(token),
         551 => "the program has no function `int main(void)` with a body",
         552 =>
             "a function that is called has its body in the one unit: FILES of the command are not compiled by themselves, they are what MAIN may include",
+        _ => "",
+    }
+}
+
+/// The hint where conditionals are not balanced.
+fn conditional_hint(token: &[u8]) -> &'static str {
+    match token {
+        b"else" =>
+            "each #else follows its #if, #ifdef or #ifndef in the same file, which has one #else",
+        b"elif" =>
+            "each #elif follows its #if, #ifdef or #ifndef in the same file, and goes before #else",
+        b"endif" => "no #if, #ifdef or #ifndef of this file is open here",
+        b"if" | b"ifdef" | b"ifndef" =>
+            "each #if, #ifdef and #ifndef has its #endif in the same file",
         _ => "",
     }
 }
@@ -50,8 +64,10 @@ fn include_hint(token: &[u8]) -> &'static str {
             "there is no C library: <rvio.h> declares rv_getbyte, rv_putbyte and rv_exit",
         b"<stdint.h>" | b"<stddef.h>" | b"<inttypes.h>" =>
             "there is no such header: char has 8 bits, short 16, int and long 32",
+        [b'<', ..] =>
+            "in angle brackets stands a built-in header: rvio.h, limits.h, stdbool.h or iso646.h; any other file is named in quotes",
         _ =>
-            "what is included is one of FILES in the command, by the path as it stands there, or a built-in header: rvio.h, limits.h, stdbool.h, iso646.h",
+            "what is included is one of FILES in the command, by the path as it stands there, or, with -I DIR, a file beside the including one or in DIR; or a built-in header: rvio.h, limits.h, stdbool.h, iso646.h",
     }
 }
 
@@ -70,13 +86,28 @@ fn directive_hint(token: &[u8]) -> &'static str {
 fn literal_hint(code: u16, token: &[u8]) -> &'static str {
     match (code, token) {
         (301, b"\"") => "no `\"` closes this string literal in its line",
+        (301, b"''") => "a character constant has one character between its quotes",
         (301, b"'") => "no `'` closes this character constant in its line",
         (301, [b'0', digits @ ..]) => number_hint(digits),
-        (301, [first, ..]) if *first >= 0x80 =>
-            "a name has the letters A to Z and a to z, digits and `_`",
+        (301, [first, ..]) if *first >= 0x80 => character_hint(token),
         (607, [b'\'', ..]) =>
             "a character constant has one character: write the bytes, each as a constant of its own",
         _ => "",
+    }
+}
+
+/// The hint for a character of UTF-8 that is none of C's.
+fn character_hint(character: &[u8]) -> &'static str {
+    match character {
+        [0xef, 0xbb, 0xbf] => "this is a byte order mark: save the file without it",
+        [0xe2, 0x80, 0x9c..=0x9f] => "this is a curly quote: write \"",
+        [0xe2, 0x80, 0x98..=0x9b] => "this is a curly quote: write '",
+        [0xe2, 0x80, 0x90..=0x95] => "this is a dash: write -",
+        [0xe2, 0x88, 0x92] => "this is a minus sign of mathematics: write -",
+        [0xc2, 0xa0] | [0xe2, 0x80, 0x80..=0x8a] | [0xe2, 0x80, 0xaf] =>
+            "this is a space of another kind: write a space",
+        [0xe2, 0x80, 0x8b..=0x8d] => "this is a character without width: remove it",
+        _ => "a name has the letters A to Z and a to z, digits and `_`",
     }
 }
 

@@ -4,6 +4,7 @@
 mod acts;
 mod advising;
 mod asking;
+mod enum_ends;
 mod finding;
 mod hints;
 mod includes;
@@ -14,6 +15,7 @@ mod noting;
 mod passing;
 mod related;
 mod sources;
+mod types;
 mod undeclared;
 
 pub use acts::{Certainty, Undefined, act_help, act_title, room_for_line, wants_memory};

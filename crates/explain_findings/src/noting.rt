@@ -2,10 +2,11 @@
 
 use crate::advising::put_advice;
 use crate::asking::{Asking, Compiler};
+use crate::enum_ends::put_enum_end;
 use crate::finding::{Noted, Place, Topic, point_at};
 use crate::hints::hint;
 use crate::includes::Includes;
-use crate::macro_notes::{find_macro, put_macro_note};
+use crate::macro_notes::{find_macro, put_first_definition, put_macro_note};
 use crate::near::{nearest_directive, nearest_file};
 use crate::related::put_related;
 use crate::sources::Sources;
@@ -13,6 +14,7 @@ use crate::undeclared::put_undeclared;
 use explain_places::{Spot, Tokens};
 use srcset::Fault;
 use std::alloc::{AllocError, Global};
+use std::str;
 
 /// How an `#include` names a header.
 const HEADER_FORM: &str = "a header is named as in #include \"NAME\" or #include <NAME>";
@@ -70,16 +72,40 @@ fn put_place_notes<C: Compiler>(
         .unwrap_or_default();
     match fault.code {
         401 => put_advice(alloc, asking, place, noted)?,
+        511 => put_enum_end(alloc, asking, place, fault, noted)?,
         528 => put_undeclared(alloc, asking, place, fault, noted)?,
+        201 => put_first_definition(alloc, sources, place, noted)?,
         232 | 233 => put_directive_notes(alloc, sources, place, fault.code, noted)?,
         code => put_related(alloc, sources, place, code, noted)?,
     }
+    let is_told = !noted.fixes.is_empty() && matches!(fault.code, 232 | 511);
     if fault.code > 208 {
         put_macro_note(alloc, sources, token, noted)?;
     }
     includes.put_notes(alloc, sources, place.file, &mut noted.notes)?;
     put_bytes(alloc, fault.code, token, noted)?;
-    noted.put_text(alloc, Topic::Hint, hint(fault.code, token))
+    if is_told {
+        return Ok(());
+    }
+    noted.put_text(
+        alloc,
+        Topic::Hint,
+        hint(fault.code, with_quote(sources, place)),
+    )
+}
+
+/// The token at a place; with the quote behind it where both are an empty character constant.
+fn with_quote(sources: &Sources, place: Place) -> &[u8] {
+    let text = sources.text(place.file);
+    let token = text.get(place.start..place.end).unwrap_or_default();
+    let longer = text
+        .get(place.start..place.end.saturating_add(1))
+        .unwrap_or_default();
+    if matches!(longer, b"''") {
+        longer
+    } else {
+        token
+    }
 }
 
 /// Puts the header or directive that may be meant, and the superfluous tokens in it.
@@ -93,8 +119,7 @@ fn put_directive_notes(
     let text = sources.text(place.file);
     let token = text.get(place.start..place.end).unwrap_or_default();
     if code == 232 {
-        let meant = nearest_file(alloc, sources, token)?;
-        return put_suggestion(alloc, meant, noted);
+        return put_header_name(alloc, sources, place, noted);
     }
     let Some(tokens) = Tokens::of(alloc, text)? else {
         return Ok(());
@@ -107,6 +132,40 @@ fn put_directive_notes(
     }
     let meant = nearest_directive(alloc, token)?;
     put_suggestion(alloc, meant, noted)
+}
+
+/// Puts the file that is meant by the name of a header: the one of this name in quotes, or one whose name is similar.
+fn put_header_name(
+    alloc: Global,
+    sources: &Sources,
+    place: Place,
+    noted: &mut Noted,
+) -> Result<(), AllocError> {
+    let text = sources.text(place.file);
+    let token = text.get(place.start..place.end).unwrap_or_default();
+    let Some(name) = bracketed(token) else {
+        let meant = nearest_file(alloc, sources, token)?;
+        return put_suggestion(alloc, meant, noted);
+    };
+    if sources.number(name).is_none() {
+        return Ok(());
+    }
+    noted.put_text(
+        alloc,
+        Topic::Hint,
+        "it is one of the files that are given: in angle brackets stands a built-in header, so write its name in quotes",
+    )?;
+    let quoted = format!(in alloc; "\"{name}\"")?;
+    let (start, end) = (point_at(text, place.start), point_at(text, place.end));
+    noted.put_fix(alloc, start, end, quoted.as_str())
+}
+
+/// The text between angle brackets.
+fn bracketed(token: &[u8]) -> Option<&str> {
+    let Ok(text) = str::from_utf8(token) else {
+        return None;
+    };
+    text.strip_prefix("<")?.strip_suffix(">")
 }
 
 /// Puts how an `#include` names a header, where it does not, or else the token after the header.

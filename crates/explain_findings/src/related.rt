@@ -3,9 +3,10 @@
 use crate::advising::token_point;
 use crate::finding::{Noted, Place, Topic};
 use crate::sources::Sources;
+use crate::types::{element_type, is_of_one_type};
 use declaration_places::{
     Declared, call_at, close_behind, function_around, is_array, is_const, is_identifier,
-    last_named, parameter_at, parameter_count, same_label_before, specifiers, visible,
+    last_named, open_before, parameter_at, parameter_count, same_label_before, specifiers, visible,
 };
 use source_words::{Span, Words};
 use std::alloc::{AllocError, Global};
@@ -40,6 +41,7 @@ pub fn put_related(
         529 | 533 => put_object(alloc, &words, spot, code, noted),
         530 | 620 => put_named(alloc, &words, spot, code, noted),
         518 => put_sizes(alloc, &words, spot, noted),
+        523 => put_message(alloc, &words, spot, noted),
         531 => put_count(alloc, sources, &words, spot, noted),
         532 => put_argument(alloc, &words, spot, noted),
         540 => put_label(alloc, &words, spot, noted),
@@ -74,8 +76,12 @@ fn put_earlier(
     code: u16,
     noted: &mut Noted,
 ) -> Result<(), AllocError> {
-    let declared = visible(alloc, words, spot.number)?;
-    let Some(first) = last_named(words, declared.as_slice(), words.at(spot.number)) else {
+    let first = if code == 552 {
+        declared_at(alloc, words, spot.number)?
+    } else {
+        earlier(alloc, words, spot.number, code == 517)?
+    };
+    let Some(first) = first else {
         return Ok(());
     };
     let text = match code {
@@ -83,7 +89,118 @@ fn put_earlier(
         517 => "defined here before",
         _ => "declared here before",
     };
-    put_token(alloc, words, spot.file, first.name, text, noted)
+    put_token(alloc, words, spot.file, first, text, noted)
+}
+
+/// The number of the name by which the one with this number is declared.
+fn declared_at(
+    alloc: Global,
+    words: &Words<'_>,
+    number: usize,
+) -> Result<Option<usize>, AllocError> {
+    let declared = visible(alloc, words, number)?;
+    match last_named(words, declared.as_slice(), words.at(number)) {
+        Some(one) if one.name < number => Ok(Some(one.name)),
+        _ => Ok(None),
+    }
+}
+
+/// The number of the name that is declared in the same scope before the one with this number, or defined there.
+fn earlier(
+    alloc: Global,
+    words: &Words<'_>,
+    number: usize,
+    is_defined: bool,
+) -> Result<Option<usize>, AllocError> {
+    let parameter = parameter_before(words, number);
+    if parameter.is_some() {
+        return Ok(parameter);
+    }
+    let declared = visible(alloc, words, number.saturating_add(1))?;
+    let Some(depth) = depth_of(declared.as_slice(), number) else {
+        return Ok(None);
+    };
+    let mut found = None;
+    for one in &declared {
+        let is_same = one.name < number
+            && one.depth == depth
+            && words.at(one.name) == words.at(number);
+        if is_same && (!is_defined || is_definition(words, one.name)) {
+            found = Some(one.name);
+        }
+    }
+    Ok(found)
+}
+
+/// How many blocks are open around the declaration of the name with this number.
+fn depth_of(declared: &[Declared], number: usize) -> Option<usize> {
+    let place = declared.iter().position(|one| one.name == number)?;
+    Some(declared.get(place)?.depth)
+}
+
+/// The number of the parameter in the same list that has the name of the one with this number.
+fn parameter_before(words: &Words<'_>, number: usize) -> Option<usize> {
+    let open = open_before(words, number)?;
+    if !matches!(words.at(open), b"(") {
+        return None;
+    }
+    for place in (open..number).rev() {
+        let is_named = words.at(place) == words.at(number)
+            && matches!(words.at(place.saturating_add(1)), b"," | b"[");
+        if is_named && is_inside(words, place, open) {
+            return Some(place);
+        }
+    }
+    None
+}
+
+/// Whether the token with this number is between the parentheses that open there, and in no others.
+fn is_inside(words: &Words<'_>, number: usize, open: usize) -> bool {
+    match open_before(words, number) {
+        Some(around) => around == open,
+        None => false,
+    }
+}
+
+/// Whether the declaration of the name with this number has a body or an initialiser.
+fn is_definition(words: &Words<'_>, name: usize) -> bool {
+    let mut place = name.saturating_add(1);
+    for _ in name..words.list.len() {
+        if !matches!(words.at(place), b"(" | b"[") {
+            break;
+        }
+        match close_behind(words, place) {
+            Some(close) => place = close.saturating_add(1),
+            None => return false,
+        }
+    }
+    matches!(words.at(place), b"{" | b"=")
+}
+
+/// Puts the text of an assertion, as it is written.
+fn put_message(
+    alloc: Global,
+    words: &Words<'_>,
+    spot: Spot<'_>,
+    noted: &mut Noted,
+) -> Result<(), AllocError> {
+    let Some(close) = close_behind(words, spot.number.saturating_add(1)) else {
+        return Ok(());
+    };
+    let mut first = close;
+    for place in (spot.number..close).rev() {
+        if !words.at(place).starts_with(b"\"") {
+            break;
+        }
+        first = place;
+    }
+    if first == close {
+        return Ok(());
+    }
+    let shown = words.text(alloc, Span { first, past: close })?;
+    let shown = shown.as_str();
+    let text = format!(in alloc; "the message is {shown}")?;
+    put_token(alloc, words, spot.file, first, text.as_str(), noted)
 }
 
 /// The declaration of the object before the operator with this number, and whether that is one name alone.
@@ -305,13 +422,7 @@ fn put_argument(
     let Some(one) = last_named(words, declared.as_slice(), words.at(spot.number)) else {
         return Ok(());
     };
-    let count = parameter_count(words, one.name)
-        .unwrap_or(0)
-        .min(MAX_PARAMETERS);
-    let mismatch = (0..count).find(|turn| {
-        is_mismatch(words, declared.as_slice(), spot.number, one.name, *turn)
-    });
-    let Some(turn) = mismatch else {
+    let Some(turn) = mismatch(words, declared.as_slice(), spot.number, one.name) else {
         return put_token(alloc, words, spot.file, one.name, "declared here", noted);
     };
     let Some(parameter) = parameter_at(words, one.name, turn) else {
@@ -328,6 +439,61 @@ fn put_argument(
         text.as_str(),
         noted,
     )
+}
+
+/// The number of the first argument that is an array where its parameter is none, or the other way round; or else of the first one whose elements are of
+/// another type.
+fn mismatch(
+    words: &Words<'_>,
+    declared: &[Declared],
+    call: usize,
+    function: usize,
+) -> Option<usize> {
+    let count = parameter_count(words, function)
+        .unwrap_or(0)
+        .min(MAX_PARAMETERS);
+    match (0..count).find(|turn| is_mismatch(words, declared, call, function, *turn)) {
+        Some(turn) => Some(turn),
+        None => (0..count).find(|turn| is_other_type(words, declared, call, function, *turn)),
+    }
+}
+
+/// Whether an argument and its parameter are arrays whose elements are of two types.
+fn is_other_type(
+    words: &Words<'_>,
+    declared: &[Declared],
+    call: usize,
+    function: usize,
+    turn: usize,
+) -> bool {
+    let (Some(parameter), Some(argument)) = (
+        parameter_at(words, function, turn),
+        parameter_at(words, call, turn),
+    ) else {
+        return false;
+    };
+    if !has_brackets(words, parameter) || argument.past != argument.first.saturating_add(1) {
+        return false;
+    }
+    let Some(one) = last_named(words, declared, words.at(argument.first)) else {
+        return false;
+    };
+    match (
+        element_type(words, parameter.first),
+        element_type(words, type_front(words, one)),
+    ) {
+        (Some(wanted), Some(given)) => !is_of_one_type(wanted, given),
+        _ => false,
+    }
+}
+
+/// The number of the token with which the type of a declared name begins. A parameter has its own.
+fn type_front(words: &Words<'_>, declared: Declared) -> usize {
+    if matches!(words.before(declared.front), b"(") {
+        specifiers(words, declared.name).first
+    } else {
+        declared.front
+    }
 }
 
 /// Whether one of an argument and its parameter is an array, and the other is none.

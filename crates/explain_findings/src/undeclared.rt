@@ -3,7 +3,7 @@
 use crate::advising::token_point;
 use crate::asking::{Answer, Asking, Compiler};
 use crate::finding::{Noted, Place, Topic, point_at};
-use crate::macro_notes::{MacroPlace, find_macro};
+use crate::macro_notes::{MacroPlace, find_macro, is_parameter, replacement};
 use crate::near::nearest_visible;
 use crate::sources::Sources;
 use declaration_places::{is_identifier, last_named, visible};
@@ -152,10 +152,10 @@ fn put_name_in_macro<C: Compiler>(
     let Some(tokens) = Tokens::of(alloc, text)? else {
         return Ok(());
     };
-    let first = found.hash.saturating_add(3);
+    let first = replacement(&tokens, found.hash);
     let mut is_found = false;
     for number in first..first.saturating_add(MAX_TRIED) {
-        if !is_found && is_of_macro(&tokens, number) {
+        if !is_found && is_own_name(&tokens, found.hash, number) {
             is_found = is_cause(alloc, asking, fault, found.file, &tokens, number)?;
             if is_found {
                 put_inner(alloc, asking.sources, found.file, &tokens, number, noted)?;
@@ -165,15 +165,24 @@ fn put_name_in_macro<C: Compiler>(
     Ok(())
 }
 
-/// Whether the token with this number is a name in a directive, and not its first token.
-fn is_of_macro(tokens: &Tokens<'_>, number: usize) -> bool {
-    match tokens.spot(number) {
-        Some(spot) => spot.in_directive && !spot.is_first && is_identifier(tokens.spelling(number)),
+/// Whether the token with this number is a name of the macro's own that the program has as it stands: no parameter, and no part of what `##` makes.
+fn is_own_name(tokens: &Tokens<'_>, hash: usize, number: usize) -> bool {
+    let name = tokens.spelling(number);
+    let is_joined = is_paste(tokens.spelling(number.saturating_sub(1)))
+        || is_paste(tokens.spelling(number.saturating_add(1)));
+    let is_inside = match tokens.spot(number) {
+        Some(spot) => spot.in_directive && !spot.is_first,
         None => false,
-    }
+    };
+    is_inside && !is_joined && is_identifier(name) && !is_parameter(tokens, hash, name)
 }
 
-/// Whether the fault is another where this token is a number.
+/// Whether a token joins those around it.
+fn is_paste(token: &[u8]) -> bool {
+    matches!(token, b"##" | b"%:%:")
+}
+
+/// Whether the source has no fault up to this one and at its line where this token is a number.
 fn is_cause<C: Compiler>(
     alloc: Global,
     asking: &Asking<'_, C>,
@@ -191,17 +200,16 @@ fn is_cause<C: Compiler>(
     changed.extend_from_slice(text.get(spot.end..).unwrap_or_default())?;
     Ok(match asking.answer_with(alloc, file, &changed)? {
         Answer::Accepted => true,
-        Answer::Refused(other) => {
-            other.code != fault.code && other.code > 500 || is_later(&other, fault)
-        }
+        Answer::Refused(other) => is_later(&other, fault),
         Answer::NotTaken => false,
     })
 }
 
-/// Whether a fault of the same code follows another in its file, or is in another file.
+/// Whether a fault is found behind another: at the end of the program, on a later line, or in another file.
 fn is_later(other: &Fault, fault: &Fault) -> bool {
-    other.code == fault.code
-        && (other.file.as_str() != fault.file.as_str() || other.line > fault.line)
+    matches!(other.code, 551 | 552)
+        || other.code > 500
+            && (other.file.as_str() != fault.file.as_str() || other.line > fault.line)
 }
 
 /// Puts that a name in a macro is not declared, at its place.

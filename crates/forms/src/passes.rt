@@ -14,6 +14,8 @@ fn name_of(pass: Pass) -> &'static str {
     match pass {
         Pass::Flatten => "flattening",
         Pass::Simplify => "constant-propagation-and-dead-stores",
+        Pass::RemoveUnreachable => "unreachable-code-elimination",
+        Pass::LayOut => "jump-threading",
         Pass::Hoist => "constant-hoisting",
         Pass::AllocateLeaf => "register-allocation-of-leaf-functions",
         Pass::Renumber => "register-allocation",
@@ -38,9 +40,11 @@ pub fn passes_of(
 ) -> Result<String, AllocError>
     requires { IsReady (program_of program.now) }
 {
-    let mut passed = Vec::with_capacity(alloc, 5)?;
+    let mut passed = Vec::with_capacity(alloc, 7)?;
     passed.push(after(alloc, program, Pass::Flatten)?)?;
     passed.push(after(alloc, program, Pass::Simplify)?)?;
+    passed.push(after(alloc, program, Pass::RemoveUnreachable)?)?;
+    passed.push(after(alloc, program, Pass::LayOut)?)?;
     passed.push(after(alloc, program, Pass::Hoist)?)?;
     passed.push(after(alloc, program, Pass::AllocateLeaf)?)?;
     passed.push(after(alloc, program, Pass::Renumber)?)?;

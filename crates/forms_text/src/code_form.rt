@@ -1,5 +1,9 @@
 //! Three-address code and flat code, an instruction a line.
 
+ghost use Rattle.std.specs.Prelude.{ℕ, ◌≡◌, true, Some, slice_get};
+ghost use Rattle.lower_wf.specs.Asked.{types_are_sized};
+ghost use Rattle.typed_ast.specs.View.{program_of, function_of};
+
 use crate::writer::Writer;
 use frames_code::FlatProgram;
 use std::alloc::{AllocError, Global};
@@ -68,7 +72,10 @@ fn put_function(
     program: &Program,
     function: &Function,
     is_main: bool,
-) -> Result<(), AllocError> {
+) -> Result<(), AllocError>
+    requires sized { types_are_sized (program_of program.now) ≡ true }
+    requires own { (k : ℕ) × (slice_get (program_of program.now).functions k ≡ Some (function_of function.now)) }
+{
     let code = lower_function(alloc, program, function, is_main)?;
     let starts = code_starts(alloc, program, function)?;
     out.begin("function")?;
@@ -84,10 +91,14 @@ pub(crate) fn put_tac(
     alloc: Global,
     out: &mut Writer<'_>,
     program: &Program,
-) -> Result<(), AllocError> {
+) -> Result<(), AllocError>
+    requires { types_are_sized (program_of program.now) ≡ true }
+{
     out.begin("program")?;
-    for (number, function) in program.functions.iter().enumerate() {
+    let mut number: usize = 0;
+    for function in &program.functions {
         put_function(alloc, out, program, function, number == program.main)?;
+        number = number.saturating_add(1);
     }
     out.end()
 }

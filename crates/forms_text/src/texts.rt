@@ -1,5 +1,9 @@
 //! Each form as text or as JSON, with a newline after it.
 
+ghost use Rattle.std.specs.Prelude.{◌≡◌, true};
+ghost use Rattle.lower_wf.specs.Asked.{types_are_sized};
+ghost use Rattle.typed_ast.specs.View.{program_of};
+
 use crate::code_form::{put_flat, put_tac};
 use crate::token_form::put_tokens;
 use crate::tree_form::put_unit;
@@ -48,13 +52,15 @@ pub fn typed_text(
     out.into_text()
 }
 
-/// The three-address code of a program.
+/// The three-address code of a program, whose objects have elements, and not more bytes than an object may have.
 pub fn tac_text(
     alloc: Global,
     program: &Program,
     names: &Names,
     style: Style,
-) -> Result<String, AllocError> {
+) -> Result<String, AllocError>
+    requires { types_are_sized (program_of program.now) ≡ true }
+{
     let mut out = Writer::new(alloc, names, style);
     put_tac(alloc, &mut out, program)?;
     out.into_text()

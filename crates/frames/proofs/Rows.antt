@@ -71,6 +71,7 @@ arrays_flat = record {
         resident = 1;
         area = 8;
         outgoing = 0;
+        gives = true;
         code = (
             nothing ∷ address to_t0 (in_frame 0) ∷ element to_t0 t0 (constant 1) 4 ∷
             address to_t1 (in_statics 20) ∷ element to_t1 t1 (constant 1) 2 ∷ load signed_half to_t1 (at t1) ∷ store word t1 (at t0) ∷
@@ -84,6 +85,7 @@ arrays_flat = record {
         resident = 2;
         area = 0;
         outgoing = 0;
+        gives = true;
         code = (
             move (to_cell 1) t0 ∷ move (to_cell 0) t1 ∷ element to_t0 (cell 1) (cell 0) 4 ∷ load word to_t0 (at t0) ∷ return ∷ []);
       } ∷ [];

@@ -1,5 +1,5 @@
 -- The relation between three-address code and flat code that does the same: the contract of flattening.
-use Rattle.std.specs.Prelude.{◌≡◌, ◌≤◌, ℕ, List, length, slice_get, Some}
+use Rattle.std.specs.Prelude.{◌≡◌, ◌≤◌, ℕ, true, List, length, is_some, slice_get, Some}
 use Rattle.csem.specs.History.{Entry, trace_of}
 use Rattle.frames_code.specs.Code as flat
 use Rattle.frames_code.specs.Costs.{next_of}
@@ -34,14 +34,16 @@ CostsNoMore q f input n m =
 abbrev pub HasItsWords : flat_run.State → tac_run.State → Type 0
 HasItsWords s t = (k w : ℕ) → t.temporaries k ≡ Some (tac_run.word w) → s.temporaries k ≡ Some (flat_run.word w)
 
--- the result
-abbrev pub HasItsResult : flat_run.State → tac_run.State → Type 0
-HasItsResult s t = (w : ℕ) → t.temporaries 0 ≡ Some (tac_run.word w) → s.temporaries 0 ≡ Some (flat_run.word w)
+-- the result, where the function has one: that is in temporary 0 of three-address code
+abbrev pub HasItsResult : tac.Program → flat.Program → flat_run.State → tac_run.State → Type 0
+HasItsResult q f s t =
+    is_some (tac.function_at q t.call.function).result ≡ true
+    → (w : ℕ) → t.temporaries 0 ≡ Some (tac_run.word w) → flat_run.result_of f s ≡ Some (flat_run.word w)
 
 -- where flat code is about to call a function, three-address code is too, with the same words in its temporaries; and to return, with the same result
 pub record IsAtCall (q : tac.Program) (f : flat.Program) (t : tac_run.State) (s : flat_run.State) : Type 0 where
   pub calls : (g : ℕ) → next_of f s ≡ Some (flat_instruction.Call g) → (tac_run.instruction_at q t ≡ Some (instruction.Call g)) × HasItsWords s t
-  pub returns : next_of f s ≡ Some flat_instruction.Return → (tac_run.instruction_at q t ≡ Some instruction.Return) × HasItsResult s t
+  pub returns : next_of f s ≡ Some flat_instruction.Return → (tac_run.instruction_at q t ≡ Some instruction.Return) × HasItsResult q f s t
 
 -- at each of m steps the calls, those that are active and one that begins or ends next, are those of the first run at one of its n
 abbrev pub HasItsCalls : tac.Program → flat.Program → List ℕ → (n m : ℕ) → Type 0

@@ -1,5 +1,5 @@
 -- The flat code of three-address code: one instruction for each, after a move of each parameter into its place.
-use Rattle.std.specs.Prelude.{ℕ, ◌+◌, ◌-◌, ◌*◌, nat_lt, min, if◌then◌else◌, List, [], ◌∷◌, ◌++◌, map, slice_get}
+use Rattle.std.specs.Prelude.{ℕ, ◌+◌, ◌-◌, ◌*◌, nat_lt, min, if◌then◌else◌, List, [], ◌∷◌, ◌++◌, map, is_some, slice_get}
 use Rattle.ctypes.specs.declared.types.IntType.{IntType}
 use Rattle.ctypes.specs.declared.types.IntType.TheVariants as ty
 use Rattle.ctypes.specs.Types.{bytes_of}
@@ -173,6 +173,7 @@ flat_function s f = record {
   resident = min (cells_of f) 12;
   area = bytes_in f.objects;
   outgoing = f.temporaries - 8;
+  gives = is_some f.result;
 }
 
 abbrev pub flat_program : tac.Program → frames.Program

@@ -103,6 +103,7 @@ pub fn flatten_function(
         resident: layout.cells.min(12),
         area: layout.area,
         outgoing: function.temporaries.saturating_sub(8),
+        gives: function.result.is_some(),
     })
 }
 

@@ -1,6 +1,6 @@
 -- Flat programs, and the results of their runs. Each was written from the C text above it; status and output are what such a
 -- program gives by ISO/IEC 9899:2011, where it is one.
-use Rattle.std.proofs.Common.{◌≡◌, refl}
+use Rattle.std.proofs.Common.{◌≡◌, true, false, refl}
 use Rattle.std.specs.Prelude.{ℕ, List, [], ◌∷◌}
 use Rattle.rv32.specs.declared.instr.RegisterOp.TheVariants as op
 use Rattle.rv32.specs.declared.instr.Test.TheVariants as test
@@ -20,13 +20,13 @@ use Rattle.frames_code.specs.Code.{Function, Program, frame_bytes}
 use Rattle.frames_code.specs.Run.{Progress, step, running, ended, stuck, start, run, active}
 
 abbrev plain : List Instruction → Function
-plain code = record { code = code; cells = 0; resident = 0; area = 0; outgoing = 0 }
+plain code = record { code = code; cells = 0; resident = 0; area = 0; outgoing = 0; gives = true }
 
 abbrev with_cells : ℕ → List Instruction → Function
-with_cells n code = record { code = code; cells = n; resident = 0; area = 0; outgoing = 0 }
+with_cells n code = record { code = code; cells = n; resident = 0; area = 0; outgoing = 0; gives = true }
 
 abbrev with_area : ℕ → ℕ → List Instruction → Function
-with_area n bytes code = record { code = code; cells = n; resident = 0; area = bytes; outgoing = 0 }
+with_area n bytes code = record { code = code; cells = n; resident = 0; area = bytes; outgoing = 0; gives = true }
 
 abbrev whole : List Function → Program
 whole functions = record { functions = functions; statics = []; main = 0 }
@@ -109,7 +109,7 @@ calls_are_active = refl
 -- temporaries from 0 on are the first eight arguments, the others are taken from the caller's frame
 ten_arguments :
     run_of (whole (
-    record { code = (move (to_temporary 8) (constant 8) ∷ move (to_temporary 9) (constant 9) ∷ move t0 (constant 1) ∷ call 1 ∷ return ∷ []); cells = 0; resident = 0; area = 0; outgoing = 2 } ∷
+    record { code = (move (to_temporary 8) (constant 8) ∷ move (to_temporary 9) (constant 9) ∷ move t0 (constant 1) ∷ call 1 ∷ return ∷ []); cells = 0; resident = 0; area = 0; outgoing = 2; gives = true } ∷
     with_cells 2 (move (to_cell 0) (argument 8) ∷ move (to_cell 1) (argument 9) ∷ compute (machine op.Mul) (to_cell 0) (cell 0) (cell 1) ∷ add t0 (cell 0) (temporary 0) ∷ return ∷ []) ∷ [])) 10 ≡ ended 73 [] []
 unfolding step
 ten_arguments = refl
@@ -117,7 +117,7 @@ ten_arguments = refl
 -- they are lost after the moves that a function begins with
 argument_too_late :
     run_of (whole (
-    record { code = (move (to_temporary 8) (constant 8) ∷ call 1 ∷ return ∷ []); cells = 0; resident = 0; area = 0; outgoing = 1 } ∷
+    record { code = (move (to_temporary 8) (constant 8) ∷ call 1 ∷ return ∷ []); cells = 0; resident = 0; area = 0; outgoing = 1; gives = true } ∷
     plain (add t0 (constant 1) (constant 1) ∷ move t0 (argument 8) ∷ return ∷ []) ∷ [])) 5 ≡ stuck
 unfolding step
 argument_too_late = refl
@@ -217,6 +217,14 @@ reference_is_no_word : run_of (whole (with_area 0 4 (address t0 (in_frame 0) ∷
 unfolding step
 reference_is_no_word = refl
 
+-- void f(void) { }  the caller finds no result, whatever temporary 0 held
+no_result :
+    run_of (whole (
+    plain (call 1 ∷ return ∷ []) ∷
+    record { code = (move t0 (constant 7) ∷ return ∷ []); cells = 0; resident = 0; area = 0; outgoing = 0; gives = false } ∷ [])) 4 ≡ stuck
+unfolding step
+no_result = refl
+
 -- after the last instruction
 past_the_code : run_of (whole (plain (nothing ∷ []) ∷ [])) 2 ≡ stuck
 unfolding step
@@ -226,5 +234,5 @@ past_the_code = refl
 frame_of_nothing : frame_bytes (plain []) ≡ 16
 frame_of_nothing = refl
 
-frame_of_some : frame_bytes (record { code = []; cells = 3; resident = 3; area = 5; outgoing = 2 }) ≡ 48
+frame_of_some : frame_bytes (record { code = []; cells = 3; resident = 3; area = 5; outgoing = 2; gives = true }) ≡ 48
 frame_of_some = refl

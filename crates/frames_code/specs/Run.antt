@@ -1,5 +1,5 @@
 -- The semantics of flat code, by a count of steps. A read of a value that was never set is stuck, and a stuck run promises nothing.
-use Rattle.std.specs.Prelude.{ℕ, zero, suc, ◌+◌, ◌-◌, ◌*◌, ◌/◌, ◌%◌, ◌^◌, ◌==◌, ◌&&◌, nat_le, nat_lt, Bool, not, if◌then◌else◌, List, [], ◌∷◌, map, length, slice_get, Option, Some, None}
+use Rattle.std.specs.Prelude.{ℕ, zero, suc, ◌+◌, ◌-◌, ◌*◌, ◌/◌, ◌%◌, ◌^◌, ◌==◌, ◌&&◌, nat_le, nat_lt, Bool, true, false, not, if◌then◌else◌, List, [], ◌∷◌, map, length, slice_get, Option, Some, None}
 use Rattle.rv32.specs.Words.{sign_extended}
 use Rattle.rv32.specs.Arithmetic.{compare_of, operate_of, one_if}
 use Rattle.csem_events.specs.Events.{Event, Got, GotEnd, Put}
@@ -177,7 +177,7 @@ abbrev pub function_at : Program → ℕ → Function
 function_at p f = or_none (slice_get p.functions f)
   where
     or_none : Option Function → Function
-    or_none None = record { code = []; cells = 0; resident = 0; area = 0; outgoing = 0 }
+    or_none None = record { code = []; cells = 0; resident = 0; area = 0; outgoing = 0; gives = false }
     or_none (Some g) = g
 
 abbrev pub bytes_of : Program → List Frame → ℕ
@@ -269,10 +269,19 @@ entered s f = record s {
   waiting = record s.frame { at = s.frame.at + 1 } ∷ s.waiting;
 }
 
+-- a function without a result passes none (6.8.6.4)
+abbrev pub result_if : Bool → Option Value → Option Value
+result_if true v = v
+result_if false v = None
+
+-- what the call that runs passes to its caller
+abbrev pub result_of : Program → State → Option Value
+result_of p s = result_if (function_at p s.frame.function).gives (s.temporaries 0)
+
 -- main's result is the status (5.1.2.2.3)
-abbrev pub returned : State → List Frame → Progress
-returned s [] = word_at s (operand.Temporary 0) >>= λ v. ended (v % 2 ^ 8) s.input s.trace
-returned s (f ∷ fs) = running (record s { frame = f; temporaries = result_alone (s.temporaries 0); arguments = unset; waiting = fs })
+abbrev pub returned : State → (result : Option Value) → List Frame → Progress
+returned s v [] = word_in v >>= λ w. ended (w % 2 ^ 8) s.input s.trace
+returned s v (f ∷ fs) = running (record s { frame = f; temporaries = result_alone v; arguments = unset; waiting = fs })
 
 abbrev pub got : State → List ℕ → Progress
 got s [] = running (record (next s) { temporaries = result_alone (Some (word (2 ^ 32 - 1))); trace = GotEnd ∷ s.trace })
@@ -307,7 +316,7 @@ act p s (instruction.Call f) = running (entered s f)
 act p s instruction.PutByte = word_at s (operand.Temporary 0) >>= put s
 act p s instruction.GetByte = got s s.input
 act p s instruction.Exit = word_at s (operand.Temporary 0) >>= λ v. ended (v % 2 ^ 8) s.input s.trace
-act p s instruction.Return = returned s s.waiting
+act p s instruction.Return = returned s (result_of p s) s.waiting
 
 unfoldable pub step : Program → State → Progress
 step p s = slice_get (function_at p s.frame.function).code s.frame.at >>= act p s

@@ -157,6 +157,8 @@ pub struct Function {
     pub area: usize,
     /// How many temporaries from the ninth on it has. They lie at the frame's start, where arguments from the ninth on belong.
     pub outgoing: usize,
+    /// Whether it has a result, which temporary 0 holds where it returns.
+    pub gives: bool,
 }
 
 impl Function {

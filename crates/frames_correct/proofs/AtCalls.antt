@@ -21,7 +21,7 @@ use Rattle.frames.specs.Flattened.{IsAtCall, HasItsWords}
 use Rattle.frames.proofs.Sound.{length_moves}
 use Rattle.frames_correct.specs.Matched.{Matched}
 use Rattle.frames_correct.proofs.Lists.{get_right}
-use Rattle.frames_correct.proofs.Ground.{IsMadeOf, function_is}
+use Rattle.frames_correct.proofs.Ground.{IsMadeOf, function_is, result_held}
 
 -- ---- only a call is translated to a call, and only a return to a return
 
@@ -117,5 +117,5 @@ module _ (q : Program) (f : flat_code.Program) (g : IsMadeOf q f) (t : State) (s
   pub at_call : IsAtCall q f t s
   at_call = record {
     calls = λ n e. (called (instruction_at q t) n (sym next_is ∙ e), words);
-    returns = λ e. (returned (instruction_at q t) (sym next_is ∙ e), words 0);
+    returns = λ e. (returned (instruction_at q t) (sym next_is ∙ e), λ some w ew. result_held q f g t s m some ∙ words 0 w ew);
   }

@@ -1,6 +1,6 @@
 -- A flat program that is made of a sound three-address program.
-use Rattle.std.proofs.Common.{◌≡◌, ℕ, zero, suc, ◌+◌, List, [], ◌∷◌, map, Option, Some, None, refl, sym, ap, ◌∙◌}
-use Rattle.std.specs.Prelude.{slice_get}
+use Rattle.std.proofs.Common.{◌≡◌, ℕ, zero, suc, ◌+◌, List, [], ◌∷◌, map, Option, Some, None, true, false, refl, sym, ap, ◌∙◌}
+use Rattle.std.specs.Prelude.{is_some, slice_get}
 use Rattle.tac_code.specs.Code as tac
 use Rattle.tac_code.specs.Code.{Program, or_no_function}
 use Rattle.tac_code.specs.Run.{State, open_calls}
@@ -25,7 +25,7 @@ pub record IsMadeOf (q : Program) (f : flat_code.Program) : Type 0 where
 known_in : (p : flat_code.Program) (k : ℕ) (g : Function) → slice_get p.functions k ≡ Some g → g ≡ function_at p k
 known_in p k g e = rw e refl
 
-unknown_in : (p : flat_code.Program) (k : ℕ) → slice_get p.functions k ≡ None → record { code = []; cells = 0; resident = 0; area = 0; outgoing = 0 } ≡ function_at p k
+unknown_in : (p : flat_code.Program) (k : ℕ) → slice_get p.functions k ≡ None → record { code = []; cells = 0; resident = 0; area = 0; outgoing = 0; gives = false } ≡ function_at p k
 unknown_in p k e = rw e refl
 
 none_in_map : {A B : Type 0} (f : A → B) (xs : List A) (k : ℕ) → slice_get xs k ≡ None → slice_get (map f xs) k ≡ None
@@ -59,3 +59,7 @@ name_is q f g t s m = stack_is q f g (s.frame ∷ s.waiting) ∙ ap (stack_bytes
 
 pub function_is : (q : Program) (f : flat_code.Program) → IsMadeOf q f → (t : State) (s : flat.State) → Matched q f t s → function_at f s.frame.function ≡ function_for q t.call.function
 function_is q f g t s m = g.functions s.frame.function ∙ ap (function_for q) m.frames.0.function
+
+-- where the function has a result, that of flat code is in temporary 0
+pub result_held : (q : Program) (f : flat_code.Program) → IsMadeOf q f → (t : State) (s : flat.State) → Matched q f t s → is_some (tac.function_at q t.call.function).result ≡ true → flat.result_of f s ≡ s.temporaries 0
+result_held q f g t s m some = ap (λ b. flat.result_if b (s.temporaries 0)) (ap (λ (h : Function). h.gives) (function_is q f g t s m) ∙ some)

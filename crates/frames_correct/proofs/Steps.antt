@@ -140,7 +140,7 @@ module _ (q : Program) (f : flat_code.Program) (g : IsMadeOf q f) (t : State) (s
   acts instruction.PutByte h fit = does_put q f t s m (starts_of q) fit
   acts instruction.GetByte h fit = does_get q f t s m (starts_of q)
   acts instruction.Exit h fit = does_exit q f t s m (starts_of q) fit
-  acts instruction.Return h fit = does_return q f g t s m (starts_of q) fit
+  acts instruction.Return h fit = does_return q f g t s m (starts_of q)
 
   -- the instruction that comes next
   pub stands : (x : Instruction) → instruction_at q t ≡ Some x → flat_costs.next_of f s ≡ Some (flat_of x)

@@ -16,7 +16,8 @@ use Rattle.frames_code.specs.declared.code.Location.TheVariants as location
 use Rattle.frames_code.specs.declared.code.Instruction.{Instruction}
 use Rattle.frames_code.specs.declared.code.Instruction.TheVariants as instruction
 use Rattle.frames_code.specs.Code.{Program, area_home, frame_bytes}
-use Rattle.frames_code.specs.Run.{Value, Values, Bytes, Frame, State, Reference, Memory, Progress, running, ended, stuck, word, reference, value, word_at, reference_in, set, with_at, unset, next, past, goes_to, place, base_of, indexed, size_of, arrays, memory, memory_among, changed_among, with_frames, with_memory, with_element, element_in, fits, gives, gives_word, operate, converted, loaded, stored, put, got, returned, entered, result_alone, below_eight, act, function_at, bytes_of, name_of, ◌>>=◌}
+use Rattle.frames_code.specs.Run.{Value, Values, Bytes, Frame, State, Reference, Memory, Progress, running, ended, stuck, word, reference, value, word_at, word_in, reference_in, set, with_at, unset, next, past, goes_to, place, base_of, indexed, size_of, arrays, memory, memory_among, changed_among, with_frames, with_memory, with_element, element_in, fits, gives, gives_word, operate, converted, loaded, stored, put, got, returned, entered, result_alone, result_of, below_eight, act, function_at, bytes_of, name_of, ◌>>=◌}
+use Rattle.frames_code.proofs.Results.{result_same}
 use Rattle.frames_hoist.specs.declared.homes.Home.{Home}
 use Rattle.frames_hoist.specs.declared.homes.Home.TheVariants as home_of
 use Rattle.frames_hoist.specs.layer.Hoisting.{survives_calls, put_in, is_straight, from_pool, with_pool}
@@ -317,6 +318,10 @@ module _ (p q : Program) (home : ℕ → Home) (pool : ℕ → List ℕ) (fill :
         ap (λ n. reference_to n (area_home (function_at q k) + o)) (name_under s.frame s.waiting d ds)
         ∙ ap (λ n. reference_to (name_of p s.frame s.waiting) (n + o)) out
 
+    -- the result, where temporary 0 is no place of a constant
+    pub result_is : TemporaryOutside (home k) (pool k) 0 → result_of q t ≡ result_of p s
+    result_is out = result_same (function_at p k).gives (function_at q k).gives (s.temporaries 0) (us 0) (r.results k) (λ has. agree.frame.temporaries 0 out)
+
     module _ (read : List ℕ) (held : (read ≡ []) ⊎ ((read ≡ pool k) × (fill k i ≡ length (pool k)))) where
       abbrev from : Operand → Operand
       from = from_pool (home k) read
@@ -345,17 +350,17 @@ module _ (p q : Program) (home : ℕ → Home) (pool : ℕ → List ℕ) (fill :
       place_below (location.Indexed b y size) out w e =
           ap (λ r. indexed r size (word_at t y)) (base_same b out.0) ∙ indexed_below (base_of p s b) size (word_at s y) (word_at t y) (plain_word y out.1) w e
 
-      returned_match : TemporaryOutside (home k) (pool k) 0 → (ws : List Frame) (vs : List Values) → AllAgree home pool fill ws vs → Matches (returned s ws) (returned t (under ws vs))
-      returned_match out [] vs h =
-          match_bind home pool fill (word_at s (operand.Temporary 0)) (word_at t (operand.Temporary 0)) (λ v. ended (v % 2 ^ 8) s.input s.trace) (λ v. ended (v % 2 ^ 8) s.input s.trace) (plain_word (operand.Temporary 0) out) (λ v. refl)
-      returned_match out (f ∷ fs) vs h = record {
+      returned_match : (m n : Option Value) → n ≡ m → (ws : List Frame) (vs : List Values) → AllAgree home pool fill ws vs → Matches (returned s m ws) (returned t n (under ws vs))
+      returned_match m n same [] vs h =
+          match_bind home pool fill (word_in m) (word_in n) (λ v. ended (v % 2 ^ 8) s.input s.trace) (λ v. ended (v % 2 ^ 8) s.input s.trace) (λ v e. ap word_in same ∙ e) (λ v. refl)
+      returned_match m n same (f ∷ fs) vs h = record {
         words = first_or f.cells vs;
-        temporaries = result_alone (us 0);
+        temporaries = result_alone n;
         others = rest_of vs;
         is = refl;
         agree = record {
-          frame = calls_agree (home f.function) (pool f.function) (fill f.function f.at) f.cells (first_or f.cells vs) unset unset (result_alone (s.temporaries 0)) (result_alone (us 0)) h.2
-              (λ j. ap (λ m. result_alone m j) (agree.frame.temporaries 0 out)) h.0;
+          frame = calls_agree (home f.function) (pool f.function) (fill f.function f.at) f.cells (first_or f.cells vs) unset unset (result_alone m) (result_alone n) h.2
+              (λ j. ap (λ v. result_alone v j) same) h.0;
           waiting = h.3;
         };
       }
@@ -442,7 +447,7 @@ module _ (p q : Program) (home : ℕ → Home) (pool : ℕ → List ℕ) (fill :
       reads_alike instruction.GetByte out e leads whole = got_match e out s.input
       reads_alike instruction.Exit out e leads whole =
           match_bind home pool fill (word_at s (operand.Temporary 0)) (word_at t (operand.Temporary 0)) (λ v. ended (v % 2 ^ 8) s.input s.trace) (λ v. ended (v % 2 ^ 8) s.input s.trace) (plain_word (operand.Temporary 0) out) (λ v. refl)
-      reads_alike instruction.Return out e leads whole = returned_match out s.waiting ds agree.waiting
+      reads_alike instruction.Return out e leads whole = returned_match (result_of p s) (result_of q t) (result_is out) s.waiting ds agree.waiting
 
     -- ---- a constant put into its place, where the program does nothing
 

@@ -133,6 +133,7 @@ pub record AreAlike (p q : Program) (home : ℕ → Home) (pool : ℕ → List �
   pub main : q.main ≡ p.main
   pub frames : (k : ℕ) → frame_bytes (function_at q k) ≡ frame_bytes (function_at p k)
   pub areas : (k : ℕ) → (function_at q k).area ≡ (function_at p k).area
+  pub results : (k : ℕ) → (function_at q k).gives ≡ (function_at p k).gives
   pub arrays : (k : ℕ) → ((function_at p k).area ≡ 0) ⊎ (area_home (function_at q k) ≡ area_home (function_at p k))
   pub starts : (k : ℕ) → fill k 0 ≡ 0
   pub paid : (k : ℕ) → entry_cost_of (function_at q k) + 6 * length (pool k) ≤ entry_cost

@@ -11,12 +11,12 @@ use Rattle.frames_code.specs.declared.code.Instruction.{Instruction}
 use Rattle.frames_code.specs.declared.code.Instruction.TheVariants as instruction
 use Rattle.frames_code.specs.Code.{Program}
 use Rattle.frames_code.specs.Costs.{entry_cost, entry_cost_of, cost, cost_if, cost_in, cost_in_if, cost_on, next_of, spent, spent_in, spent_with_entry}
-use Rattle.frames_code.specs.Run.{Value, Values, Bytes, Frame, State, Reference, Progress, running, ended, stuck, word, reference, value, word_at, reference_in, set, unset, next, past, goes_to, place, memory, changed_among, with_frames, with_memory, with_element, element_in, fits, gives, gives_word, operate, converted, loaded, stored, put, got, act, step, run, start, goes_on, active, function_at, name_of, returned, ◌>>=◌}
+use Rattle.frames_code.specs.Run.{Value, Values, Bytes, Frame, State, Reference, Progress, running, ended, stuck, word, reference, value, word_at, word_in, reference_in, set, unset, next, past, goes_to, place, memory, changed_among, with_frames, with_memory, with_element, element_in, fits, gives, gives_word, operate, converted, loaded, stored, put, got, act, step, run, start, goes_on, active, function_at, name_of, result_of, returned, ◌>>=◌}
 use Rattle.frames_opt.specs.Simplified.{DoesTheSame, IsDefined, IsAtCall}
 use Rattle.frames_hoist.specs.declared.homes.Home.{Home}
 use Rattle.frames_hoist.specs.layer.Hoisting.{survives_calls, put_in, is_straight, with_pool}
 use Rattle.frames_hoist.proofs.Agreeing.{TemporaryOutside, IsOutside, LeadsAlike, PutsOne, Reads, Position, AreAlike, rest_of, under, over, AllAgree, Agree, Match}
-use Rattle.frames_hoist.proofs.Acting.{reads_alike, puts_alike, none_lost, begins_agree}
+use Rattle.frames_hoist.proofs.Acting.{reads_alike, puts_alike, result_is, none_lost, begins_agree}
 
 functions_under : (fs : List Frame) (ds : List Values) → map (λ (f : Frame). f.function) (under fs ds) ≡ map (λ (f : Frame). f.function) fs
 functions_under [] ds = refl
@@ -249,9 +249,9 @@ module _ (p q : Program) (home : ℕ → Home) (pool : ℕ → List ℕ) (fill :
       abbrev i2 : ℕ
       i2 = s.frame.at
 
-      left_returned : (ws : List Frame) (vs : List Values) → AllAgree home pool fill ws vs → left_in (returned s ws) ≤ 0
-      left_returned [] vs h = left_bind (word_at s (operand.Temporary 0)) (λ v. ended (v % 2 ^ 8) s.input s.trace) 0 (λ v. omega arith)
-      left_returned (f ∷ fs) vs h = let e = h.1 in omega (arith, e)
+      left_returned : (result : Option Value) (ws : List Frame) (vs : List Values) → AllAgree home pool fill ws vs → left_in (returned s result ws) ≤ 0
+      left_returned result [] vs h = left_bind (word_in result) (λ v. ended (v % 2 ^ 8) s.input s.trace) 0 (λ v. omega arith)
+      left_returned result (f ∷ fs) vs h = let e = h.1 in omega (arith, e)
 
       same_after : fill k2 (i2 + 1) ≡ fill k2 i2 → after ≤ left_of s
       same_after e = let g : after ≡ left_of s = ap (λ n. 6 * (length (pool k2) - n)) e in omega (arith, g)
@@ -286,7 +286,7 @@ module _ (p q : Program) (home : ℕ → Home) (pool : ℕ → List ℕ) (fill :
       reads_paid instruction.Exit e leads =
           let h : left_in (act p s instruction.Exit) ≤ 0 = left_bind (word_at s (operand.Temporary 0)) (λ v. ended (v % 2 ^ 8) s.input s.trace) 0 (λ v. omega arith) in
           omega (arith, h)
-      reads_paid instruction.Return e leads = let h = left_returned s.waiting ds agree.waiting in omega (arith, h)
+      reads_paid instruction.Return e leads = let h = left_returned (result_of p s) s.waiting ds agree.waiting in omega (arith, h)
 
       paid_for : (x done : Instruction) → PutsOne (home k2) (pool k2) (fill k2) i2 x done ⊎ Reads (home k2) (pool k2) (fill k2) (function_at p k2) (function_at q k2) i2 x done
           → cost_in q done + left_in (act p s x) ≤ cost x + left_of s
@@ -405,7 +405,7 @@ module _ (p q : Program) (home : ℕ → Home) (pool : ℕ → List ℕ) (fill :
       returns = λ e.
           let first = return_met (slice_get (function_at p s.frame.function).code s.frame.at) refl e in
           let out : TemporaryOutside (home s.frame.function) (pool s.frame.function) 0 = asked instruction.Return first (λ no. let z : ⊥ = cc in z) in
-          (first, λ v h. temporary_kept 0 v out h);
+          (first, λ v h. result_is p q home pool fill r s d us ds agree out ∙ h);
     }
 
   -- ---- from the beginning

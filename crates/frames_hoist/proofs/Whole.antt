@@ -53,6 +53,7 @@ fill_in f g (pooled h) = fill f g h
 record IsPair (home : Home) (pool : List ℕ) (fill : ℕ → ℕ) (f g : Function) : Type 0 where
   pub frame : frame_bytes g ≡ frame_bytes f
   pub area : g.area ≡ f.area
+  pub result : g.gives ≡ f.gives
   pub arrays : (f.area ≡ 0) ⊎ (area_home g ≡ area_home f)
   pub start : fill 0 ≡ 0
   pub paid : entry_cost_of g + 6 * length pool ≤ entry_cost
@@ -64,6 +65,7 @@ same_pair : (f : Function) → IsPair nowhere [] (λ i. 0) f f
 same_pair f = record {
   frame = refl;
   area = refl;
+  result = refl;
   arrays = inr refl;
   start = refl;
   paid = (let a = entry_least f in omega (arith, a));
@@ -88,6 +90,7 @@ pooled_pair : (f g : Function) (h : IsPooled f g) → IsPair h.home h.pool (fill
 pooled_pair f g h = record {
   frame = ap frame_bytes h.is ∙ h.room.frame;
   area = ap (λ (x : Function). x.area) h.is;
+  result = ap (λ (x : Function). x.gives) h.is;
   arrays = subst (λ (z : Function). (f.area ≡ 0) ⊎ (area_home z ≡ area_home f)) (sym h.is) (arrays_stay f h.home (length h.pool) h.room.places);
   start = filled_zero f g h;
   paid = (
@@ -127,7 +130,7 @@ fills_of (f ∷ fs) (g ∷ gs) each zero = fill_in f g each.0
 fills_of (f ∷ fs) (g ∷ gs) each (suc k) = fills_of fs gs each.1 k
 
 abbrev no_function : Function
-no_function = record { code = []; cells = 0; resident = 0; area = 0; outgoing = 0 }
+no_function = record { code = []; cells = 0; resident = 0; area = 0; outgoing = 0; gives = false }
 
 -- both have a function of this number, or neither has
 abbrev ArePair : Home → List ℕ → (ℕ → ℕ) → Option Function → Option Function → Type 0
@@ -168,6 +171,7 @@ module _ (p q : Program) (each : AreHoisted p.functions q.functions) (same_stati
     main = same_main;
     frames = λ k. (pair k).frame;
     areas = λ k. (pair k).area;
+    results = λ k. (pair k).result;
     arrays = λ k. (pair k).arrays;
     starts = λ k. (pair k).start;
     paid = λ k. (pair k).paid;

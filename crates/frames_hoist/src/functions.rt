@@ -157,6 +157,7 @@ fn pooled(
         resident: resident_in(home, function.resident, cells),
         area: function.area,
         outgoing: function.outgoing,
+        gives: function.gives,
     }))
 }
 

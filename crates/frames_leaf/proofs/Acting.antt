@@ -12,8 +12,9 @@ use Rattle.frames_code.specs.declared.code.Location.{Location}
 use Rattle.frames_code.specs.declared.code.Location.TheVariants as location
 use Rattle.frames_code.specs.declared.code.Instruction.{Instruction}
 use Rattle.frames_code.specs.declared.code.Instruction.TheVariants as instruction
-use Rattle.frames_code.specs.Code.{Program, area_home, frame_bytes}
-use Rattle.frames_code.specs.Run.{Value, Values, Bytes, Frame, State, Reference, Memory, Progress, running, ended, stuck, word, reference, value, word_at, reference_in, set, unset, next, past, goes_to, place, base_of, indexed, arrays, memory, memory_among, changed_among, with_frames, with_memory, with_element, element_in, fits, gives, gives_word, operate, converted, loaded, stored, put, got, returned, entered, below_eight, result_alone, act, function_at, bytes_of, name_of, ◌>>=◌}
+use Rattle.frames_code.specs.Code.{Function, Program, area_home, frame_bytes}
+use Rattle.frames_code.specs.Run.{Value, Values, Bytes, Frame, State, Reference, Memory, Progress, running, ended, stuck, word, reference, value, word_at, word_in, reference_in, set, unset, next, past, goes_to, place, base_of, indexed, arrays, memory, memory_among, changed_among, with_frames, with_memory, with_element, element_in, fits, gives, gives_word, operate, converted, loaded, stored, put, got, returned, entered, below_eight, result_alone, result_of, act, function_at, bytes_of, name_of, ◌>>=◌}
+use Rattle.frames_code.proofs.Results.{result_same}
 use Rattle.frames_leaf.specs.layer.Moving.{home_of, moved_operand, moved_target, moved_location, moved}
 use Rattle.frames_leaf.proofs.Agreeing.{Named, OperandNamed, TargetNamed, LocationNamed, IsNamed, AreAlike, first_or, rest_of, under, over, held, none_held, AllAgree, Agree, Match, match_bind, match_if, set_match, value_below, word_below, reference_below, indexed_below}
 
@@ -188,18 +189,22 @@ module _ (p q : Program) (first : ℕ → ℕ) (words : ℕ → List ℕ) (r : A
     words_stay v none c w e = none_held at list v d c none ∙ plain_words none c w e
 
     -- the frame of the caller
-    back_agrees : (f : Frame) (fs : List Frame) (vs : List Values) → Named at list 0 → AllAgree first words (f ∷ fs) vs
-        → Agrees (record s { frame = f; temporaries = result_alone (s.temporaries 0); arguments = unset; waiting = fs }) (result_alone (u 0)) (first_or f.cells vs) (rest_of vs)
-    back_agrees f fs vs named h = record {
-      cells = λ c w e. none_held (first f.function) (words f.function) (result_alone (u 0)) (first_or f.cells vs) c h.0 ∙ h.1 c w e;
-      temporaries = λ j n. ap (λ v. result_alone v j) (agree.temporaries 0 named);
+    back_agrees : (m n : Option Value) → n ≡ m → (f : Frame) (fs : List Frame) (vs : List Values) → AllAgree first words (f ∷ fs) vs
+        → Agrees (record s { frame = f; temporaries = result_alone m; arguments = unset; waiting = fs }) (result_alone n) (first_or f.cells vs) (rest_of vs)
+    back_agrees m n same f fs vs h = record {
+      cells = λ c w e. none_held (first f.function) (words f.function) (result_alone n) (first_or f.cells vs) c h.0 ∙ h.1 c w e;
+      temporaries = λ j named. ap (λ v. result_alone v j) same;
       waiting = h.2;
     }
 
-    returned_match : (ws : List Frame) (vs : List Values) → Named at list 0 → AllAgree first words ws vs → Matches (returned s ws) (returned t (under ws vs))
-    returned_match [] vs named h =
-        match_bind first words (word_at s (operand.Temporary 0)) (word_at t (operand.Temporary 0)) (λ v. ended (v % 2 ^ 8) s.input s.trace) (λ v. ended (v % 2 ^ 8) s.input s.trace) (result_below named) (λ v. refl)
-    returned_match (f ∷ fs) vs named h = record { others = result_alone (u 0); cells = first_or f.cells vs; below = rest_of vs; is = refl; agree = back_agrees f fs vs named h }
+    returned_match : (m n : Option Value) → n ≡ m → (ws : List Frame) (vs : List Values) → AllAgree first words ws vs → Matches (returned s m ws) (returned t n (under ws vs))
+    returned_match m n same [] vs h =
+        match_bind first words (word_in m) (word_in n) (λ v. ended (v % 2 ^ 8) s.input s.trace) (λ v. ended (v % 2 ^ 8) s.input s.trace) (λ v e. ap word_in same ∙ e) (λ v. refl)
+    returned_match m n same (f ∷ fs) vs h = record { others = result_alone n; cells = first_or f.cells vs; below = rest_of vs; is = refl; agree = back_agrees m n same f fs vs h }
+
+    pub result_is : Named at list 0 → result_of q t ≡ result_of p s
+    result_is named =
+        result_same (function_at p s.frame.function).gives (function_at q s.frame.function).gives (s.temporaries 0) (u 0) (ap (λ (f : Function). f.gives) (r.at s.frame.function)) (λ has. agree.temporaries 0 named)
 
     got_match : list ≡ [] → (input : List ℕ) → Matches (got s input) (got t input)
     got_match none [] = record {
@@ -271,4 +276,4 @@ module _ (p q : Program) (first : ℕ → ℕ) (words : ℕ → List ℕ) (r : A
     act_match instruction.GetByte named = got_match named s.input
     act_match instruction.Exit named =
         match_bind first words (word_at s (operand.Temporary 0)) (word_at t (operand.Temporary 0)) (λ v. ended (v % 2 ^ 8) s.input s.trace) (λ v. ended (v % 2 ^ 8) s.input s.trace) (result_below named) (λ v. refl)
-    act_match instruction.Return named = returned_match s.waiting ds named agree.waiting
+    act_match instruction.Return named = returned_match (result_of p s) (result_of q t) (result_is named) s.waiting ds agree.waiting

@@ -10,7 +10,7 @@ use Rattle.frames_code.specs.Run.{Value, Values, Frame, State, Progress, running
 use Rattle.frames_opt.specs.Simplified.{DoesTheSame, IsDefined, IsAtCall}
 use Rattle.frames_leaf.specs.layer.Moving.{moved}
 use Rattle.frames_leaf.proofs.Agreeing.{AreAlike, rest_of, under, over, Agree, Match}
-use Rattle.frames_leaf.proofs.Acting.{act_match}
+use Rattle.frames_leaf.proofs.Acting.{act_match, result_is}
 
 functions_under : (fs : List Frame) (ds : List Values) → map (λ (f : Frame). f.function) (under fs ds) ≡ map (λ (f : Frame). f.function) fs
 functions_under [] ds = refl
@@ -228,7 +228,7 @@ module _ (p q : Program) (first : ℕ → ℕ) (words : ℕ → List ℕ) (r : A
           (same, λ j v h. agree.temporaries j (inl (r.each s.frame.function s.frame.at (instruction.Call g) same)) ∙ h);
       returns = λ e.
           let same = met instruction.Return (λ x h. return_stays at list x h) (next_of p s) refl e in
-          (same, λ v h. agree.temporaries 0 (r.each s.frame.function s.frame.at instruction.Return same) ∙ h);
+          (same, λ v h. result_is p q first words r s u d ds agree (r.each s.frame.function s.frame.at instruction.Return same) ∙ h);
     }
 
   -- ---- from the beginning

@@ -201,7 +201,7 @@ words_of (f ∷ fs) (g ∷ gs) each zero = words_in f g each.0
 words_of (f ∷ fs) (g ∷ gs) each (suc k) = words_of fs gs each.1 k
 
 abbrev no_function : Function
-no_function = record { code = []; cells = 0; resident = 0; area = 0; outgoing = 0 }
+no_function = record { code = []; cells = 0; resident = 0; area = 0; outgoing = 0; gives = false }
 
 -- both have a function of this number, or neither has
 abbrev ArePair : ℕ → List ℕ → Option Function → Option Function → Type 0

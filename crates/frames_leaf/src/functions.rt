@@ -49,6 +49,7 @@ fn with_words(alloc: Global, function: Function, words: &Words) -> Result<Functi
         resident: function.resident,
         area: function.area,
         outgoing: function.outgoing,
+        gives: function.gives,
     })
 }
 

@@ -60,6 +60,10 @@ name_in p s = name_of p s.frame s.waiting
 abbrev pub home_in : Program → State → ℕ
 home_in p s = area_home (function_at p s.frame.function)
 
+-- whether the function has a result
+abbrev pub gives_in : Program → State → Bool
+gives_in p s = (function_at p s.frame.function).gives
+
 -- ---- both sides of a step
 
 pub bind_same : {A : Type 0} (o : Option A) (f g : A → Progress) → ((x : A) → f x ≡ g x) → (o >>= f) ≡ (o >>= g)

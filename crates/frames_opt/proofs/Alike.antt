@@ -23,7 +23,7 @@ use Rattle.frames_opt.proofs.Acts.{base_at, name_in, home_in, not_true}
 -- ---- the same functions but for their code
 
 abbrev pub with_code : Function → List Instruction → Function
-with_code f code = record { code = code; cells = f.cells; resident = f.resident; area = f.area; outgoing = f.outgoing }
+with_code f code = record { code = code; cells = f.cells; resident = f.resident; area = f.area; outgoing = f.outgoing; gives = f.gives }
 
 pub record Sized (p q : Program) : Type 0 where
   pub at : (k : ℕ) → function_at q k ≡ with_code (function_at p k) (function_at q k).code
@@ -45,6 +45,9 @@ module _ (p q : Program) (r : Sized p q) where
 
   home_at : (k : ℕ) → area_home (function_at q k) ≡ area_home (function_at p k)
   home_at k = ap area_home (r.at k)
+
+  pub gives_at : (k : ℕ) → (function_at q k).gives ≡ (function_at p k).gives
+  gives_at k = ap (λ (f : Function). f.gives) (r.at k)
 
   arrays_at : (k : ℕ) (b : Bytes) → arrays (function_at q k) b ≡ arrays (function_at p k) b
   arrays_at k b = ap (λ f. arrays f b) (r.at k)
@@ -155,10 +158,10 @@ pub record Agree (name home : ℕ) (status : ℕ → Status) (s : State) (u a : 
   pub temporaries : (k : ℕ) → Beside name home (status k) (s.temporaries k) (u k)
   pub arguments : (k : ℕ) (v : Value) → s.arguments k ≡ Some v → a k ≡ Some v
 
--- a temporary that the next instruction reads is the same
-pub same_where_read : (name home : ℕ) (y : Instruction) (here : ℕ → Status) (s : State) (u a : Values) → ((k : ℕ) → reads (here k) k y ≡ true → is_same (here k) ≡ true) → Agree name home here s u a
-    → (k : ℕ) → reads (here k) k y ≡ true → u k ≡ s.temporaries k
-same_where_read name home y here s u a same agree k e = same_if name home (here k) (s.temporaries k) (u k) (same k e) (agree.temporaries k)
+-- a temporary that the next instruction reads, in a function that has a result or not, is the same
+pub same_where_read : (has : Bool) (name home : ℕ) (y : Instruction) (here : ℕ → Status) (s : State) (u a : Values) → ((k : ℕ) → reads has (here k) k y ≡ true → is_same (here k) ≡ true) → Agree name home here s u a
+    → (k : ℕ) → reads has (here k) k y ≡ true → u k ≡ s.temporaries k
+same_where_read has name home y here s u a same agree k e = same_if name home (here k) (s.temporaries k) (u k) (same k e) (agree.temporaries k)
 
 -- the second has gone on from the first, where it goes on
 pub record Goes (p : Program) (status : ℕ → Status) (s : State) (z : Progress) : Type 0 where

@@ -1,11 +1,12 @@
 -- A program that was made simpler calls and returns only where the program does, with the same in its temporaries.
-use Rattle.std.proofs.Common.{◌≡◌, ⊎_elim, ℕ, zero, suc, List, [], ◌∷◌, length, Option, Some, None, true, refl, sym, ap, ◌∙◌, subst, arith}
-use Rattle.std.specs.Prelude.{slice_get}
+use Rattle.std.proofs.Common.{◌≡◌, ⊎_elim, ℕ, zero, suc, List, [], ◌∷◌, length, Option, Some, None, Bool, true, refl, sym, ap, ◌∙◌, subst, arith}
+use Rattle.std.specs.Prelude.{◌==◌, ◌&&◌, slice_get}
 use Rattle.frames_code.specs.declared.code.Instruction.{Instruction}
 use Rattle.frames_code.specs.declared.code.Instruction.TheVariants as instruction
 use Rattle.frames_code.specs.Code.{Program}
 use Rattle.frames_code.specs.Costs.{next_of}
-use Rattle.frames_code.specs.Run.{Value, Values, State, running, run, start, function_at}
+use Rattle.frames_code.specs.Run.{Values, State, running, run, start, result_of, function_at}
+use Rattle.frames_code.proofs.Results.{result_same}
 use Rattle.frames_opt.specs.declared.facts.Known.{Known}
 use Rattle.frames_opt.specs.Simplified.{IsAtCall}
 use Rattle.frames_opt.specs.inside.Facts.{known_of, room_of}
@@ -14,9 +15,9 @@ use Rattle.frames_opt.specs.declared.statuses.Status.{Status}
 use Rattle.frames_opt.specs.declared.rows.Row.{Row}
 use Rattle.frames_opt.specs.inside.Liveness.{reads}
 use Rattle.frames_opt.specs.inside.Sweep.{placed}
-use Rattle.frames_opt.proofs.Acts.{name_in, home_in}
+use Rattle.frames_opt.proofs.Acts.{name_in, home_in, gives_in}
 use Rattle.frames_opt.proofs.Steps.{now_in}
-use Rattle.frames_opt.proofs.Alike.{same_some, over, Agree, same_where_read}
+use Rattle.frames_opt.proofs.Alike.{same_some, gives_at, over, Agree, same_where_read}
 use Rattle.frames_opt.proofs.Positions.{carried_form, compute_form, element_form}
 use Rattle.frames_opt.proofs.Runs.{Position, IsSimpler, reached}
 
@@ -78,8 +79,8 @@ placed_stays states i instruction.Exit h = absurd h
 placed_stays states i instruction.Return h = refl
 
 -- the second has what the first has in the temporaries that it reads
-abbrev HasWhatIsRead : (ℕ → Status) → Instruction → State → State → Type 0
-HasWhatIsRead here y s t = (k : ℕ) → reads (here k) k y ≡ true → (v : Value) → s.temporaries k ≡ Some v → t.temporaries k ≡ Some v
+abbrev HasWhatIsRead : Bool → (ℕ → Status) → Instruction → State → State → Type 0
+HasWhatIsRead has here y s t = (k : ℕ) → reads has (here k) k y ≡ true → t.temporaries k ≡ s.temporaries k
 
 none_too : (xs ys : List Instruction) (i : ℕ) → length ys ≡ length xs → slice_get xs i ≡ None → slice_get ys i ≡ None
 none_too xs [] i count e = refl
@@ -110,28 +111,32 @@ module _ (p q : Program) (kn : ℕ → ℕ → List Known) (states : ℕ → Lis
     whole : Leaves c.done → c.done ≡ x
     whole leaves = half_is leaves ∙ first_is (subst Leaves (half_is leaves) leaves)
 
-    values : Leaves c.done → HasWhatIsRead (now_in p states s) c.half s (over u a s)
+    values : Leaves c.done → HasWhatIsRead (gives_in p s) (now_in p states s) c.half s (over u a s)
     values leaves =
-        ⊎_elim (λ e j read v g. same_where_read (name_in p s) (home_in p s) c.half (now_in p states s) s u a e.same agree j read ∙ g) (λ d. absurd (subst Leaves d.is leaves)) c.out
+        ⊎_elim (λ e j read. same_where_read (gives_in p s) (name_in p s) (home_in p s) c.half (now_in p states s) s u a e.same agree j read) (λ d. absurd (subst Leaves d.is leaves)) c.out
 
     -- the next instruction of the second is y
-    met : (y : Instruction) → Leaves y → next_of q (over u a s) ≡ Some y → (next_of p s ≡ Some y) × HasWhatIsRead (now_in p states s) y s (over u a s)
+    met : (y : Instruction) → Leaves y → next_of q (over u a s) ≡ Some y → (next_of p s ≡ Some y) × HasWhatIsRead (gives_in p s) (now_in p states s) y s (over u a s)
     met y leaves e =
         let same : c.done ≡ y = same_some c.done y (sym c.done_is ∙ e) in
         let here : Leaves c.done = subst Leaves (sym same) leaves in
-        (is ∙ ap Some (sym (whole here) ∙ same), subst (λ z. HasWhatIsRead (now_in p states s) z s (over u a s)) (sym (half_is here) ∙ same) (values here))
+        (is ∙ ap Some (sym (whole here) ∙ same), subst (λ z. HasWhatIsRead (gives_in p s) (now_in p states s) z s (over u a s)) (sym (half_is here) ∙ same) (values here))
 
-  on : (o : Option Instruction) → slice_get (function_at p k).code i ≡ o → (y : Instruction) → Leaves y → next_of q (over u a s) ≡ Some y → (next_of p s ≡ Some y) × HasWhatIsRead (now_in p states s) y s (over u a s)
+  on : (o : Option Instruction) → slice_get (function_at p k).code i ≡ o → (y : Instruction) → Leaves y → next_of q (over u a s) ≡ Some y → (next_of p s ≡ Some y) × HasWhatIsRead (gives_in p s) (now_in p states s) y s (over u a s)
   on None e y leaves h =
       let none : slice_get (function_at q k).code i ≡ None = none_too (function_at p k).code (function_at q k).code i (simple.count k) e in
       let no : None ≡ Some y = sym none ∙ h in
       absurd (let z : ⊥ = cc in z)
   on (Some x) e y leaves h = met x e y leaves h
 
+  -- so it has the same result
+  result_too : HasWhatIsRead (gives_in p s) (now_in p states s) instruction.Return s (over u a s) → result_of q (over u a s) ≡ result_of p s
+  result_too read = result_same (gives_in p s) (gives_in q s) (s.temporaries 0) (u 0) (gives_at p q simple.sized k) (λ has. read 0 (ap (λ b. b && (0 == 0)) has))
+
   pub at_call : IsAtCall p q s (over u a s)
   at_call = record {
-    calls = λ g e. let r = on (slice_get (function_at p k).code i) refl (instruction.Call g) tt e in (r.0, λ j. r.1 j refl);
-    returns = λ e. let r = on (slice_get (function_at p k).code i) refl instruction.Return tt e in (r.0, r.1 0 refl);
+    calls = λ g e. let r = on (slice_get (function_at p k).code i) refl (instruction.Call g) tt e in (r.0, λ j v h. r.1 j refl ∙ h);
+    returns = λ e. let r = on (slice_get (function_at p k).code i) refl instruction.Return tt e in (r.0, λ v h. result_too r.1 ∙ h);
   }
 
 same_running : (s t : State) → running s ≡ running t → s ≡ t

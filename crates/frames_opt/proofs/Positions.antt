@@ -341,26 +341,30 @@ module _ (m k : ℕ) (d : is_dead m k ≡ true) where
   neither a b true d f g e = absurd (not_true (sym e))
   neither a b false d f g e = ap (λ t. t || b) (f refl) ∙ g e
 
-  unread : (x : Instruction) → reads_dead m x ≡ false → reads status.Dead k x ≡ false
-  unread instruction.Nothing e = refl
-  unread (instruction.Move d x) e = unnamed x e
-  unread (instruction.Compute o d x y) e = neither (names k x) (names k y) (names_dead m x) (names_dead m y) (unnamed x) (unnamed y) e
-  unread (instruction.Convert c d x) e = unnamed x e
-  unread (instruction.Load w d l) e = not_through l e
-  unread (instruction.Store w x l) e = neither (names k x) (is_through k l) (names_dead m x) (through_dead m l) (unnamed x) (not_through l) e
-  unread (instruction.Address d l) e = not_through l e
-  unread (instruction.Element d x y size) e = neither (names k x) (names k y) (names_dead m x) (names_dead m y) (unnamed x) (unnamed y) e
-  unread (instruction.Jump to) e = refl
-  unread (instruction.Branch t x y to) e = neither (names k x) (names k y) (names_dead m x) (names_dead m y) (unnamed x) (unnamed y) e
-  unread (instruction.Call f) e = absurd (not_true (sym e))
-  unread instruction.PutByte e = absurd (not_true (sym e))
-  unread instruction.GetByte e = absurd (not_true (sym e))
-  unread instruction.Exit e = absurd (not_true (sym e))
-  unread instruction.Return e = on (k == 0) refl
+  unread : (gives : Bool) (x : Instruction) → reads_dead gives m x ≡ false → reads gives status.Dead k x ≡ false
+  unread gives instruction.Nothing e = refl
+  unread gives (instruction.Move d x) e = unnamed x e
+  unread gives (instruction.Compute o d x y) e = neither (names k x) (names k y) (names_dead m x) (names_dead m y) (unnamed x) (unnamed y) e
+  unread gives (instruction.Convert c d x) e = unnamed x e
+  unread gives (instruction.Load w d l) e = not_through l e
+  unread gives (instruction.Store w x l) e = neither (names k x) (is_through k l) (names_dead m x) (through_dead m l) (unnamed x) (not_through l) e
+  unread gives (instruction.Address d l) e = not_through l e
+  unread gives (instruction.Element d x y size) e = neither (names k x) (names k y) (names_dead m x) (names_dead m y) (unnamed x) (unnamed y) e
+  unread gives (instruction.Jump to) e = refl
+  unread gives (instruction.Branch t x y to) e = neither (names k x) (names k y) (names_dead m x) (names_dead m y) (unnamed x) (unnamed y) e
+  unread gives (instruction.Call f) e = absurd (not_true (sym e))
+  unread gives instruction.PutByte e = absurd (not_true (sym e))
+  unread gives instruction.GetByte e = absurd (not_true (sym e))
+  unread gives instruction.Exit e = absurd (not_true (sym e))
+  unread gives instruction.Return e = at_return gives e
     where
-      on : (t : Bool) → (k == 0) ≡ t → t ≡ false
-      on true g = absurd (not_true (sym e ∙ (ap (is_dead m) (sym (eqb-true k 0 g)) ∙ d)))
-      on false g = refl
+      not_zero : (t : Bool) → is_dead m 0 ≡ false → (k == 0) ≡ t → t ≡ false
+      not_zero true h g = absurd (not_true (sym h ∙ (ap (is_dead m) (sym (eqb-true k 0 g)) ∙ d)))
+      not_zero false h g = refl
+
+      at_return : (b : Bool) → (b && is_dead m 0) ≡ false → (b && (k == 0)) ≡ false
+      at_return true h = not_zero (k == 0) h refl
+      at_return false h = refl
 
 -- ---- a temporary that holds an index at none of the instructions here
 
@@ -429,12 +433,12 @@ module _ (room : Room) (states : List Row) (i : ℕ) (o : Known) (x : Instructio
       dead_on instruction.Exit j w e = refl
       dead_on instruction.Return j w e = refl
 
-    module _ (e : dead_right states i x ≡ true) where
+    module _ (e : dead_right room.gives states i x ≡ true) where
       -- the masks are right where it is dead
-      masks : bit i ≡ true → masks_right states i x (mask_at states i) ≡ true
+      masks : bit i ≡ true → masks_right room.gives states i x (mask_at states i) ≡ true
       masks d = on (mask_at states i == 0) refl e
         where
-          on : (t : Bool) → (mask_at states i == 0) ≡ t → (t || masks_right states i x (mask_at states i)) ≡ true → masks_right states i x (mask_at states i) ≡ true
+          on : (t : Bool) → (mask_at states i == 0) ≡ t → (t || masks_right room.gives states i x (mask_at states i)) ≡ true → masks_right room.gives states i x (mask_at states i) ≡ true
           on true g h = absurd (not_true (sym (ap (λ m. is_dead m k) (eqb-true (mask_at states i) 0 g) ∙ zero_dead k) ∙ d))
           on false g h = h
 
@@ -442,7 +446,7 @@ module _ (room : Room) (states : List Row) (i : ℕ) (o : Known) (x : Instructio
       module _ (l : is_left_out states i x ≡ true) where
         left_within : bit i ≡ true → is_within (mask_at states i) (mask_at states (i + 1)) (written x) ≡ true
         left_within d =
-            ap (λ t. if t then is_within (mask_at states i) (mask_at states (i + 1)) (written x) else not (reads_dead (mask_at states i) x) && dead_leads states i x (mask_at states i)) (sym l) ∙ masks d
+            ap (λ t. if t then is_within (mask_at states i) (mask_at states (i + 1)) (written x) else not (reads_dead room.gives (mask_at states i) x) && dead_leads states i x (mask_at states i)) (sym l) ∙ masks d
 
         left_written : is_written k x ≡ true → is_given_up (status_at states (i + 1) k) (status_at states i k) o (leads_on room k (status_at states i k) x) ≡ true
         left_written w = ap (λ s. is_given_up s (status_at states i k) o (leads_on room k (status_at states i k) x)) (next ∙ ap plain (dead_next (bit (i + 1)) refl))
@@ -471,12 +475,12 @@ module _ (room : Room) (states : List Row) (i : ℕ) (o : Known) (x : Instructio
 
       -- where it stays
       module _ (l : is_left_out states i x ≡ false) where
-        stay_masks : bit i ≡ true → (not (reads_dead (mask_at states i) x) && dead_leads states i x (mask_at states i)) ≡ true
+        stay_masks : bit i ≡ true → (not (reads_dead room.gives (mask_at states i) x) && dead_leads states i x (mask_at states i)) ≡ true
         stay_masks d =
-            ap (λ t. if t then is_within (mask_at states i) (mask_at states (i + 1)) (written x) else not (reads_dead (mask_at states i) x) && dead_leads states i x (mask_at states i)) (sym l) ∙ masks d
+            ap (λ t. if t then is_within (mask_at states i) (mask_at states (i + 1)) (written x) else not (reads_dead room.gives (mask_at states i) x) && dead_leads states i x (mask_at states i)) (sym l) ∙ masks d
 
-        none_read : bit i ≡ true → reads_dead (mask_at states i) x ≡ false
-        none_read d = on (reads_dead (mask_at states i) x) (left_true (not (reads_dead (mask_at states i) x)) (dead_leads states i x (mask_at states i)) (stay_masks d))
+        none_read : bit i ≡ true → reads_dead room.gives (mask_at states i) x ≡ false
+        none_read d = on (reads_dead room.gives (mask_at states i) x) (left_true (not (reads_dead room.gives (mask_at states i) x)) (dead_leads states i x (mask_at states i)) (stay_masks d))
           where
             on : (t : Bool) → not t ≡ true → t ≡ false
             on true g = absurd (not_true g)
@@ -487,16 +491,16 @@ module _ (room : Room) (states : List Row) (i : ℕ) (o : Known) (x : Instructio
           where
             on : (t : Bool) → is_written k x ≡ t → leads states i x k (if t then status.Same else status.Dead) ≡ true
             on true w = leads_plain
-            on false w = dead_on d x jump w (right_true (not (reads_dead (mask_at states i) x)) (dead_leads states i x (mask_at states i)) (stay_masks d))
+            on false w = dead_on d x jump w (right_true (not (reads_dead room.gives (mask_at states i) x)) (dead_leads states i x (mask_at states i)) (stay_masks d))
 
-        plain_stays : stays_right states i x k (status_at states i k) ≡ true
+        plain_stays : stays_right room.gives states i x k (status_at states i k) ≡ true
         plain_stays = on (bit i) refl
           where
-            on : (t : Bool) → bit i ≡ t → stays_right states i x k (status_at states i k) ≡ true
+            on : (t : Bool) → bit i ≡ t → stays_right room.gives states i x k (status_at states i k) ≡ true
             on true d =
-                ap (stays_right states i x k) (here ∙ ap plain d)
-                ∙ both_true (not (reads status.Dead k x)) (leads states i x k (behind_it k x status.Dead)) (ap not (unread (mask_at states i) k d x (none_read d))) (dead_behind d)
-            on false d = ap (stays_right states i x k) (here ∙ ap plain d) ∙ (ap (leads states i x k) (behind_same k x) ∙ leads_plain)
+                ap (stays_right room.gives states i x k) (here ∙ ap plain d)
+                ∙ both_true (not (reads room.gives status.Dead k x)) (leads states i x k (behind_it k x status.Dead)) (ap not (unread (mask_at states i) k d room.gives x (none_read d))) (dead_behind d)
+            on false d = ap (stays_right room.gives states i x k) (here ∙ ap plain d) ∙ (ap (leads states i x k) (behind_same k x) ∙ leads_plain)
 
       plain_fits : fits room k (status_at states i k) ≡ true
       plain_fits = ap (fits room k) here ∙ on (bit i)
@@ -508,7 +512,7 @@ module _ (room : Room) (states : List Row) (i : ℕ) (o : Known) (x : Instructio
       plain_right : is_right room states i o x k ≡ true
       plain_right = both_true (fits room k (status_at states i k)) _ plain_fits (on (is_left_out states i x) refl)
         where
-          on : (t : Bool) → is_left_out states i x ≡ t → (if t then drop_right room states i o x k else stays_right states i x k (status_at states i k)) ≡ true
+          on : (t : Bool) → is_left_out states i x ≡ t → (if t then drop_right room states i o x k else stays_right room.gives states i x k (status_at states i k)) ≡ true
           on true l = plain_drop l
           on false l = plain_stays l
 
@@ -552,9 +556,9 @@ module _ (room : Room) (states : List Row) (i : ℕ) (o : Known) (x : Instructio
 
     each_right : all_right room states i o x ≡ true → Right
     each_right h =
-        let rows = right_true (dead_right states i x) _ h in
+        let rows = right_true (dead_right room.gives states i x) _ h in
         let later = right_true (row_right room states i o x i) _ rows in
-        ⊎_elim (λ r. r) (λ here. ⊎_elim (λ r. r) (λ next. ⊎_elim (λ r. r) (λ jump. plain_right here next jump (left_true (dead_right states i x) _ h))
+        ⊎_elim (λ r. r) (λ here. ⊎_elim (λ r. r) (λ next. ⊎_elim (λ r. r) (λ jump. plain_right here next jump (left_true (dead_right room.gives states i x) _ h))
         (jump_or (jump_of x) (right_true (row_right room states i o x (i + 1)) _ later)))
         (at_or (i + 1) (left_true (row_right room states i o x (i + 1)) _ later)))
         (at_or i (left_true (row_right room states i o x i) _ rows))
@@ -577,37 +581,37 @@ module _ (room : Room) (states : List Row) (i : ℕ) (o : Known) (y : Instructio
       on true e = left_true (fits room k (z k)) _ (right_at k e)
       on false e = ap (fits room k) (far states k e i)
 
-  rest : (k : ℕ) → nat_lt k 8 ≡ true → (if is_left_out states i y then drop_right room states i o y k else stays_right states i y k (z k)) ≡ true
+  rest : (k : ℕ) → nat_lt k 8 ≡ true → (if is_left_out states i y then drop_right room states i o y k else stays_right room.gives states i y k (z k)) ≡ true
   rest k e = right_true (fits room k (z k)) _ (right_at k e)
 
   -- ---- where it stays
 
   module _ (l : is_left_out states i y ≡ false) where
-    stay : (k : ℕ) → nat_lt k 8 ≡ true → stays_right states i y k (z k) ≡ true
-    stay k e = ap (λ t. if t then drop_right room states i o y k else stays_right states i y k (z k)) (sym l) ∙ rest k e
+    stay : (k : ℕ) → nat_lt k 8 ≡ true → stays_right room.gives states i y k (z k) ≡ true
+    stay k e = ap (λ t. if t then drop_right room states i o y k else stays_right room.gives states i y k (z k)) (sym l) ∙ rest k e
 
-    same : (k : ℕ) → reads (z k) k y ≡ true → is_same (z k) ≡ true
+    same : (k : ℕ) → reads room.gives (z k) k y ≡ true → is_same (z k) ≡ true
     same k read = on (nat_lt k 8) refl
       where
         on : (t : Bool) → nat_lt k 8 ≡ t → is_same (z k) ≡ true
-        on true e = or_not (is_same (z k)) (reads (z k) k y) (left_true (is_same (z k) || not (reads (z k) k y)) _ (stay k e)) read
+        on true e = or_not (is_same (z k)) (reads room.gives (z k) k y) (left_true (is_same (z k) || not (reads room.gives (z k) k y)) _ (stay k e)) read
         on false e = ap is_same (far states k e i)
 
     right : (k : ℕ) → leads states i y k (behind_it k y (z k)) ≡ true
     right k = on (nat_lt k 8) refl
       where
         on : (t : Bool) → nat_lt k 8 ≡ t → leads states i y k (behind_it k y (z k)) ≡ true
-        on true e = right_true (is_same (z k) || not (reads (z k) k y)) _ (stay k e)
+        on true e = right_true (is_same (z k) || not (reads room.gives (z k) k y)) _ (stay k e)
         on false e = stays_same states k (far states k e) i y
 
-    kept : Kept states i y (placed states i y)
+    kept : Kept room.gives states i y (placed states i y)
     kept = record { is = refl; same = same; right = right }
 
   -- ---- where it is left out
 
   module _ (l : is_left_out states i y ≡ true) where
     drop : (k : ℕ) → nat_lt k 8 ≡ true → drop_right room states i o y k ≡ true
-    drop k e = ap (λ t. if t then drop_right room states i o y k else stays_right states i y k (z k)) (sym l) ∙ rest k e
+    drop k e = ap (λ t. if t then drop_right room states i o y k else stays_right room.gives states i y k (z k)) (sym l) ∙ rest k e
 
     stays : (k : ℕ) → is_written k y ≡ false → accepts (next k) (z k) ≡ true
     stays k w = on (nat_lt k 8) refl
@@ -632,10 +636,10 @@ module _ (room : Room) (states : List Row) (i : ℕ) (o : Known) (y : Instructio
         on None w = absurd (not_true (sym (ap (is_lost states i) w) ∙ l))
         on (Some j) w = record { is = refl; number = j; writes = w; stays = stays; given_up = given_up j w }
 
-  out : Kept states i y (swept_one states i y) ⊎ LeftOut room o states i y (swept_one states i y)
+  out : Kept room.gives states i y (swept_one states i y) ⊎ LeftOut room o states i y (swept_one states i y)
   out = on (is_left_out states i y) refl
     where
-      on : (t : Bool) → is_left_out states i y ≡ t → Kept states i y (if t then instruction.Nothing else placed states i y) ⊎ LeftOut room o states i y (if t then instruction.Nothing else placed states i y)
+      on : (t : Bool) → is_left_out states i y ≡ t → Kept room.gives states i y (if t then instruction.Nothing else placed states i y) ⊎ LeftOut room o states i y (if t then instruction.Nothing else placed states i y)
       on true l = inr (left_out l)
       on false l = inl (kept l)
 
@@ -656,14 +660,14 @@ placed_cost states i instruction.GetByte = refl
 placed_cost states i instruction.Exit = refl
 placed_cost states i instruction.Return = refl
 
-swept_cost : (room : Room) (o : Known) (states : List Row) (i : ℕ) (y z : Instruction) → Kept states i y z ⊎ LeftOut room o states i y z → cost z ≤ cost y
+swept_cost : (room : Room) (o : Known) (states : List Row) (i : ℕ) (y z : Instruction) → Kept room.gives states i y z ⊎ LeftOut room o states i y z → cost z ≤ cost y
 swept_cost room o states i y z (inl k) = let same : cost z ≡ cost y = ap cost k.is ∙ placed_cost states i y in omega (arith, same)
 swept_cost room o states i y z (inr d) = let none : cost z ≡ 0 = ap cost d.is in omega (arith, none)
 
 -- where a call continues all may be the same
-calm_after : (room : Room) (o : Known) (states : List Row) (i : ℕ) (y w : Instruction) → Kept states i y w ⊎ LeftOut room o states i y w → (f : ℕ) → y ≡ instruction.Call f → Calm states (i + 1)
+calm_after : (room : Room) (o : Known) (states : List Row) (i : ℕ) (y w : Instruction) → Kept room.gives states i y w ⊎ LeftOut room o states i y w → (f : ℕ) → y ≡ instruction.Call f → Calm states (i + 1)
 calm_after room o states i y w (inl k) f e =
-    let call : Kept states i (instruction.Call f) w = subst (λ x. Kept states i x w) e k in
+    let call : Kept room.gives states i (instruction.Call f) w = subst (λ x. Kept room.gives states i x w) e k in
     λ j. ap (accepts (status_at states (i + 1) j)) (sym (same_is (status_at states i j) (call.same j refl))) ∙ call.right j
 calm_after room o states i y w (inr d) f e = let no : None ≡ Some d.number = sym (ap written e) ∙ d.writes in absurd (let x : ⊥ = cc in x)
 
@@ -708,7 +712,7 @@ module _ (room : Room) (marks : List Bool) (code : List Instruction) (are : AreM
       let second : slice_get (swept states 0 middle_of) i ≡ Some z = swept_at states 0 middle_of i i y held (omega arith) in
       let each : all_right room states i (get_or (offers room marks 0 nothing code) i known.Unknown) y ≡ true = all_right_at states room (offers room marks 0 nothing code) 0 middle_of i i y right held (omega arith) in
       let all : all_right room states i o y ≡ true = ap (λ d. all_right room states i d y) (sym (offers_at room marks 0 nothing code i x e)) ∙ each in
-      let done : Kept states i y z ⊎ LeftOut room o states i y z = out room states i o y all in
+      let done : Kept room.gives states i y z ⊎ LeftOut room o states i y z = out room states i o y all in
       let next : (known_at (i + 1) ≡ nothing) ⊎ (known_at (i + 1) ≡ behind room (known_at i) y) =
       subst (λ j. (known_at j ≡ nothing) ⊎ (known_at j ≡ behind room (known_at i) y)) one (next_known room marks 0 nothing code i x e) in
       record {
@@ -738,8 +742,8 @@ not_lost i (Some j) = ap (λ z. not (is_same z)) (none_status j (i + 1))
 none_mask : (i : ℕ) → mask_at [] i ≡ 0
 none_mask i = ap (λ t. if t then (get_or [] i blank).dead else 0) (none_inside i)
 
-none_dead_right : (i : ℕ) (x : Instruction) → dead_right [] i x ≡ true
-none_dead_right i x = ap (λ m. (m == 0) || masks_right [] i x m) (none_mask i)
+none_dead_right : (gives : Bool) (i : ℕ) (x : Instruction) → dead_right gives [] i x ≡ true
+none_dead_right gives i x = ap (λ m. (m == 0) || masks_right gives [] i x m) (none_mask i)
 
 none_row_right : (room : Room) (i : ℕ) (o : Known) (x : Instruction) (n : ℕ) → row_right room [] i o x n ≡ true
 none_row_right room i o x n = ap (λ t. if t then held_right room [] i o x (get_or [] n blank).first && held_right room [] i o x (get_or [] n blank).second else true) (none_inside n)
@@ -750,7 +754,7 @@ none_jump_right room i o x (Some to) = none_row_right room i o x to
 
 none_all_right : (room : Room) (i : ℕ) (o : Known) (x : Instruction) → all_right room [] i o x ≡ true
 none_all_right room i o x =
-    both_true (dead_right [] i x) _ (none_dead_right i x)
+    both_true (dead_right room.gives [] i x) _ (none_dead_right room.gives i x)
     (both_true (row_right room [] i o x i) _ (none_row_right room i o x i)
     (both_true (row_right room [] i o x (i + 1)) _ (none_row_right room i o x (i + 1)) (none_jump_right room i o x (jump_of x))))
 

@@ -1,5 +1,5 @@
 -- A program that was made simpler runs as the program does, at no more cost.
-use Rattle.std.proofs.Common.{◌≡◌, ◌≤◌, ◌⊎◌, ⊎_elim, ℕ, zero, suc, ◌+◌, List, [], length, Option, Some, None, true, false, refl, sym, ap, ◌∙◌, subst, arith}
+use Rattle.std.proofs.Common.{◌≡◌, ◌≤◌, ◌⊎◌, ⊎_elim, ℕ, zero, suc, ◌+◌, List, [], length, Option, Some, None, Bool, true, false, refl, sym, ap, ◌∙◌, subst, arith}
 use Rattle.std.specs.Prelude.{slice_get}
 use Rattle.frames_code.specs.declared.code.Instruction.{Instruction}
 use Rattle.frames_code.specs.declared.code.Instruction.TheVariants as instruction
@@ -20,10 +20,11 @@ use Rattle.frames_opt.proofs.Stands.{Sat, Flow, Stands, act_stands, nothing_hold
 use Rattle.frames_opt.proofs.Alike.{Sized, over, Agree, Match}
 use Rattle.frames_opt.proofs.Steps.{Calm, now_in, calm_in, act_alike, left_out_alike}
 
--- it stays, with an index in place of a reference: it reads only what is the same, and each temporary may be what it is behind it
-pub record Kept (states : List Row) (i : ℕ) (half done : Instruction) : Type 0 where
+-- it stays, with an index in place of a reference: it reads only what is the same, and each temporary may be what it is behind it; in a function that has a
+-- result or not
+pub record Kept (gives : Bool) (states : List Row) (i : ℕ) (half done : Instruction) : Type 0 where
   pub is : done ≡ placed states i half
-  pub same : (k : ℕ) → reads (status_at states i k) k half ≡ true → is_same (status_at states i k) ≡ true
+  pub same : (k : ℕ) → reads gives (status_at states i k) k half ≡ true → is_same (status_at states i k) ≡ true
   pub right : (k : ℕ) → leads states i half k (behind_it k half (status_at states i k)) ≡ true
 
 -- it is left out: what it writes is given up
@@ -41,7 +42,7 @@ pub record Position (room : Room) (kn : ℕ → List Known) (states : List Row) 
   pub done_is : slice_get new i ≡ Some done
   pub by : (half ≡ x) ⊎ (half ≡ simpler room.area (kn i) x)
   pub flow : Flow room kn (Calm states) i half
-  pub out : Kept states i half done ⊎ LeftOut room (offer room (kn i) half) states i half done
+  pub out : Kept room.gives states i half done ⊎ LeftOut room (offer room (kn i) half) states i half done
   pub cheap : cost done ≤ cost x
 
 pub record IsSimpler (p q : Program) (kn : ℕ → ℕ → List Known) (states : ℕ → List Row) : Type 0 where

@@ -19,7 +19,7 @@ use Rattle.frames_code.specs.declared.code.Operation.TheVariants as operation
 use Rattle.frames_code.specs.declared.code.Instruction.{Instruction}
 use Rattle.frames_code.specs.declared.code.Instruction.TheVariants as instruction
 use Rattle.frames_code.specs.Code.{Program, frame_bytes}
-use Rattle.frames_code.specs.Run.{Value, Values, Bytes, Frame, State, Reference, Progress, running, ended, stuck, word, reference, value, word_at, word_in, reference_in, indexed, set as set_target, with_at, next, past, goes_to, place, memory, with_memory, with_element, element_in, fits, gives, gives_word, operate, converted, loaded, stored, put, got, returned, act, function_at, name_of, changed_among, with_frames, ◌>>=◌}
+use Rattle.frames_code.specs.Run.{Value, Values, Bytes, Frame, State, Reference, Progress, running, ended, stuck, word, reference, value, word_at, word_in, reference_in, indexed, set as set_target, with_at, next, past, goes_to, place, memory, with_memory, with_element, element_in, fits, gives, gives_word, operate, converted, loaded, stored, put, got, returned, result_of, act, function_at, name_of, changed_among, with_frames, ◌>>=◌}
 use Rattle.frames_opt.specs.declared.room.Room.{Room}
 use Rattle.frames_opt.specs.declared.facts.Known.{Known}
 use Rattle.frames_opt.specs.declared.facts.Known.TheVariants as known
@@ -330,9 +330,9 @@ module _ (p : Program) (kn : ℕ → ℕ → List Known) (calm : ℕ → ℕ →
     address_knows (location.At x) r e = tt
     address_knows (location.Indexed b y size) r e = tt
 
-    returned_stands : (ws : List Frame) → Waits kn calm ws → Sat (Stands p kn calm) (returned s ws)
-    returned_stands [] w = sat_bind (Stands p kn calm) (word_at s (operand.Temporary 0)) (λ v. ended (v % 2 ^ 8) s.input s.trace) (λ v e. tt)
-    returned_stands (f ∷ fs) w = (empty_holds _ _ (kn f.function f.at) _ _ w.0, w.2)
+    returned_stands : (result : Option Value) (ws : List Frame) → Waits kn calm ws → Sat (Stands p kn calm) (returned s result ws)
+    returned_stands result [] w = sat_bind (Stands p kn calm) (word_in result) (λ v. ended (v % 2 ^ 8) s.input s.trace) (λ v e. tt)
+    returned_stands result (f ∷ fs) w = (empty_holds _ _ (kn f.function f.at) _ _ w.0, w.2)
 
     got_stands : here (s.frame.at + 1) ≡ nothing → (input : List ℕ) → Sat (Stands p kn calm) (got s input)
     got_stands e [] = (empty_holds _ _ (here (s.frame.at + 1)) _ _ e, good.1)
@@ -374,4 +374,4 @@ module _ (p : Program) (kn : ℕ → ℕ → List Known) (calm : ℕ → ℕ →
         sat_bind (Stands p kn calm) (word_at s (operand.Temporary 0)) (put s) (λ v e. (empty_holds _ _ (here (s.frame.at + 1)) _ _ (emptied flow.next), good.1))
     act_stands instruction.GetByte flow = got_stands (emptied flow.next) s.input
     act_stands instruction.Exit flow = sat_bind (Stands p kn calm) (word_at s (operand.Temporary 0)) (λ v. ended (v % 2 ^ 8) s.input s.trace) (λ v e. tt)
-    act_stands instruction.Return flow = returned_stands s.waiting good.1
+    act_stands instruction.Return flow = returned_stands (result_of p s) s.waiting good.1

@@ -1,6 +1,6 @@
 -- Each step of a program that was made simpler is that of the program.
 use Rattle.std.proofs.Common.{◌≡◌, ◌⊎◌, inl, inr, ⊎_elim, ℕ, ◌+◌, ◌-◌, ◌*◌, ◌%◌, ◌^◌, List, [], ◌∷◌, Option, Some, Bool, true, false, refl, sym, ap, ◌∙◌, subst}
-use Rattle.std.specs.Prelude.{◌&&◌, ◌||◌, if◌then◌else◌}
+use Rattle.std.specs.Prelude.{◌==◌, ◌&&◌, ◌||◌, if◌then◌else◌}
 use Rattle.std.proofs.lemmas.Bool.{eqb-true, eq-eqb}
 use Rattle.rv32.specs.declared.instr.Test.{Test}
 use Rattle.rv32.specs.Arithmetic.{compare_of}
@@ -17,7 +17,8 @@ use Rattle.frames_code.specs.declared.code.Location.TheVariants as location
 use Rattle.frames_code.specs.declared.code.Instruction.{Instruction}
 use Rattle.frames_code.specs.declared.code.Instruction.TheVariants as instruction
 use Rattle.frames_code.specs.Code.{Program}
-use Rattle.frames_code.specs.Run.{Value, Values, Frame, State, Reference, Progress, running, ended, stuck, word, reference, value, word_at, word_in, reference_in, set, unset, next, past, memory, fits, element_in, indexed, goes_to, place, gives, gives_word, operate, converted, loaded, stored, put, got, returned, entered, result_alone, act, ◌>>=◌}
+use Rattle.frames_code.specs.Run.{Value, Values, Frame, State, Reference, Progress, running, ended, stuck, word, reference, value, word_at, word_in, reference_in, set, unset, next, past, memory, fits, element_in, indexed, goes_to, place, gives, gives_word, operate, converted, loaded, stored, put, got, returned, entered, result_alone, result_of, act, ◌>>=◌}
+use Rattle.frames_code.proofs.Results.{result_same}
 use Rattle.frames_opt.specs.declared.room.Room.{Room}
 use Rattle.frames_opt.specs.declared.facts.Known.{Known}
 use Rattle.frames_opt.specs.declared.facts.Known.TheVariants as known
@@ -27,9 +28,9 @@ use Rattle.frames_opt.specs.declared.statuses.Status.TheVariants as status
 use Rattle.frames_opt.specs.inside.Facts.{known_of, is_target, moved, indexed_from, indexed_if, is_near, is_cheap}
 use Rattle.frames_opt.specs.inside.Liveness.{names, is_through, wants, reads, temporary_of, written, is_number, is_written}
 use Rattle.frames_opt.specs.inside.Sweep.{status_at, is_same, accepts, offer, index_of, place_by, place_at, place_of, placed, on_from, leads_on, is_given_up, leads, behind_it}
-use Rattle.frames_opt.proofs.Acts.{Knows, Holds, name_in, home_in, not_true, known_holds}
+use Rattle.frames_opt.proofs.Acts.{Knows, Holds, name_in, home_in, gives_in, not_true, known_holds}
 use Rattle.frames_opt.proofs.Stands.{moved_leads, element_knows, Waits}
-use Rattle.frames_opt.proofs.Alike.{Sized, over, Beside, accepted, Agree, Goes, Match, same_some, same_is, same_if, match_bind, match_left, or_left, or_right, left_true, right_true, value_below, word_at_below, reference_at_below, place_below, base_is, same_where_read, gives_match, move_match, loaded_match, stored_match, none_written, gives_dropped, move_dropped}
+use Rattle.frames_opt.proofs.Alike.{Sized, gives_at, over, Beside, accepted, Agree, Goes, Match, same_some, same_is, same_if, match_bind, match_left, or_left, or_right, left_true, right_true, value_below, word_at_below, reference_at_below, place_below, base_is, same_where_read, gives_match, move_match, loaded_match, stored_match, none_written, gives_dropped, move_dropped}
 
 or_either : (a b : Bool) → (a || b) ≡ true → (a ≡ true) ⊎ (b ≡ true)
 or_either true b e = inl refl
@@ -40,7 +41,7 @@ or_either false b e = inr e
 -- temporaries that an instruction reads are the same; what it does not write may be behind what it was, and what it writes the same
 pub record Ready (p : Program) (here there : ℕ → Status) (s : State) (u a : Values) (y : Instruction) : Type 0 where
   pub agree : Agree (name_in p s) (home_in p s) here s u a
-  pub same : (k : ℕ) → reads (here k) k y ≡ true → is_same (here k) ≡ true
+  pub same : (k : ℕ) → reads (gives_in p s) (here k) k y ≡ true → is_same (here k) ≡ true
   pub stays : (k : ℕ) → is_written k y ≡ false → accepts (there k) (here k) ≡ true
   pub fresh : (j : ℕ) → written y ≡ Some j → accepts (there j) status.Same ≡ true
 
@@ -60,10 +61,10 @@ module _ (p q : Program) (r : Sized p q) (now : State → ℕ → Status) (s : S
 
   -- a temporary that an instruction reads, whatever its status
   abbrev Read : Instruction → (ℕ → Bool) → Type 0
-  Read y f = (k : ℕ) → f k ≡ true → reads (here k) k y ≡ true
+  Read y f = (k : ℕ) → f k ≡ true → reads (gives_in p s) (here k) k y ≡ true
 
   are_same : (y : Instruction) (f : ℕ → Bool) → Before y → Read y f → (k : ℕ) → f k ≡ true → u k ≡ s.temporaries k
-  are_same y f ready read k e = same_where_read name home y here s u a ready.same ready.agree k (read k e)
+  are_same y f ready read k e = same_where_read (gives_in p s) name home y here s u a ready.same ready.agree k (read k e)
 
   word_same : (y : Instruction) (x : Operand) → Before y → Read y (λ k. names k x) → (w : ℕ) → word_at s x ≡ Some w → word_at t x ≡ Some w
   word_same y x ready read = word_at_below p q r s u a ready.agree.arguments x (are_same y (λ k. names k x) ready read)
@@ -350,10 +351,10 @@ module _ (p q : Program) (r : Sized p q) (now : State → ℕ → Status) (s : S
   branched true to leads further = jump_alike to leads
   branched false to leads further = next_alike further
 
-  branch_alike : (c : Test) (x y : Operand) (to : ℕ) → ((k : ℕ) → reads (status_at states s.frame.at k) k (instruction.Branch c x y to) ≡ true → is_same (status_at states s.frame.at k) ≡ true) → Leads to → Leads (s.frame.at + 1)
+  branch_alike : (c : Test) (x y : Operand) (to : ℕ) → ((k : ℕ) → reads (gives_in p s) (status_at states s.frame.at k) k (instruction.Branch c x y to) ≡ true → is_same (status_at states s.frame.at k) ≡ true) → Leads to → Leads (s.frame.at + 1)
       → Match p now (act p s (instruction.Branch c x y to)) (act q t2 (instruction.Branch c x y to))
   branch_alike c x y to same leads further =
-      let read : (k : ℕ) → (names k x || names k y) ≡ true → u k ≡ s.temporaries k = same_where_read (name_in p s) (home_in p s) (instruction.Branch c x y to) (λ j. status_at states s.frame.at j) s u a same agree in
+      let read : (k : ℕ) → (names k x || names k y) ≡ true → u k ≡ s.temporaries k = same_where_read (gives_in p s) (name_in p s) (home_in p s) (instruction.Branch c x y to) (λ j. status_at states s.frame.at j) s u a same agree in
       match_bind p now (word_at s x) (word_at t2 x)
       (λ m. word_at s y >>= λ n. running (if compare_of c m n then goes_to s to else next s)) (λ m. word_at t2 y >>= λ n. running (if compare_of c m n then goes_to t2 to else next t2))
       (word_at_below p q r s u a agree.arguments x (λ k e. read k (or_left (names k x) (names k y) e)))
@@ -402,24 +403,20 @@ module _ (p : Program) (states : ℕ → List Row) where
         match_bind p now_in (word_at s (operand.Temporary 0)) (word_at s (operand.Temporary 0)) (put s) (put t3) (λ v e. e)
         (λ v. same (record (next s) { temporaries = unset; trace = Put (v % 2 ^ 8) ∷ s.trace }) further)
 
-  module _ (q : Program) (s : State) (u a : Values) (result : u 0 ≡ s.temporaries 0) where
+  -- values that are the same: what is in temporary 0 at an exit, the result at a return
+  module _ (q : Program) (s : State) (u a : Values) (m n : Option Value) (one : n ≡ m) where
     abbrev t4 : State
     t4 = over u a s
 
-    status_same : (v : ℕ) → word_at s (operand.Temporary 0) ≡ Some v → word_at t4 (operand.Temporary 0) ≡ Some v
-    status_same v e = ap word_in result ∙ e
-
-    exit_alike : Match p now_in (act p s instruction.Exit) (act q t4 instruction.Exit)
-    exit_alike =
+    ends_alike : Match p now_in (returned s m []) (returned t4 n [])
+    ends_alike =
         let out : ℕ → Progress = λ v. ended (v % 2 ^ 8) s.input s.trace in
-        match_bind p now_in (word_at s (operand.Temporary 0)) (word_at t4 (operand.Temporary 0)) out out status_same (λ v. refl)
+        match_bind p now_in (word_in m) (word_in n) out out (λ v e. ap word_in one ∙ e) (λ v. refl)
 
-    returned_alike : (kn : ℕ → ℕ → List Known) (ws : List Frame) → Waits kn calm_in ws → Match p now_in (returned s ws) (returned t4 ws)
-    returned_alike kn [] waits =
-        let out : ℕ → Progress = λ v. ended (v % 2 ^ 8) s.input s.trace in
-        match_bind p now_in (word_at s (operand.Temporary 0)) (word_at t4 (operand.Temporary 0)) out out status_same (λ v. refl)
+    returned_alike : (kn : ℕ → ℕ → List Known) (ws : List Frame) → Waits kn calm_in ws → Match p now_in (returned s m ws) (returned t4 n ws)
+    returned_alike kn [] waits = ends_alike
     returned_alike kn (f ∷ fs) waits =
-        with_same (record s { frame = f; temporaries = result_alone (s.temporaries 0); arguments = unset; waiting = fs }) (result_alone (u 0)) (ap (λ v. result_alone v) result) waits.1
+        with_same (record s { frame = f; temporaries = result_alone m; arguments = unset; waiting = fs }) (result_alone n) (ap (λ v. result_alone v) one) waits.1
 
 -- ---- each instruction
 
@@ -441,7 +438,7 @@ module _ (p q : Program) (r : Sized p q) (states : ℕ → List Row) (s : State)
 
   -- only what is the same is read, and what each temporary is behind it, it may be wherever it leads
   pub record Passes (y : Instruction) : Type 0 where
-    pub same : (k : ℕ) → reads (here k) k y ≡ true → is_same (here k) ≡ true
+    pub same : (k : ℕ) → reads (gives_in p s) (here k) k y ≡ true → is_same (here k) ≡ true
     pub right : (k : ℕ) → leads list at y k (behind_it k y (here k)) ≡ true
 
   at_function : (s2 : State) → s2.frame.function ≡ s.frame.function → now s2 ≡ (λ k. status_at list s2.frame.at k)
@@ -496,9 +493,9 @@ module _ (p q : Program) (r : Sized p q) (states : ℕ → List Row) (s : State)
   }
 
   -- an instruction that reads all
-  all_same : (y : Instruction) → ((k : ℕ) → reads (here k) k y ≡ true) → Agree (name_in p s) (home_in p s) here s u a → Passes y → Match p now (act p s y) (act q (over s.temporaries a s) y) → Match p now (act p s y) (act q (over u a s) y)
+  all_same : (y : Instruction) → ((k : ℕ) → reads (gives_in p s) (here k) k y ≡ true) → Agree (name_in p s) (home_in p s) here s u a → Passes y → Match p now (act p s y) (act q (over s.temporaries a s) y) → Match p now (act p s y) (act q (over u a s) y)
   all_same y every agree ok m =
-      let each : (k : ℕ) → u k ≡ s.temporaries k = λ k. same_where_read (name_in p s) (home_in p s) y here s u a ok.same agree k (every k) in
+      let each : (k : ℕ) → u k ≡ s.temporaries k = λ k. same_where_read (gives_in p s) (name_in p s) (home_in p s) y here s u a ok.same agree k (every k) in
       let whole : u ≡ s.temporaries = λ i k. each k i in
       subst (λ (v : Values). Match p now (act p s y) (act q (over v a s) y)) (sym whole) m
 
@@ -515,10 +512,10 @@ module _ (p q : Program) (r : Sized p q) (states : ℕ → List Row) (s : State)
       convert_alike p q r now s u a here there next_behind (instruction.Convert c d x) d x (converted c) (ready (instruction.Convert c d x) agree ok ok.right) refl (λ k e. e)
   act_alike kn waits (instruction.Load w d l) agree ok =
       load_alike p q r now s u a here there next_behind w d l (place_of list at l) (ready (instruction.Load w d l) agree ok ok.right)
-      (place_alike agree l (λ k e. same_where_read (name_in p s) (home_in p s) (instruction.Load w d l) here s u a ok.same agree k e))
+      (place_alike agree l (λ k e. same_where_read (gives_in p s) (name_in p s) (home_in p s) (instruction.Load w d l) here s u a ok.same agree k e))
   act_alike kn waits (instruction.Store w x l) agree ok =
       store_alike p q r now s u a here there next_behind w x l (place_of list at l) (ready (instruction.Store w x l) agree ok ok.right)
-      (place_alike agree l (λ k e. same_where_read (name_in p s) (home_in p s) (instruction.Store w x l) here s u a ok.same agree k (or_right (names k x) (wants (here k) k l) e)))
+      (place_alike agree l (λ k e. same_where_read (gives_in p s) (name_in p s) (home_in p s) (instruction.Store w x l) here s u a ok.same agree k (or_right (names k x) (wants (here k) k l) e)))
   act_alike kn waits (instruction.Address d l) agree ok = address_alike p q r now s u a here there next_behind d l (ready (instruction.Address d l) agree ok ok.right)
   act_alike kn waits (instruction.Element d x y size) agree ok =
       element_alike p q r now s u a here there next_behind (instruction.Element d x y size) d x y size (ready (instruction.Element d x y size) agree ok ok.right) refl (λ k e. or_left (names k x) (names k y) e) (λ k e. or_right (names k x) (names k y) e)
@@ -529,8 +526,12 @@ module _ (p q : Program) (r : Sized p q) (states : ℕ → List Row) (s : State)
   act_alike kn waits (instruction.Call f) agree ok = all_same (instruction.Call f) (λ k. refl) agree ok (same p states (entered s f) (λ k. refl))
   act_alike kn waits instruction.PutByte agree ok = all_same instruction.PutByte (λ k. refl) agree ok (put_alike p states q s a (calm_behind (λ k. ok.same k refl) ok.right))
   act_alike kn waits instruction.GetByte agree ok = all_same instruction.GetByte (λ k. refl) agree ok (got_alike p states q s a (calm_behind (λ k. ok.same k refl) ok.right) s.input)
-  act_alike kn waits instruction.Exit agree ok = exit_alike p states q s u a (same_where_read (name_in p s) (home_in p s) instruction.Exit here s u a ok.same agree 0 refl)
-  act_alike kn waits instruction.Return agree ok = returned_alike p states q s u a (same_where_read (name_in p s) (home_in p s) instruction.Return here s u a ok.same agree 0 refl) kn s.waiting waits
+  act_alike kn waits instruction.Exit agree ok =
+      ends_alike p states q s u a (s.temporaries 0) (u 0) (same_where_read (gives_in p s) (name_in p s) (home_in p s) instruction.Exit here s u a ok.same agree 0 refl)
+  act_alike kn waits instruction.Return agree ok =
+      returned_alike p states q s u a (result_of p s) (result_of q (over u a s))
+      (result_same (gives_in p s) (gives_in q s) (s.temporaries 0) (u 0) (gives_at p q r s.frame.function)
+      (λ has. same_where_read (gives_in p s) (name_in p s) (home_in p s) instruction.Return here s u a ok.same agree 0 (ap (λ b. b && (0 == 0)) has))) kn s.waiting waits
 
   -- ---- an instruction that is left out
 

@@ -2,7 +2,7 @@
 use Rattle.std.specs.Prelude.{◌≡◌, ◌≤◌, ℕ, List, map, slice_get, sum_by, Some}
 use Rattle.frames_code.specs.declared.code.Instruction.TheVariants as instruction
 use Rattle.frames_code.specs.Code.{Function, Program, frame_bytes}
-use Rattle.frames_code.specs.Run.{Value, State, Progress, running, ended, stuck, run, start, active}
+use Rattle.frames_code.specs.Run.{Value, State, Progress, running, ended, stuck, run, start, active, result_of}
 use Rattle.frames_code.specs.Costs.{next_of, spent}
 use Rattle.frames_code.specs.Sound.{IsSoundProgram}
 use Rattle.frames.specs.Costs.{code_bytes}
@@ -24,14 +24,14 @@ IsDefined stuck = ⊥
 abbrev pub HasItsValues : State → State → Type 0
 HasItsValues s t = (k : ℕ) (v : Value) → s.temporaries k ≡ Some v → t.temporaries k ≡ Some v
 
--- the result
-abbrev pub HasItsResult : State → State → Type 0
-HasItsResult s t = (v : Value) → s.temporaries 0 ≡ Some v → t.temporaries 0 ≡ Some v
+-- what the first passes to its caller, the second does
+abbrev pub HasItsResult : Program → Program → State → State → Type 0
+HasItsResult p q s t = (v : Value) → result_of p s ≡ Some v → result_of q t ≡ Some v
 
 -- where the second is about to call a function, the first is too, with the same in its temporaries; and to return, with the same result
 pub record IsAtCall (p q : Program) (s t : State) : Type 0 where
   pub calls : (g : ℕ) → next_of q t ≡ Some (instruction.Call g) → (next_of p s ≡ Some (instruction.Call g)) × HasItsValues s t
-  pub returns : next_of q t ≡ Some instruction.Return → (next_of p s ≡ Some instruction.Return) × HasItsResult s t
+  pub returns : next_of q t ≡ Some instruction.Return → (next_of p s ≡ Some instruction.Return) × HasItsResult p q s t
 
 abbrev pub RunsAlike : (p q : Program) → Type 0
 RunsAlike p q = (n : ℕ) (input : List ℕ) → DoesTheSame (run p n (start p input)) (run q n (start q input))

@@ -92,7 +92,7 @@ fn end_of(
         }
         let is_through = is_access(*instruction, number);
         let is_on = only_leads_on(*instruction, number);
-        let is_wrong = reads(Status::Same, number, *instruction) && (is_read || !is_through);
+        let is_wrong = reads(true, Status::Same, number, *instruction) && (is_read || !is_through);
         if is_wrong && !is_on || is_marked(marks, place) || !goes_on(masks, *instruction, number) {
             return None;
         }
@@ -244,11 +244,11 @@ fn found(
     list: &[Known],
     code: &[Instruction],
 ) -> Result<Vec<Row>, AllocError> {
-    let masks = masks_of(alloc, code)?;
+    let masks = masks_of(alloc, room.gives, code)?;
     let mut states = all_same(alloc, code.len())?;
     if put_indices(&mut states, room, marks, &masks, list, code) {
         let shorter = swept(alloc, &states, code)?;
-        let later = masks_of(alloc, &shorter)?;
+        let later = masks_of(alloc, room.gives, &shorter)?;
         put_dead(&mut states, &later);
     } else {
         put_dead(&mut states, &masks);

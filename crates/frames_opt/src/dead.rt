@@ -45,9 +45,9 @@ fn through_dead(mask: u8, location: Location) -> bool
     }
 }
 
-/// Whether an instruction reads a temporary of a mask that has some.
-pub fn reads_dead(mask: u8, instruction: Instruction) -> bool
-    ensures { result ≡ sweep.reads_dead mask instruction }
+/// Whether an instruction reads a temporary of a mask that has some, in a function that has a result or not.
+pub fn reads_dead(gives: bool, mask: u8, instruction: Instruction) -> bool
+    ensures { result ≡ sweep.reads_dead gives mask instruction }
 {
     match instruction {
         Instruction::Nothing => false,
@@ -72,7 +72,7 @@ pub fn reads_dead(mask: u8, instruction: Instruction) -> bool
         Instruction::PutByte => true,
         Instruction::GetByte => true,
         Instruction::Exit => true,
-        Instruction::Return => is_dead(mask, 0),
+        Instruction::Return => gives && is_dead(mask, 0),
     }
 }
 

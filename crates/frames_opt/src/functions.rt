@@ -20,7 +20,7 @@ use std::alloc::{AllocError, Global};
 fn improved(alloc: Global, room: Room, code: &[Instruction]) -> Result<Vec<Instruction>, AllocError>
     ensures { IfOk result (λ made. IsImproved room code.now made.items) }
 {
-    let marks = marks_of(alloc, code)?;
+    let marks = marks_of(alloc, room.gives, code)?;
     let middle = forward(alloc, room, &marks, code)?;
     let states = states_of(alloc, room, &marks, &middle.offered, &middle.code)?;
     swept(alloc, &states, &middle.code)
@@ -51,6 +51,7 @@ pub fn simplify_function(alloc: Global, function: Function) -> Result<Function, 
         resident: function.resident,
         area: function.area,
         outgoing: function.outgoing,
+        gives: function.gives,
     })
 }
 

@@ -56,9 +56,9 @@ fn wants(status: Status, number: usize, location: Location) -> bool
 }
 
 /// Whether an instruction reads what the old code has in a temporary, where the new code's is of this status; a call, a byte put or got, and an exit count
-/// as reading all, and a return reads the result.
-pub fn reads(status: Status, number: usize, instruction: Instruction) -> bool
-    ensures { result ≡ liveness.reads status number instruction }
+/// as reading all, and a return reads the result, if the function has one.
+pub fn reads(gives: bool, status: Status, number: usize, instruction: Instruction) -> bool
+    ensures { result ≡ liveness.reads gives status number instruction }
 {
     match instruction {
         Instruction::Nothing => false,
@@ -77,7 +77,7 @@ pub fn reads(status: Status, number: usize, instruction: Instruction) -> bool
         Instruction::PutByte => true,
         Instruction::GetByte => true,
         Instruction::Exit => true,
-        Instruction::Return => number == 0,
+        Instruction::Return => gives && number == 0,
     }
 }
 
@@ -170,7 +170,7 @@ fn bits_through(location: Location) -> u8 {
     }
 }
 
-/// The temporaries that an instruction reads.
+/// The temporaries that an instruction reads, in a function with a result.
 fn bits_read(instruction: Instruction) -> u8 {
     match instruction {
         Instruction::Nothing => 0,
@@ -191,8 +191,17 @@ fn bits_read(instruction: Instruction) -> u8 {
     }
 }
 
+/// The mask before a return: all are dead but the result, if there is one.
+fn mask_at_return(gives: bool) -> u8 {
+    if gives {
+        !bits_read(Instruction::Return)
+    } else {
+        255
+    }
+}
+
 /// The mask before an instruction, by those of the instructions that it leads to.
-fn mask_before(masks: &[u8], at: usize, instruction: Instruction) -> u8
+fn mask_before(gives: bool, masks: &[u8], at: usize, instruction: Instruction) -> u8
     requires { at < 2 ^ 62 }
 {
     let next = mask_of(masks, at + 1);
@@ -200,7 +209,7 @@ fn mask_before(masks: &[u8], at: usize, instruction: Instruction) -> u8
         Instruction::Nothing => next,
         Instruction::Jump(to) => mask_of(masks, to),
         Instruction::Branch { to, .. } => next & mask_of(masks, to) & !bits_read(instruction),
-        Instruction::Return => !bits_read(instruction),
+        Instruction::Return => mask_at_return(gives),
         _ => match written(instruction) {
             Some(number) => {
                 if is_dead(next, number) {
@@ -215,11 +224,11 @@ fn mask_before(masks: &[u8], at: usize, instruction: Instruction) -> u8
 }
 
 /// Goes over the code once, from its end. Returns whether a mask changed.
-fn go_back(masks: &mut [u8], code: &[Instruction]) -> bool {
+fn go_back(gives: bool, masks: &mut [u8], code: &[Instruction]) -> bool {
     let mut changed = false;
     for behind in 0..code.len() {
         let number = code.len() - 1 - behind;
-        let mask = mask_before(masks, number, code[number]);
+        let mask = mask_before(gives, masks, number, code[number]);
         if number < masks.len() && masks[number] != mask {
             masks[number] = mask;
             changed = true;
@@ -228,12 +237,12 @@ fn go_back(masks: &mut [u8], code: &[Instruction]) -> bool {
     changed
 }
 
-/// The dead temporaries before each instruction, as far as the analysis has found them. No contract depends on it.
-pub fn masks_of(alloc: Global, code: &[Instruction]) -> Result<Vec<u8>, AllocError> {
+/// The dead temporaries before each instruction of a function that has a result or not, as far as the analysis has found them. No contract depends on it.
+pub fn masks_of(alloc: Global, gives: bool, code: &[Instruction]) -> Result<Vec<u8>, AllocError> {
     let mut masks = Vec::new(alloc);
     masks.resize(code.len(), 255)?;
     for _ in 0..ROUNDS {
-        if !go_back(&mut masks, code) {
+        if !go_back(gives, &mut masks, code) {
             return Ok(masks);
         }
     }

@@ -123,7 +123,7 @@ fn is_read_twice(masks: &[u8], code: &[Instruction], first: usize, number: usize
             return false;
         }
         if !leads_on(*instruction, number) {
-            if reads(Status::Same, number, *instruction) {
+            if reads(true, Status::Same, number, *instruction) {
                 if is_read {
                     return true;
                 }
@@ -169,10 +169,10 @@ fn mark_each(marks: &mut [bool], masks: &[u8], code: &[Instruction])
 }
 
 /// Marks for the instructions that jumps lead to, and for some others.
-pub fn marks_of(alloc: Global, code: &[Instruction]) -> Result<Vec<bool>, AllocError>
+pub fn marks_of(alloc: Global, gives: bool, code: &[Instruction]) -> Result<Vec<bool>, AllocError>
     ensures { IfOk result (λ marks. AreMarked marks.items code.now) }
 {
-    let masks = masks_of(alloc, code)?;
+    let masks = masks_of(alloc, gives, code)?;
     let mut marks = Vec::new(alloc);
     marks.resize(code.len(), false)?;
     mark_each(&mut marks, &masks, code);

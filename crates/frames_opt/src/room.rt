@@ -9,16 +9,18 @@ use frames_code::Function;
 /// The most temporaries in memory, and the most words, of a frame whose arrays may be within the reach of 12 bits.
 const MOST_WORDS: usize = 0x200;
 
-/// The arrays of a frame.
+/// The arrays of a function's frame, and whether it has a result.
 #[derive(Clone, Copy, Debug)]
 pub struct Room {
-    /// Their bytes.
+    /// The bytes of the arrays.
     pub area: usize,
     /// The bytes in front of them, or more than 12 bits reach where there are many.
     pub home: usize,
+    /// Whether the function has a result, which its returns read.
+    pub gives: bool,
 }
 
-/// The arrays of a function's frame.
+/// The arrays of this function's frame, and whether it has a result.
 pub fn room_of(function: &Function) -> Room
     ensures { result ≡ facts_in.room_of (function_of function.now) }
 {
@@ -30,5 +32,6 @@ pub fn room_of(function: &Function) -> Room
     Room {
         area: function.area,
         home,
+        gives: function.gives,
     }
 }

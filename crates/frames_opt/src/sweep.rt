@@ -163,6 +163,7 @@ fn behind(number: usize, instruction: Instruction, status: Status) -> Status
 
 /// Whether an instruction that is not left out reads a temporary of this status only where that is the same, and leads on.
 fn stays_right(
+    gives: bool,
     states: &[Row],
     at: usize,
     instruction: Instruction,
@@ -170,9 +171,9 @@ fn stays_right(
     status: Status,
 ) -> bool
     requires { at < 2 ^ 62 }
-    ensures { result ≡ sweep.stays_right states.now at instruction number status }
+    ensures { result ≡ sweep.stays_right gives states.now at instruction number status }
 {
-    (is_same(status) || !reads(status, number, instruction))
+    (is_same(status) || !reads(gives, status, number, instruction))
         && leads(
             states,
             at,
@@ -285,29 +286,29 @@ fn is_right(
         && if is_left_out(states, at, instruction) {
             drop_right(room, states, at, offered, instruction, number)
         } else {
-            stays_right(states, at, instruction, number, status)
+            stays_right(room.gives, states, at, instruction, number, status)
         }
 }
 
 /// Whether the temporaries of this mask, which are dead before an instruction, stay dead or are written.
-fn masks_right(states: &[Row], at: usize, instruction: Instruction, mask: u8) -> bool
+fn masks_right(gives: bool, states: &[Row], at: usize, instruction: Instruction, mask: u8) -> bool
     requires { at < 2 ^ 62 }
-    ensures { result ≡ sweep.masks_right states.now at instruction mask }
+    ensures { result ≡ sweep.masks_right gives states.now at instruction mask }
 {
     if is_left_out(states, at, instruction) {
         is_within(mask, mask_at(states, at + 1), written(instruction))
     } else {
-        !reads_dead(mask, instruction) && dead_leads(states, at, instruction, mask)
+        !reads_dead(gives, mask, instruction) && dead_leads(states, at, instruction, mask)
     }
 }
 
 /// Whether the temporaries that are dead before an instruction may be so, as far as no index is held.
-fn dead_right(states: &[Row], at: usize, instruction: Instruction) -> bool
+fn dead_right(gives: bool, states: &[Row], at: usize, instruction: Instruction) -> bool
     requires { at < 2 ^ 62 }
-    ensures { result ≡ sweep.dead_right states.now at instruction }
+    ensures { result ≡ sweep.dead_right gives states.now at instruction }
 {
     let mask = mask_at(states, at);
-    mask == 0 || masks_right(states, at, instruction, mask)
+    mask == 0 || masks_right(gives, states, at, instruction, mask)
 }
 
 fn held_right(
@@ -376,7 +377,7 @@ fn all_right(
     requires { at < 2 ^ 62 }
     ensures { result ≡ sweep.all_right room states.now at offered instruction }
 {
-    dead_right(states, at, instruction)
+    dead_right(room.gives, states, at, instruction)
         && row_right(room, states, at, offered, instruction, at)
         && row_right(room, states, at, offered, instruction, at + 1)
         && jump_right(room, states, at, offered, instruction)

@@ -77,7 +77,7 @@ is_renumbered f g ss all few made = record {
 }
 
 abbrev with_code : Function → (resident : ℕ) → List Instruction → Function
-with_code f resident code = record { code = code; cells = f.cells; resident = resident; area = f.area; outgoing = f.outgoing }
+with_code f resident code = record { code = code; cells = f.cells; resident = resident; area = f.area; outgoing = f.outgoing; gives = f.gives }
 
 pub code_put : (f : Function) (resident : ℕ) (code start xs : List Instruction) (ss ts : List Swap) → code ≡ start ++ map (renumbered (through ss)) xs → start ≡ [] → ss ≡ ts → xs ≡ f.code
     → with_code f resident code ≡ renumbered_function (through ts) resident f

@@ -8,9 +8,9 @@ use Rattle.frames_code.specs.declared.code.Target.{Target}
 use Rattle.frames_code.specs.declared.code.Width.{Width}
 use Rattle.frames_code.specs.declared.code.Instruction.{Instruction}
 use Rattle.frames_code.specs.declared.code.Instruction.TheVariants as instruction
-use Rattle.frames_code.specs.Code.{Program}
+use Rattle.frames_code.specs.Code.{Function, Program}
 use Rattle.frames_code.specs.Costs.{entry_cost_of, cost_in, cost_in_if, cost_on, next_of, spent_in}
-use Rattle.frames_code.specs.Run.{Value, Frame, State, Reference, Progress, running, ended, stuck, word, reference, value, word_at, word_in, reference_in, set, next, past, goes_to, place, memory, with_memory, with_element, element_in, fits, gives, gives_word, operate, converted, loaded, stored, put, got, returned, act, step, run, start, goes_on, function_at, unset, ◌>>=◌}
+use Rattle.frames_code.specs.Run.{Value, Frame, State, Reference, Progress, running, ended, stuck, word, reference, value, word_at, word_in, reference_in, set, next, past, goes_to, place, memory, with_memory, with_element, element_in, fits, gives, gives_word, operate, converted, loaded, stored, put, got, result_if, result_of, returned, act, step, run, start, goes_on, function_at, unset, ◌>>=◌}
 use Rattle.frames_regalloc.specs.Renumbered.{renumbered, renumbered_operand, renumbered_target, renumbered_location}
 use Rattle.frames_regalloc.specs.Laws.{moved_frame, moved, moved_progress}
 use Rattle.frames_regalloc.proofs.Words.{Alike, value_same, place_same, target_set, memory_same, memory_put}
@@ -31,11 +31,11 @@ module _ (from : ℕ → ℕ → ℕ) where
   either true a b = refl
   either false a b = refl
 
-  returned_same : (s : State) (ws : List Frame) → returned (moved from s) (map (moved_frame from) ws) ≡ moved_progress from (returned s ws)
-  returned_same s [] =
+  returned_same : (s : State) (result : Option Value) (ws : List Frame) → returned (moved from s) result (map (moved_frame from) ws) ≡ moved_progress from (returned s result ws)
+  returned_same s result [] =
       let out : ℕ → Progress = λ v. ended (v % 2 ^ 8) s.input s.trace in
-      bound (word_at s (operand.Temporary 0)) out out (λ v. refl)
-  returned_same s (f ∷ fs) = refl
+      bound (word_in result) out out (λ v. refl)
+  returned_same s result (f ∷ fs) = refl
 
   got_same : (s : State) (input : List ℕ) → got (moved from s) input ≡ moved_progress from (got s input)
   got_same s [] = refl
@@ -94,6 +94,9 @@ module _ (p q : Program) (to from : ℕ → ℕ → ℕ) (r : Alike p q to from)
         (λ m. tested from (fits w v.offset m) (running (with_memory q (next s2) v.list (with_element w m.bytes v.offset a))) (running (with_memory p (next s) v.list (with_element w m.bytes v.offset a)))
         (ap running (memory_put p q to from r (next s) v.list (with_element w m.bytes v.offset a))))
 
+    pub result_is : result_of q s2 ≡ result_of p s
+    result_is = ap (λ b. result_if b (s.temporaries 0)) (ap (λ (f : Function). f.gives) (r.at s.frame.function))
+
     act_same : (x : Instruction) → act q s2 (renumbered here x) ≡ moved_progress from (act p s x)
     act_same instruction.Nothing = refl
     act_same (instruction.Move d x) =
@@ -142,7 +145,7 @@ module _ (p q : Program) (to from : ℕ → ℕ → ℕ) (r : Alike p q to from)
     act_same instruction.Exit =
         let out : ℕ → Progress = λ v. ended (v % 2 ^ 8) s.input s.trace in
         bound from (word_at s (operand.Temporary 0)) out out (λ v. refl)
-    act_same instruction.Return = returned_same from s s.waiting
+    act_same instruction.Return = ap (λ v. returned s2 v s2.waiting) result_is ∙ returned_same from s (result_of p s) s.waiting
 
     act_mapped : (o : Option Instruction) → (option_map (renumbered here) o >>= act q s2) ≡ moved_progress from (o >>= act p s)
     act_mapped None = refl

@@ -9,7 +9,7 @@ use Rattle.frames_code.specs.Costs.{entry_cost_of, next_of, spent_in}
 use Rattle.frames_regalloc.specs.Renumbered.{renumbered, renumbered_function, AreRenumbered, IsRenumbered}
 use Rattle.frames_regalloc.specs.Laws.{words_of, moved, RunsAlike, CallsAlike, CostsAlike, FramesAlike}
 use Rattle.frames_regalloc.proofs.Words.{Alike}
-use Rattle.frames_regalloc.proofs.Steps.{next_same, run_same, entry_same, spent_same, start_same}
+use Rattle.frames_regalloc.proofs.Steps.{next_same, result_is, run_same, entry_same, spent_same, start_same}
 
 -- ---- functions by their numbers
 
@@ -121,7 +121,7 @@ calls_alike p q same s =
     let next = next_same p q (to p q same) (from p q same) (alike p q same) s in
     let before : (y : Instruction) → Leaves y → next_of q (moved (from p q same) s) ≡ Some y → next_of p s ≡ Some y =
     λ y leaves e. was (to p q same s.frame.function) (next_of p s) y leaves (sym next ∙ e) in
-    (λ g e. before (instruction.Call g) tt e, λ e. before instruction.Return tt e)
+    (λ g e. before (instruction.Call g) tt e, λ e. (before instruction.Return tt e, result_is p q (to p q same) (from p q same) (alike p q same) s))
 
 pub costs_alike : CostsAlike
 costs_alike p q same n input =

@@ -2,7 +2,7 @@
 use Rattle.std.specs.Prelude.{◌≡◌, ℕ, zero, suc, List, [], ◌∷◌, map, Some}
 use Rattle.frames_code.specs.declared.code.Instruction.TheVariants as instruction
 use Rattle.frames_code.specs.Code.{Function, Program, frame_bytes}
-use Rattle.frames_code.specs.Run.{Frame, State, Progress, running, ended, stuck, run, start}
+use Rattle.frames_code.specs.Run.{Frame, State, Progress, running, ended, stuck, run, start, result_of}
 use Rattle.frames_code.specs.Costs.{next_of, spent_with_entry}
 use Rattle.frames_code.specs.Sound.{IsSoundProgram}
 use Rattle.frames_regalloc.specs.Renumbered.{AreRenumbered, IsRenumbered}
@@ -32,11 +32,12 @@ abbrev pub RunsAlike : Type 0
 RunsAlike = (p q : Program) → (same : IsRenumbered p q) → (n : ℕ) (input : List ℕ)
     → run q n (start q input) ≡ moved_progress (words_of p.functions q.functions same.functions) (run p n (start p input))
 
--- It calls and returns only where the program does; the temporaries are the same there, as in each state.
+-- It calls and returns only where the program does; the temporaries are the same there, as in each state, and so is the result.
 abbrev pub CallsAlike : Type 0
 CallsAlike = (p q : Program) → (same : IsRenumbered p q) → (s : State)
     → ((g : ℕ) → next_of q (moved (words_of p.functions q.functions same.functions) s) ≡ Some (instruction.Call g) → next_of p s ≡ Some (instruction.Call g))
-    × (next_of q (moved (words_of p.functions q.functions same.functions) s) ≡ Some instruction.Return → next_of p s ≡ Some instruction.Return)
+    × (next_of q (moved (words_of p.functions q.functions same.functions) s) ≡ Some instruction.Return
+    → (next_of p s ≡ Some instruction.Return) × (result_of q (moved (words_of p.functions q.functions same.functions) s) ≡ result_of p s))
 
 -- with the entry of main, where the size of each frame is known
 abbrev pub CostsAlike : Type 0

@@ -47,7 +47,7 @@ renumbered to instruction.Return = instruction.Return
 
 abbrev pub renumbered_function : (ℕ → ℕ) → (resident : ℕ) → Function → Function
 renumbered_function to resident f =
-    record { code = map (renumbered to) f.code; cells = f.cells; resident = resident; area = f.area; outgoing = f.outgoing }
+    record { code = map (renumbered to) f.code; cells = f.cells; resident = resident; area = f.area; outgoing = f.outgoing; gives = f.gives }
 
 -- Function g is f with its words under other numbers: word c is `to c`, and each number is that of one word, `from` it. Words of the frame stay
 -- words of the frame. No more of them may live in registers.

@@ -75,6 +75,7 @@ pub fn renumber_function(alloc: Global, function: &Function) -> Result<Function,
         resident: swaps.len(),
         area: function.area,
         outgoing: function.outgoing,
+        gives: function.gives,
     })
 }
 

@@ -1,10 +1,11 @@
 //! Statements (6.8).
 
 use crate::conditions::Use;
-use crate::flow::{Flow, Truth, is_empty};
+use crate::flow::{Flow, Truth};
 use crate::switches::Labels;
 use crate::walker::Walker;
 use lint::Kind;
+use srcset::Pos;
 use std::alloc::AllocError;
 use tree::{BlockItem, Expr, ForHead, ForStart, Stmt};
 
@@ -76,10 +77,10 @@ impl Walker {
     #[cycle(statements)]
     pub(crate) fn items(&mut self, items: &[BlockItem]) -> Result<Flow, AllocError> {
         let mut flow = Flow::falling();
-        let mut is_loop = false;
+        let mut empty = None;
         for item in items {
-            self.note_loop(is_loop, item)?;
-            is_loop = is_empty_loop(item);
+            self.note_loop(empty, item)?;
+            empty = empty_loop(item);
             match item {
                 BlockItem::Declaration(declaration) => self.inner_declaration(declaration)?,
                 BlockItem::Statement(statement) => {
@@ -167,23 +168,31 @@ impl Walker {
         }
     }
 
-    /// Warns of a block directly after a loop with an empty body.
-    fn note_loop(&mut self, is_loop: bool, item: &BlockItem) -> Result<(), AllocError> {
+    /// Warns of the `;` at this place, the body of a loop, where a block directly follows it.
+    fn note_loop(&mut self, empty: Option<Pos>, item: &BlockItem) -> Result<(), AllocError> {
         match item {
-            BlockItem::Statement(Stmt::Block(pos, _)) if is_loop => self.warn(
-                Kind::EmptyBody,
-                *pos,
-            ),
+            BlockItem::Statement(Stmt::Block(_, _)) => match empty {
+                Some(pos) => self.warn(Kind::EmptyBody, pos),
+                None => Ok(()),
+            },
             _ => Ok(()),
         }
     }
 }
 
-/// Whether an item is a loop whose body is `;`.
-fn is_empty_loop(item: &BlockItem) -> bool {
+/// The place of the `;` that is the body of a loop.
+fn empty_loop(item: &BlockItem) -> Option<Pos> {
     match item {
-        BlockItem::Statement(Stmt::While(_, _, body)) => is_empty(body),
-        BlockItem::Statement(Stmt::For(_, _, body)) => is_empty(body),
-        _ => false,
+        BlockItem::Statement(Stmt::While(_, _, body)) => empty_place(body),
+        BlockItem::Statement(Stmt::For(_, _, body)) => empty_place(body),
+        _ => None,
+    }
+}
+
+/// The place of a statement that is `;`.
+fn empty_place(statement: &Stmt) -> Option<Pos> {
+    match statement {
+        Stmt::Empty(pos) => Some(*pos),
+        _ => None,
     }
 }

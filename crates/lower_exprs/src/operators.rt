@@ -28,7 +28,7 @@ use lower_ops::changes::put_truths;
 use lower_ops::form_sizes::plus;
 use lower_ops::modes::{Mode, Shape, mode_of, shape_in};
 use lower_ops::operations::{put_operated, put_then};
-use lower_ops::row_sizes::Scope;
+use lower_ops::scopes::Scope;
 use lower_ops::words::reading_of;
 use lower_ops::writing::{Code, ahead, put};
 use std::alloc::AllocError;

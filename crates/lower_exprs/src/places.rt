@@ -25,7 +25,8 @@ use lower_ops::memory::{
 use lower_ops::modes::Mode;
 use lower_ops::objects::object_of;
 use lower_ops::operations::put_end;
-use lower_ops::row_sizes::{Scope, element_size};
+use lower_ops::row_sizes::element_size;
+use lower_ops::scopes::Scope;
 use lower_ops::spots::{cuts, found, free_slot_at, free_temporary_at, target_for};
 use lower_ops::waiting::{free_slot, free_temporary};
 use lower_ops::words::is_wide;

@@ -26,7 +26,7 @@ use lower_ops::instructions::convert_to;
 use lower_ops::memory::put_handed;
 use lower_ops::modes::{Mode, mode_of, target_of};
 use lower_ops::operations::{put_constant, put_end, put_follow};
-use lower_ops::row_sizes::Scope;
+use lower_ops::scopes::Scope;
 use lower_ops::spots::{found, free_slot_at};
 use lower_ops::waiting::{free_slot, next};
 use lower_ops::writing::{Code, put};

@@ -1,12 +1,13 @@
 -- Elements and rows of objects.
-use Rattle.std.proofs.Common.{◌≡◌, ℕ, zero, suc, ◌+◌, ◌-◌, ◌*◌, ◌≤◌, Bool, List, [], ◌∷◌, Option, Some, None, refl, ap, sym, ◌∙◌, subst, map, length, arith}
+use Rattle.std.proofs.Common.{◌≡◌, ℕ, zero, suc, ◌+◌, ◌-◌, ◌<◌, ◌≤◌, ◌^◌, Bool, List, [], ◌∷◌, Option, Some, None, refl, ap, sym, ◌∙◌, subst, map, length, arith}
 use Rattle.std.specs.Prelude.{slice_get, option_map}
 use Rattle.std.proofs.lemmas.Option.{slice_get-map}
 use Rattle.ctypes.specs.declared.types.IntType.TheVariants as ty
 use Rattle.ctypes.specs.declared.types.IntType.{IntType}
-use Rattle.typing_spec.specs.Types.{ObjectType, DeclaredType, complete, unknown_size, ParameterType, number, elements}
+use Rattle.typing_spec.specs.Types.{ObjectType, DeclaredType, complete, unknown_size, ParameterType, elements}
 use Rattle.typing_spec.specs.Nodes.{row_type, reference_in}
-use Rattle.lower_ops.specs.layer.Rows.{deep_size, size_at}
+use Rattle.lower_correct.specs.Places.{size_of_type}
+use Rattle.lower_ops.specs.layer.Rows.{deep_size, size_at, counted}
 
 pub deep_more : (n : ℕ) (t : Option DeclaredType) → deep_size (n + 1) t ≡ deep_size n (row_type t)
 deep_more n t =
@@ -72,3 +73,11 @@ later_reference t ps (suc n) h =
 pub no_items : {A : Type 0} (xs : List A) → length xs ≡ 0 → xs ≡ []
 no_items [] e = refl
 no_items (x ∷ xs) e = absurd (omega (arith, e))
+
+-- ---- sizes that words count
+
+counted_small : (n : ℕ) → n < 2 ^ 32 → counted n ≡ n
+counted_small n h = omega (arith, h)
+
+pub counted_row : (t : Option DeclaredType) → size_of_type (row_type t) < 2 ^ 32 → counted (deep_size 1 t) ≡ deep_size 1 t
+counted_row t h = counted_small (deep_size 1 t) h

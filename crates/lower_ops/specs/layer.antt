@@ -3,3 +3,4 @@ pub mod Emitted
 pub mod FormSizes
 pub mod Parts
 pub mod Rows
+pub mod Small

@@ -10,6 +10,7 @@ pub mod modes;
 pub mod objects;
 pub mod operations;
 pub mod row_sizes;
+pub mod scopes;
 pub mod spots;
 pub mod waiting;
 pub mod words;

@@ -87,7 +87,7 @@ after k input p =
     (Go (λ x. 0) 0x11000 (λ a. if nat_lt a 0x20000 then 0 else slice_index_or p.statics (a - 0x20000) 0) input [])
 
 abbrev function : (cells resident area outgoing : ℕ) → List Instruction → Function
-function cells resident area outgoing code = record { code = code; cells = cells; resident = resident; area = area; outgoing = outgoing }
+function cells resident area outgoing code = record { code = code; cells = cells; resident = resident; area = area; outgoing = outgoing; gives = true }
 
 abbrev whole : List Function → Program
 whole functions = record { functions = functions; statics = []; main = 0 }

@@ -1,5 +1,5 @@
 -- The machine follows flat code: calls and returns.
-use Rattle.std.proofs.Common.{◌≡◌, ◌≢◌, inl, inr, ℕ, zero, suc, ◌+◌, ◌*◌, ◌-◌, ◌%◌, ◌^◌, ◌<◌, ◌≤◌, List, [], ◌∷◌, ◌++◌, length, Some, None, Bool, true, false, refl, sym, ap, ◌∙◌, subst, arith, eqb}
+use Rattle.std.proofs.Common.{◌≡◌, ◌≢◌, inl, inr, ℕ, zero, suc, ◌+◌, ◌*◌, ◌-◌, ◌%◌, ◌^◌, ◌<◌, ◌≤◌, List, [], ◌∷◌, ◌++◌, length, Option, Some, None, Bool, true, false, refl, sym, ap, ◌∙◌, subst, arith, eqb}
 use Rattle.std.specs.Prelude.{nat_lt, slice_get, ◌||◌}
 use Rattle.std.proofs.lemmas.Bool.{lt-ltb, ltb-true, ltb-false}
 use Rattle.std.proofs.lemmas.Bool.Decides.{nat_tests}
@@ -7,11 +7,11 @@ use Rattle.rv32.specs.declared.instr.Instr.TheVariants as instr
 use Rattle.rv32.specs.Space.{word_at}
 use Rattle.asm.specs.declared.item.Item.TheVariants as item
 use Rattle.csem_events.specs.Events.{Event}
-use Rattle.frames_code.specs.declared.code.Operand.TheVariants as operand
 use Rattle.frames_code.specs.declared.code.Instruction.{Instruction}
 use Rattle.frames_code.specs.declared.code.Instruction.TheVariants as instruction
 use Rattle.frames_code.specs.Code.{frame_bytes}
-use Rattle.frames_code.specs.Run.{Value, word, Values, Bytes, unset, Frame, State, Progress, running, ended, value, word_at as word_of_operand, function_at, below_eight, from_eight, entered, returned, act}
+use Rattle.frames_code.specs.Run.{Value, word, Values, Bytes, unset, Frame, State, Progress, running, ended, word_in, function_at, below_eight, from_eight, entered, result_of, returned, act}
+use Rattle.frames_code.proofs.Results.{result_there}
 use Rattle.select_exec.specs.Light.{Light, Go, reg, with_reg, Comes}
 use Rattle.select_exec.proofs.Bridge.{bool_cases}
 use Rattle.select_exec.proofs.Words.{with_other, word_same}
@@ -208,18 +208,20 @@ module _ (G : Ground) (s : State) (r b : ℕ → ℕ) (ready : Ready G) (m : Mat
   abbrev back_to : ℕ
   back_to = return_at (fn G s r b ready m) b m.sp (r 1)
 
-  returns_to : (ws : List Frame) → Waits G ws b below base back_to → slice_get (fn G s r b ready m).code s.frame.at ≡ Some instruction.Return → Comes G.machine Anything 1 (row (fn G s r b ready m) instruction.Return) (Go r start b s.input s.trace) (Matches G (returned s ws))
-  returns_to [] st e =
+  -- with a result that is in temporary 0, or none
+  returns_to : (result : Option Value) → ((v : Value) → result ≡ Some v → s.temporaries 0 ≡ Some v) → (ws : List Frame) → Waits G ws b below base back_to → slice_get (fn G s r b ready m).code s.frame.at ≡ Some instruction.Return
+      → Comes G.machine Anything 1 (row (fn G s r b ready m) instruction.Return) (Go r start b s.input s.trace) (Matches G (returned s result ws))
+  returns_to result there [] st e =
       let R : Progress → Type 0 = λ p. Comes G.machine Anything 1 (row (fn G s r b ready m) instruction.Return) (Go r start b s.input s.trace) (Matches G p) in
-      used (word_of_operand s (operand.Temporary 0)) (λ v. ended (v % 2 ^ 8) s.input s.trace) R (no_more G s r b ready m 1 (row (fn G s r b ready m) instruction.Return) (Go r start b s.input s.trace) (omega arith)) (λ v ev.
+      used (word_in result) (λ v. ended (v % 2 ^ 8) s.input s.trace) R (no_more G s r b ready m 1 (row (fn G s r b ready m) instruction.Return) (Go r start b s.input s.trace) (omega arith)) (λ v ev.
       let Q : Light → Type 0 = Matches G (ended (v % 2 ^ 8) s.input s.trace) in
-      let held : r 10 ≡ v = (m.temporaries 0 (word v) (word_some (value s (operand.Temporary 0)) v ev)).2 in
+      let held : r 10 ≡ v = (m.temporaries 0 (word v) (there (word v) (word_some result v ev))).2 in
       leaves Q e (omega (arith, st.3, ready.return_aligned)) (omega (arith, st.3, ready.return_small)) (λ r2 e2 ef e10 e3.
       let status : r2 10 % 2 ^ 8 ≡ v % 2 ^ 8 = ap (λ x. x % 2 ^ 8) (e10 ∙ held) in
       comes_now G.machine Anything 0 _ Q tt
       (record { at_is = st.3; sp_is = e2 ∙ st.0; file_is = λ j. ef j ∙ st.2 j; bytes_are = λ k le. st.4 k (omega (arith, le, st.0)); status_is = status }, refl, refl)))
-  returns_to (w ∷ ws) st e =
-      let Q : Light → Type 0 = Matches G (returned s (w ∷ ws)) in
+  returns_to result there (w ∷ ws) st e =
+      let Q : Light → Type 0 = Matches G (returned s result (w ∷ ws)) in
       leaves Q e st.0.aligned st.0.small (λ r2 e2 ef e10 e3.
       let f = function_at G.program w.function in
       let st2 : Waits G (w ∷ ws) b (file_of r2) base back_to = waits_same G (w ∷ ws) b b below (file_of r2) base back_to (λ k le. refl) ef st in
@@ -236,8 +238,8 @@ module _ (G : Ground) (s : State) (r b : ℕ → ℕ) (ready : Ready G) (m : Mat
           temporaries = λ k v ek. bool_cases (eqb k 0)
               (λ t.
               let is : k ≡ 0 = grind (arith, nat_tests) in
-              let first : s.temporaries 0 ≡ Some v = rw t at ek in
-              let old = m.temporaries 0 v first in
+              let first : result ≡ Some v = rw t at ek in
+              let old = m.temporaries 0 v (there v first) in
               (omega (arith, is), old.1, subst (λ x. temporary_at r2 b base x ≡ shown G v) (sym is) (e10 ∙ old.2)))
               (λ t. let no : None ≡ Some v = rw t at ek in cc);
           arguments = λ k v ek. cc;
@@ -256,4 +258,4 @@ call_follows g G s r b ready m under e room =
     does_call G s r b ready m g (λ x. absurd (omega (arith, x, sum, under))) e room
 
 pub return_follows : Follows instruction.Return
-return_follows G s r b ready m under e room = returns_to G s r b ready m s.waiting m.waits e
+return_follows G s r b ready m under e room = returns_to G s r b ready m (result_of G.program s) (result_there G.program s) s.waiting m.waits e

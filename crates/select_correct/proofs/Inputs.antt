@@ -13,7 +13,7 @@ use Rattle.frames_code.specs.declared.code.Target.{Target}
 use Rattle.frames_code.specs.declared.code.Instruction.{Instruction}
 use Rattle.frames_code.specs.declared.code.Instruction.TheVariants as instruction
 use Rattle.frames_code.specs.Code.{Program}
-use Rattle.frames_code.specs.Run.{Value, Frame, State, Progress, running, ended, stuck, value, word_at, reference_in, set, next, past, goes_to, place, memory, with_memory, with_element, element_in, gives, gives_word, operate, converted, loaded, stored, put, got, returned, act, step, run, goes_on, ◌>>=◌}
+use Rattle.frames_code.specs.Run.{Value, Frame, State, Progress, running, ended, stuck, value, word_at, word_in, reference_in, set, next, past, goes_to, place, memory, with_memory, with_element, element_in, gives, gives_word, operate, converted, loaded, stored, put, got, result_of, returned, act, step, run, goes_on, ◌>>=◌}
 use Rattle.frames_code.specs.Run as flat
 use Rattle.frames_code.specs.Costs.{next_of}
 use Rattle.select_correct.proofs.Forms.{set_input, set_trace}
@@ -56,9 +56,9 @@ module _ (R : List ℕ → List Event → Type 0) where
     sets : (d : Target) (v : Value) (s2 : State) → s.input ≡ s2.input → s.trace ≡ s2.trace → Kept (running (set d v s2))
     sets d v s2 ei et = same (set d v s2) (ei ∙ set_input d v s2) (et ∙ set_trace d v s2)
 
-    returns : (ws : List Frame) → Kept (returned s ws)
-    returns [] = used (word_at s (operand.Temporary 0)) (λ v. ended (v % 2 ^ 8) s.input s.trace) (λ v. q.now)
-    returns (w ∷ ws) = q.now
+    returns : (result : Option Value) (ws : List Frame) → Kept (returned s result ws)
+    returns result [] = used (word_in result) (λ v. ended (v % 2 ^ 8) s.input s.trace) (λ v. q.now)
+    returns result (w ∷ ws) = q.now
 
     gets : (input : List ℕ) → s.input ≡ input → Kept (got s input)
     gets [] e = q.at_end e
@@ -94,7 +94,7 @@ module _ (R : List ℕ → List Event → Type 0) where
     acts instruction.PutByte = used (word_at s (operand.Temporary 0)) (put s) (λ v. q.at_put (v % 2 ^ 8))
     acts instruction.GetByte = gets s.input refl
     acts instruction.Exit = used (word_at s (operand.Temporary 0)) (λ v. ended (v % 2 ^ 8) s.input s.trace) (λ v. q.now)
-    acts instruction.Return = returns s.waiting
+    acts instruction.Return = returns (result_of p s) s.waiting
 
     pub step_keeps : Kept (step p s)
     step_keeps = subst Kept (sym (step_is p s)) (used (next_of p s) (act p s) acts)

@@ -1,5 +1,5 @@
 -- A program that meets the premises of the law: one that jumps backwards and forwards.
-use Rattle.std.proofs.Common.{◌≡◌, ℕ, zero, suc, ◌≤◌, [], ◌∷◌, Some, refl, subst, arith}
+use Rattle.std.proofs.Common.{◌≡◌, true, ℕ, zero, suc, ◌≤◌, [], ◌∷◌, Some, refl, subst, arith}
 use Rattle.std.specs.Prelude.{slice_get}
 use Rattle.std.proofs.lemmas.Option.{none-some, same_Some}
 use Rattle.rv32.specs.declared.instr.Test.TheVariants as test
@@ -15,7 +15,7 @@ use Rattle.select_correct.proofs.Reaching.{jumps_reach}
 
 -- for (; a0 != 7;) {} return a0;
 abbrev waits : Function
-waits = record { code = instruction.Branch test.Equal (operand.Temporary 0) (operand.Constant 7) 2 ∷ instruction.Jump 0 ∷ instruction.Return ∷ []; cells = 0; resident = 0; area = 0; outgoing = 0 }
+waits = record { code = instruction.Branch test.Equal (operand.Temporary 0) (operand.Constant 7) 2 ∷ instruction.Jump 0 ∷ instruction.Return ∷ []; cells = 0; resident = 0; area = 0; outgoing = 0; gives = true }
 
 abbrev whole : Program
 whole = record { functions = waits ∷ []; statics = []; main = 0 }

@@ -37,7 +37,7 @@ use Rattle.select_correct.proofs.Whole.{ends}
 
 -- all words past the reach of 12 bits, in a function that calls
 abbrev far : Function
-far = record { code = instruction.Call 0 ∷ []; cells = 700; resident = 12; area = 16; outgoing = 600 }
+far = record { code = instruction.Call 0 ∷ []; cells = 700; resident = 12; area = 16; outgoing = 600; gives = true }
 
 abbrev far_operand : Operand
 far_operand = operand.Temporary 600
@@ -102,7 +102,7 @@ plus_code =
 
 abbrev program : Program
 program = record {
-  functions = record { code = main_code; cells = 0; resident = 0; area = 0; outgoing = 0 } ∷ record { code = plus_code; cells = 1; resident = 1; area = 0; outgoing = 0 } ∷ [];
+  functions = record { code = main_code; cells = 0; resident = 0; area = 0; outgoing = 0; gives = true } ∷ record { code = plus_code; cells = 1; resident = 1; area = 0; outgoing = 0; gives = true } ∷ [];
   statics = [];
   main = 0;
 }
@@ -133,10 +133,10 @@ each_fits f (y ∷ ys) q zero x e = let same : y ≡ x = cc in subst (Instructio
 each_fits f (y ∷ ys) q (suc k) x e = each_fits f ys q.1 k x e
 
 abbrev main_function : Function
-main_function = record { code = main_code; cells = 0; resident = 0; area = 0; outgoing = 0 }
+main_function = record { code = main_code; cells = 0; resident = 0; area = 0; outgoing = 0; gives = true }
 
 abbrev plus_function : Function
-plus_function = record { code = plus_code; cells = 1; resident = 1; area = 0; outgoing = 0 }
+plus_function = record { code = plus_code; cells = 1; resident = 1; area = 0; outgoing = 0; gives = true }
 
 main_fits : FunctionFits 2 main_function
 main_fits = record { small = omega arith; few = omega arith; all = omega arith; each = each_fits main_function main_code ((omega arith, omega arith), (omega arith, (tt, tt))) }

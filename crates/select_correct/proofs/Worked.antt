@@ -20,15 +20,15 @@ use Rattle.select_correct.specs.Costs.{opening_cost, row, step_cost, most_at, mo
 
 -- three resident words, and calls
 abbrev near : Function
-near = record { code = instruction.Call 1 ∷ instruction.Return ∷ []; cells = 5; resident = 3; area = 16; outgoing = 2 }
+near = record { code = instruction.Call 1 ∷ instruction.Return ∷ []; cells = 5; resident = 3; area = 16; outgoing = 2; gives = true }
 
 -- none
 abbrev plain : Function
-plain = record { code = instruction.Call 0 ∷ instruction.Return ∷ []; cells = 0; resident = 0; area = 0; outgoing = 0 }
+plain = record { code = instruction.Call 0 ∷ instruction.Return ∷ []; cells = 0; resident = 0; area = 0; outgoing = 0; gives = true }
 
 -- words on both sides of the reach of 12 bits
 abbrev wide : Function
-wide = record { code = instruction.Call 0 ∷ instruction.Return ∷ []; cells = 700; resident = 2; area = 16; outgoing = 600 }
+wide = record { code = instruction.Call 0 ∷ instruction.Return ∷ []; cells = 700; resident = 2; area = 16; outgoing = 600; gives = true }
 
 abbrev program : Program
 program = record { functions = plain ∷ near ∷ wide ∷ []; statics = []; main = 0 }
@@ -172,7 +172,7 @@ starts_with_none = refl
 
 -- one less where the function calls none
 abbrev leaf : Function
-leaf = record { code = instruction.Return ∷ []; cells = 1; resident = 1; area = 0; outgoing = 0 }
+leaf = record { code = instruction.Return ∷ []; cells = 1; resident = 1; area = 0; outgoing = 0; gives = true }
 
 leaf_opens : opening_cost leaf ≡ 2
 leaf_opens = refl
@@ -188,7 +188,7 @@ leaf_return_attained = refl
 
 -- one less where a frame of more than 12 bits is of whole pages, and where the place of an array is
 abbrev paged : Function
-paged = record { code = instruction.Return ∷ []; cells = 0; resident = 0; area = 8176; outgoing = 0 }
+paged = record { code = instruction.Return ∷ []; cells = 0; resident = 0; area = 8176; outgoing = 0; gives = true }
 
 paged_opens : opening_cost paged ≡ 2
 paged_opens = refl
@@ -235,6 +235,7 @@ gapped = record {
   resident = 0;
   area = 0;
   outgoing = 0;
+  gives = true;
 }
 
 jump_over_none : most_at program gapped 0 (instruction.Jump 3) ≡ 0

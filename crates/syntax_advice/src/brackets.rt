@@ -67,8 +67,35 @@ fn ends_head(words: &Words<'_>, close: usize) -> bool {
         return false;
     };
     let word = open.saturating_sub(1);
-    has_head(words.before(open))
-        && !matches!((words.at(word), words.before(word)), (b"while", b"}"))
+    has_head(words.before(open)) && !(matches!(words.at(word), b"while") && ends_do(words, word))
+}
+
+/// Whether the `while` with this number may end a `do`: a block is before it, or one statement and `do`.
+fn ends_do(words: &Words<'_>, number: usize) -> bool {
+    let Some(last) = number.checked_sub(1) else {
+        return false;
+    };
+    match words.at(last) {
+        b"}" => true,
+        b";" => follows_do(words, last),
+        _ => false,
+    }
+}
+
+/// Whether the statement that ends before the `;` with this number has `do` before it.
+fn follows_do(words: &Words<'_>, semicolon: usize) -> bool {
+    let mut depth: usize = 0;
+    for place in (0..semicolon).rev() {
+        match words.at(place) {
+            b")" => depth = depth.saturating_add(1),
+            b"(" => depth = depth.saturating_sub(1),
+            b"do" => return true,
+            b";" if depth == 0 => return false,
+            b"{" | b"}" => return false,
+            _ => {}
+        }
+    }
+    false
 }
 
 /// Whether a label or a conditional expression is begun before the token with this number, in its statement.

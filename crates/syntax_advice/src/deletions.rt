@@ -65,12 +65,7 @@ pub fn left_out(words: &Words<'_>, number: usize) -> Option<Candidate> {
         b"&" => Some(without(words, number, number.saturating_add(1), Expected::Address)),
         b"[" => bracket(words, number),
         b"." | b"->" => Some(member(words, number)),
-        b"..." => Some(without(
-            words,
-            number.saturating_sub(1),
-            number.saturating_add(1),
-            Expected::Ellipsis,
-        )),
+        b"..." => ellipsis(words, number),
         b"{" => compound_literal(words, number),
         b"(" => nested_function(words, number),
         b"=" | b"+=" | b"-=" | b"*=" | b"/=" | b"%=" | b"<<=" | b">>=" | b"&=" | b"^=" | b"|=" => {
@@ -79,6 +74,31 @@ pub fn left_out(words: &Words<'_>, number: usize) -> Option<Candidate> {
         }
         _ => None,
     }
+}
+
+/// `...` behind parameters, or between the values of a label.
+fn ellipsis(words: &Words<'_>, number: usize) -> Option<Candidate> {
+    let open = open_before(words, number)?;
+    if matches!(words.at(open), b"(") {
+        let comma = number.saturating_sub(1);
+        return Some(without(words, comma, number.saturating_add(1), Expected::Ellipsis));
+    }
+    if is_of_case(words, number) {
+        return Some(without(words, number, number.saturating_add(2), Expected::CaseRange));
+    }
+    None
+}
+
+/// Whether the token with this number is between `case` and its colon.
+fn is_of_case(words: &Words<'_>, number: usize) -> bool {
+    for place in (0..number).rev() {
+        match words.at(place) {
+            b"case" => return true,
+            b";" | b"{" | b"}" | b":" => return false,
+            _ => {}
+        }
+    }
+    false
 }
 
 /// Nothing in place of some tokens, as a trial.

@@ -64,6 +64,10 @@ pub enum Expected {
     NoObject,
     /// Parameters that are counted.
     Ellipsis,
+    /// A label for each value of a range.
+    CaseRange,
+    /// The body of a function.
+    Body,
     /// A closing token for which none is open.
     Unmatched,
     /// Nothing in place of the token.

@@ -5,10 +5,11 @@ use crate::deletions::{
     brace_before_function, keyword_as_name, left_out, nothing, operator, power, separator,
     then_word,
 };
-use crate::expectation::{Candidate, Expected, inserted};
+use crate::expectation::{Candidate, Expected, inserted, tried};
 use crate::insertions::put_insertions;
 use crate::spelling::put_words;
 use crate::type_names::{known_type_name, type_name};
+use crate::vocabulary::is_identifier;
 use source_words::Words;
 use std::alloc::{AllocError, Global};
 
@@ -79,6 +80,18 @@ fn at_end(words: &Words<'_>, number: usize) -> Option<Candidate> {
             b"[" => Some(inserted(words, past, Expected::CloseBracket, "]")),
             _ => Some(inserted(words, past, Expected::CloseBrace, "\n}")),
         },
+        None if is_parameters_end(words, number) => {
+            Some(tried(inserted(words, past, Expected::Body, " { }")))
+        }
         None => Some(inserted(words, past, Expected::Semicolon, ";")),
     }
+}
+
+/// Whether the token with this number closes the parameters of a function.
+fn is_parameters_end(words: &Words<'_>, number: usize) -> bool {
+    matches!(words.at(number), b")")
+        && match open_before(words, number) {
+            Some(open) => is_identifier(words.before(open)),
+            None => false,
+        }
 }

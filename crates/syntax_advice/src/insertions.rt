@@ -29,6 +29,7 @@ pub fn put_insertions(
             separating(words, number, inside, owner),
             labelling(words, number),
             brace(words, number, inside),
+            parenthesis(words, number),
             operand(words, number),
             name(words, number),
             type_before(words, number, inside),
@@ -38,7 +39,7 @@ pub fn put_insertions(
 }
 
 fn put_all(
-    candidates: [Option<Candidate>; 9],
+    candidates: [Option<Candidate>; 10],
     found: &mut Vec<Candidate>,
 ) -> Result<(), AllocError> {
     for candidate in candidates {
@@ -52,10 +53,21 @@ fn put_all(
 /// The text that may be between two tokens that open and close.
 fn pair_of_nothing(words: &Words<'_>, number: usize) -> Option<Candidate> {
     match (words.before(number), words.at(number)) {
-        (b"(", b")") => Some(inserted(words, number, Expected::VoidParameters, "void")),
+        (b"(", b")") if is_declared(words, number.saturating_sub(1)) => {
+            Some(inserted(words, number, Expected::VoidParameters, "void"))
+        }
         (b"{", b"}") => Some(inserted(words, number, Expected::Initialiser, " 0 ")),
         _ => None,
     }
+}
+
+/// Whether the `(` with this number is that of the parameters of a function: a name is before it, and a type before the name.
+fn is_declared(words: &Words<'_>, open: usize) -> bool {
+    let Some(name) = open.checked_sub(1) else {
+        return false;
+    };
+    let front = words.before(name);
+    is_identifier(words.at(name)) && (is_type_word(front) || is_identifier(front))
 }
 
 /// The end of a statement or a declaration.
@@ -126,6 +138,14 @@ fn type_before(words: &Words<'_>, number: usize, inside: &[u8]) -> Option<Candid
 fn brace(words: &Words<'_>, number: usize, inside: &[u8]) -> Option<Candidate> {
     if inside.is_empty() && matches!(words.before(number), b")") {
         return Some(inserted(words, number, Expected::OpenBrace, " {"));
+    }
+    None
+}
+
+/// The `(` of a call.
+fn parenthesis(words: &Words<'_>, number: usize) -> Option<Candidate> {
+    if is_identifier(words.before(number)) {
+        return Some(tried(inserted(words, number, Expected::OpenParenthesis, "(")));
     }
     None
 }

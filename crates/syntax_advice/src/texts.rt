@@ -65,6 +65,8 @@ fn left_out_text(expected: Expected) -> &'static str {
         Expected::NestedFunction => "a function is declared and defined outside of every other",
         Expected::Member => "left out: structures, and so their members",
         Expected::Ellipsis => "left out: functions with `...`",
+        Expected::CaseRange => "C has no `case` of a range",
+        Expected::Body => "expected the body of the function, `{` and `}`, after `)`",
         Expected::NoObject =>
             "what stands before it is a value: only an object or an element can be assigned",
         _ => "",
@@ -89,6 +91,7 @@ pub fn expected_help(expected: Expected, word: &[u8]) -> &'static str {
         Expected::NestedFunction => "put it before the function in which it stands",
         Expected::Member => "write an array for each field, with the record as index",
         Expected::Ellipsis => "write an array and the number of its elements",
+        Expected::CaseRange => "write a `case` for each value",
         _ => "",
     }
 }

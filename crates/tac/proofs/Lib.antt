@@ -10,3 +10,4 @@ pub mod Firsts
 pub mod NamedParts
 pub mod NamedValues
 pub mod NamedStatements
+pub mod SizedObjects

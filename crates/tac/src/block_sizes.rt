@@ -2,10 +2,9 @@
 
 ghost use Rattle.std.specs.Prelude.{◌≡◌, map};
 ghost use Rattle.csem.specs.Statements.{labels_of};
-ghost use Rattle.typed_ast.specs.View.{value_of, option_value, statement_of, statements_of};
+ghost use Rattle.typed_ast.specs.View.{program_of, function_of, value_of, option_value, statement_of, statements_of};
 ghost use Rattle.typing_spec.specs.Program as typed;
 ghost use Rattle.ctypes.specs.declared.types.IntType.{IntType};
-ghost use Rattle.tac.specs.inside.Scopes.{program_in, function_in};
 ghost use Rattle.tac.specs.inside.Sizes as size;
 
 use crate::first_sizes::initialises_size;
@@ -13,8 +12,7 @@ use lower_exprs::operands::waits_for_objects;
 use lower_exprs::sizes::{converted_size, value_size};
 use lower_ops::form_sizes::plus;
 use lower_ops::modes::{Shape, shape_for};
-use lower_ops::row_sizes::Scope;
-use typed_ast::{Statement, Value};
+use typed_ast::{Function, Program, Statement, Value};
 
 pub(crate) fn effects_size(e: &Option<Value>) -> usize
     ensures { result ≡ size.effects_size (option_value e.now) }
@@ -46,93 +44,116 @@ pub(crate) fn tests_size(all: &[Statement]) -> usize
 }
 
 #[cycle(statement_sizes)]
-fn switch_size(scope: &Scope<'_>, e: &Value, first: usize, count: usize, all: &[Statement]) -> usize
-    ensures { (u : IntType) → result ≡ size.statement_size (program_in scope.now) (function_in scope.now) (typed.switch u (value_of e.now) first count (statements_of (map statement_of all.now))) }
+fn switch_size(
+    program: &Program,
+    function: &Function,
+    e: &Value,
+    first: usize,
+    count: usize,
+    all: &[Statement],
+) -> usize
+    ensures { (u : IntType) → result ≡ size.statement_size (program_of program.now) (function_of function.now) (typed.switch u (value_of e.now) first count (statements_of (map statement_of all.now))) }
 {
     let tests = tests_size(all);
     plus(
         1,
         plus(
             value_size(e, shape_for(waits_for_objects(e, first, count))),
-            plus(1, plus(tests, statements_size(scope, all))),
+            plus(1, plus(tests, statements_size(program, function, all))),
         ),
     )
 }
 
 #[cycle(statement_sizes)]
 fn for_size(
-    scope: &Scope<'_>,
+    program: &Program,
+    function: &Function,
     declared: &[Statement],
     start: &Option<Value>,
     test: &Option<Value>,
     step: &Option<Value>,
     a: &Statement,
 ) -> usize
-    ensures { result ≡ size.statement_size (program_in scope.now) (function_in scope.now) (typed.for (statements_of (map statement_of declared.now)) (option_value start.now) (option_value test.now) (option_value step.now) (statement_of a.now)) }
+    ensures { result ≡ size.statement_size (program_of program.now) (function_of function.now) (typed.for (statements_of (map statement_of declared.now)) (option_value start.now) (option_value test.now) (option_value step.now) (statement_of a.now)) }
 {
     let around = plus(
-        statement_size(scope, a),
+        statement_size(program, function, a),
         plus(effects_size(step), repeats_size(test)),
     );
     plus(
         1,
         plus(
-            statements_size(scope, declared),
+            statements_size(program, function, declared),
             plus(effects_size(start), plus(1, around)),
         ),
     )
 }
 
 #[cycle(statement_sizes)]
-pub(crate) fn statements_size(scope: &Scope<'_>, all: &[Statement]) -> usize
-    ensures { result ≡ size.statements_size (program_in scope.now) (function_in scope.now) (statements_of (map statement_of all.now)) }
+pub(crate) fn statements_size(program: &Program, function: &Function, all: &[Statement]) -> usize
+    ensures { result ≡ size.statements_size (program_of program.now) (function_of function.now) (statements_of (map statement_of all.now)) }
 {
     match all.split_first() {
         None => 0,
         Some((statement, more)) => plus(
-            statement_size(scope, statement),
-            statements_size(scope, more),
+            statement_size(program, function, statement),
+            statements_size(program, function, more),
         ),
     }
 }
 
 /// The instructions of a statement.
 #[cycle(statement_sizes)]
-pub(crate) fn statement_size(scope: &Scope<'_>, statement: &Statement) -> usize
-    ensures { result ≡ size.statement_size (program_in scope.now) (function_in scope.now) (statement_of statement.now) }
+pub(crate) fn statement_size(program: &Program, function: &Function, statement: &Statement) -> usize
+    ensures { result ≡ size.statement_size (program_of program.now) (function_of function.now) (statement_of statement.now) }
 {
     match statement {
         Statement::Empty(_) => 1,
         Statement::Evaluate(_, e) => plus(1, value_size(e, Shape::Nowhere)),
         Statement::Declare(_, _) => 1,
         Statement::Define(_, object, initialiser) => {
-            plus(1, initialises_size(scope, *object, initialiser))
+            plus(1, initialises_size(program, function, *object, initialiser))
         }
-        Statement::Block(_, _, _, all) => plus(1, statements_size(scope, all)),
+        Statement::Block(_, _, _, all) => plus(1, statements_size(program, function, all)),
         Statement::If(_, e, a) => plus(
             1,
-            plus(value_size(e, Shape::Jump), statement_size(scope, a)),
+            plus(
+                value_size(e, Shape::Jump),
+                statement_size(program, function, a),
+            ),
         ),
         Statement::IfElse(_, e, a, b) => plus(
             1,
             plus(
                 value_size(e, Shape::Jump),
-                plus(statement_size(scope, a), plus(1, statement_size(scope, b))),
+                plus(
+                    statement_size(program, function, a),
+                    plus(1, statement_size(program, function, b)),
+                ),
             ),
         ),
-        Statement::Switch(_, _, e, first, count, all) => switch_size(scope, e, *first, *count, all),
+        Statement::Switch(_, _, e, first, count, all) => switch_size(
+            program, function, e, *first, *count, all,
+        ),
         Statement::Case(_, _) => 1,
         Statement::Default(_) => 1,
         Statement::While(_, e, a) => plus(
             1,
-            plus(statement_size(scope, a), value_size(e, Shape::Jump)),
+            plus(
+                statement_size(program, function, a),
+                value_size(e, Shape::Jump),
+            ),
         ),
         Statement::DoWhile(_, a, e) => plus(
             1,
-            plus(statement_size(scope, a), value_size(e, Shape::Jump)),
+            plus(
+                statement_size(program, function, a),
+                value_size(e, Shape::Jump),
+            ),
         ),
         Statement::For(_, declared, control, a) => for_size(
-            scope,
+            program,
+            function,
             declared,
             &control.start,
             &control.test,

@@ -1,6 +1,6 @@
 //! The code of elements of arrays that become zero or characters (6.7.9p14, p21): a turn of a loop for each.
 
-ghost use Rattle.std.specs.Prelude.{◌≡◌, ◌≤◌, ◌^◌, IfOk, IfErr, OnOk};
+ghost use Rattle.std.specs.Prelude.{◌≡◌, ◌<◌, ◌≤◌, ◌^◌, OnOk};
 ghost use Rattle.lower_correct.specs.Initialisers as relation;
 ghost use Rattle.lower_ops.specs.layer.Parts.{Wrote};
 ghost use Rattle.tac.specs.inside.FirstSizes as size;
@@ -28,17 +28,6 @@ pub(crate) fn element_at(start: Start) -> Place
         number: start.number,
         element: start.element,
     }
-}
-
-/// A count that an instruction names.
-fn limit_of(count: usize) -> Result<u32, AllocError>
-    ensures gives { IfOk result (λ n. n ≡ count) }
-    ensures refuses { IfErr result (λ _. 2 ^ 32 ≤ count) }
-{
-    let Ok(limit) = u32::try_from(count) else {
-        return Err(AllocError);
-    };
-    Ok(limit)
 }
 
 // ---- loops
@@ -173,17 +162,18 @@ fn put_begins(code: &mut Code, start: Start) -> Result<(), AllocError>
 }
 
 fn put_clears_by_loop(code: &mut Code, start: Start, count: usize) -> Result<(), AllocError>
-    requires { 2 ≤ count }
+    requires more { 2 ≤ count }
+    requires small { count < 2 ^ 32 }
     ensures { OnOk result (WroteClears count start code.old.list.items code.new.list.items) }
 {
-    let limit = limit_of(count)?;
     put_begins(code, start)?;
-    put_clears_to(code, start.element, limit)?;
+    put_clears_to(code, start.element, count as u32)?;
     Ok(())
 }
 
 /// `count` elements become zero (6.7.9p21).
 pub(crate) fn put_clears(code: &mut Code, start: Start, count: usize) -> Result<(), AllocError>
+    requires { count < 2 ^ 32 }
     ensures { OnOk result (WroteClears count start code.old.list.items code.new.list.items) }
 {
     if count == 0 {
@@ -227,7 +217,7 @@ pub(crate) fn put_copies(
 ) -> Result<(), AllocError>
     ensures { OnOk result (Wrote (λ w p q. relation.Copies w start.element start.array start.number literal count characters p q) (size.copies_size count characters) code.old.list.items code.new.list.items) }
 {
-    let copied = limit_of((count as usize).min(characters))?;
+    let copied = (count as usize).min(characters) as u32;
     put(code, Instruction::Nothing)?;
     put_begins(code, start)?;
     put(

@@ -4,8 +4,7 @@ ghost use Rattle.std.specs.Prelude.{◌≡◌, ◌*◌, ◌-◌, ◌^◌, min, m
 ghost use Rattle.ctypes.specs.declared.types.IntType.{IntType};
 ghost use Rattle.typing_spec.specs.Types as type;
 ghost use Rattle.csem.specs.Statements as meaning;
-ghost use Rattle.typed_ast.specs.View.{value_of, initialiser_of, initialisers_of};
-ghost use Rattle.tac.specs.inside.Scopes.{program_in, function_in};
+ghost use Rattle.typed_ast.specs.View.{program_of, function_of, value_of, initialiser_of, initialisers_of};
 ghost use Rattle.tac.specs.inside.FirstSizes as size;
 
 use ctypes::IntType;
@@ -14,9 +13,9 @@ use lower_exprs::sizes::{converted_size, value_size};
 use lower_ops::bools::either;
 use lower_ops::form_sizes::{plus, puts_size};
 use lower_ops::modes::{Shape, shape_for};
-use lower_ops::row_sizes::Scope;
+use lower_ops::row_sizes::elements_counted;
 use lower_ops::spots::cuts_for;
-use typed_ast::{Initialiser, Value};
+use typed_ast::{Function, Initialiser, Program, Value};
 
 // ---- the parameters of the sizes
 
@@ -45,16 +44,6 @@ pub(crate) fn characters_of(literals: &[Vec<u8>], number: usize) -> usize
     match literals.get(number) {
         None => 0,
         Some(text) => text.len(),
-    }
-}
-
-/// How many elements an array of these lengths has, as far as a word counts.
-fn elements_counted(lengths: &[u32]) -> usize
-    ensures { result ≡ min (type.elements_in lengths.now) (2 ^ 64 - 1) }
-{
-    match lengths.split_first() {
-        None => 1,
-        Some((first, rest)) => (*first as usize).saturating_mul(elements_counted(rest)),
     }
 }
 
@@ -170,11 +159,16 @@ fn first_size(literals: &[Vec<u8>], lengths: &[u32], initialiser: &Initialiser) 
 }
 
 /// The instructions of the first value of an object.
-pub(crate) fn initialises_size(scope: &Scope<'_>, object: usize, initialiser: &Initialiser) -> usize
-    ensures { result ≡ size.initialises_size (program_in scope.now).literals (slice_get (function_in scope.now).objects object) (initialiser_of initialiser.now) }
+pub(crate) fn initialises_size(
+    program: &Program,
+    function: &Function,
+    object: usize,
+    initialiser: &Initialiser,
+) -> usize
+    ensures { result ≡ size.initialises_size (program_of program.now).literals (slice_get (function_of function.now).objects object) (initialiser_of initialiser.now) }
 {
-    match scope.function.objects.get(object) {
+    match function.objects.get(object) {
         None => 0,
-        Some(found) => first_size(&scope.program.literals, &found.lengths, initialiser),
+        Some(found) => first_size(&program.literals, &found.lengths, initialiser),
     }
 }

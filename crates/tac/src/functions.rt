@@ -1,11 +1,14 @@
 //! The code of functions.
 
-ghost use Rattle.std.specs.Prelude.{suc, ◌≡◌, [], map, length, OnOk, IfOk};
+ghost use Rattle.std.specs.Prelude.{ℕ, suc, ◌≡◌, true, [], map, length, Some, slice_get, OnOk, IfOk};
+ghost use Rattle.std.specs.List.{list_all};
+ghost use Rattle.lower_wf.specs.Asked.{is_sized, types_are_sized};
 ghost use Rattle.typed_ast.specs.View.{parameter_type_of, function_of, program_of};
 ghost use Rattle.tac_code.specs.Lowered.{kind_of};
 ghost use Rattle.tac_code.specs.Code as three_address;
 ghost use Rattle.lower_correct.specs.Bodies as relation;
 ghost use Rattle.lower_ops.specs.layer.Parts.{Wrote};
+ghost use Rattle.lower_ops.specs.layer.Small.{RowsAreSmall};
 ghost use Rattle.tac.specs.layer.Functions.{IsBodyOf, IsFunctionWith};
 ghost use Rattle.tac.specs.inside.Few.{AreFew};
 
@@ -14,7 +17,7 @@ use crate::copies::copied_objects;
 use crate::counts::{most_slots, most_temporaries};
 use crate::statements::put_statement;
 use lower_ops::form_sizes::plus;
-use lower_ops::row_sizes::Scope;
+use lower_ops::scopes::Scope;
 use lower_ops::writing::{Code, ahead, put};
 use std::alloc::{AllocError, Global};
 use tac_code::{Instruction, Operand, Parameter, Target};
@@ -54,7 +57,10 @@ fn put_body(scope: &Scope<'_>, code: &mut Code, is_main: bool) -> Result<(), All
     ensures { OnOk result (IsBodyOf (program_of scope.now.program.now) is_main (function_of scope.now.function.now) code.new.list.items) }
 {
     put_idles(code, &scope.function.function_type.parameters)?;
-    let end = ahead(code, statement_size(scope, &scope.function.body));
+    let end = ahead(
+        code,
+        statement_size(scope.program, scope.function, &scope.function.body),
+    );
     let back = plus(end, 1);
     put_statement(scope, code, &scope.function.body, end, end, back)?;
     put_closing(code, is_main)?;
@@ -67,7 +73,10 @@ fn room_for(scope: &Scope<'_>) -> usize {
     let parameters = scope.function.function_type.parameters.len();
     plus(
         parameters,
-        plus(3, statement_size(scope, &scope.function.body)),
+        plus(
+            3,
+            statement_size(scope.program, scope.function, &scope.function.body),
+        ),
     )
 }
 
@@ -77,6 +86,8 @@ fn body_of(
     function: &Function,
     is_main: bool,
 ) -> Result<Vec<Instruction>, AllocError>
+    requires rows { RowsAreSmall (program_of program.now) (function_of function.now) }
+    requires objects { list_all is_sized (function_of function.now).objects ≡ true }
     ensures body { IfOk result (λ code. IsBodyOf (program_of program.now) is_main (function_of function.now) code.items) }
     ensures few { IfOk result (λ code. AreFew code.items) }
 {
@@ -107,13 +118,15 @@ fn kinds(alloc: Global, parameters: &[ParameterType]) -> Result<Vec<Parameter>, 
     Ok(list)
 }
 
-/// The three-address code of a function of a program.
+/// The three-address code of a function of a program, whose objects have elements, and not more bytes than an object may have.
 pub fn lower_function(
     alloc: Global,
     program: &Program,
     function: &Function,
     is_main: bool,
 ) -> Result<tac_code::Function, AllocError>
+    requires sized { types_are_sized (program_of program.now) ≡ true }
+    requires own { (k : ℕ) × (slice_get (program_of program.now).functions k ≡ Some (function_of function.now)) }
     ensures { IfOk result (λ g. IsFunctionWith (program_of program.now) is_main (function_of function.now) (three_address.function_of g)) }
 {
     let code = body_of(alloc, program, function, is_main)?;

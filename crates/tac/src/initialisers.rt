@@ -1,7 +1,9 @@
 //! The code of initialisers (6.7.9).
 
-ghost use Rattle.std.specs.Prelude.{◌≡◌, ◌+◌, map, Some, slice_get, IfOk, OnOk};
+ghost use Rattle.std.specs.Prelude.{◌≡◌, ◌<◌, ◌+◌, ◌*◌, ◌^◌, true, map, Some, slice_get, IfOk, OnOk};
 ghost use Rattle.typed_ast.specs.View.{value_of, object_type_of, initialiser_of, initialisers_of};
+ghost use Rattle.typing_spec.specs.Types.{elements_in};
+ghost use Rattle.lower_wf.specs.Asked.{is_sized};
 ghost use Rattle.lower_correct.specs.Bodies as relation;
 ghost use Rattle.lower_correct.specs.Initialisers as stretches;
 ghost use Rattle.lower_ops.specs.layer.Parts.{Wrote};
@@ -19,7 +21,8 @@ use lower_exprs::values::{put_converted, put_rested};
 use lower_ops::bools::either;
 use lower_ops::memory::put_stored;
 use lower_ops::modes::Mode;
-use lower_ops::row_sizes::{Scope, elements, times};
+use lower_ops::row_sizes::elements_counted;
+use lower_ops::scopes::Scope;
 use lower_ops::spots::cuts;
 use lower_ops::writing::{Code, put};
 use std::alloc::AllocError;
@@ -115,9 +118,12 @@ fn put_fill_all(
     lengths: &[u32],
     start: Start,
 ) -> Result<(), AllocError>
+    requires some { 0 < elements_in lengths.now }
+    requires row { elements_in lengths.now < 2 ^ 32 }
+    requires whole { count * elements_in lengths.now < 2 ^ 32 }
     ensures { OnOk result (WroteFillAll (program_in scope.now) (function_in scope.now) (initialisers_of (map initialiser_of all.now)) count lengths.now start code.old.list.items code.new.list.items) }
 {
-    let row = elements(lengths)?;
+    let row = elements_counted(lengths);
     let mut next = start;
     let mut left = count;
     for initialiser in all {
@@ -125,7 +131,7 @@ fn put_fill_all(
         next = ahead_of(next, row)?;
         left = left.saturating_sub(1);
     }
-    let rest = times(row, left)?;
+    let rest = (left as usize) * row;
     put_clears(code, next, rest)?;
     Ok(())
 }
@@ -139,6 +145,8 @@ fn put_fills(
     lengths: &[u32],
     start: Start,
 ) -> Result<(), AllocError>
+    requires some { 0 < elements_in lengths.now }
+    requires small { elements_in lengths.now < 2 ^ 32 }
     ensures { OnOk result (WroteFills (program_in scope.now) (function_in scope.now) (initialiser_of initialiser.now) lengths.now start code.old.list.items code.new.list.items) }
 {
     let count = first_length(lengths);
@@ -172,6 +180,7 @@ fn put_object(
     object: usize,
     found: &ObjectType,
 ) -> Result<(), AllocError>
+    requires { is_sized (object_type_of found.now) ≡ true }
     ensures { OnOk result (WroteInitialises (program_in scope.now) (function_in scope.now) (Some (object_type_of found.now)) (initialiser_of initialiser.now) object code.old.list.items code.new.list.items) }
 {
     if found.lengths.is_empty() {

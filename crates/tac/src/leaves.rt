@@ -13,7 +13,7 @@ use crate::initialisers::{all_free, put_first};
 use ctypes::IntType;
 use lower_exprs::values::{put_converted, put_value};
 use lower_ops::modes::Mode;
-use lower_ops::row_sizes::Scope;
+use lower_ops::scopes::Scope;
 use lower_ops::writing::{Code, put};
 use std::alloc::AllocError;
 use tac_code::{Instruction, Target};

@@ -5,7 +5,6 @@ use lower_exprs::operands::waits_for_objects;
 use lower_exprs::sizes::value_size;
 use lower_ops::form_sizes::plus;
 use lower_ops::modes::{Shape, shape_for};
-use lower_ops::row_sizes::Scope;
 use srcset::Pos;
 use std::alloc::{AllocError, Global};
 use typed_ast::{ForControl, Function, Place, Program, Statement, Value};
@@ -26,6 +25,13 @@ pub struct CodeScope {
     /// The number of its first instruction, and that after its last.
     pub start: usize,
     pub end: usize,
+}
+
+/// The program and the function whose code is counted.
+#[derive(Clone, Copy)]
+struct Source<'p> {
+    program: &'p Program,
+    function: &'p Function,
 }
 
 /// The starts and scopes found in a function. A scope comes before those within it.
@@ -92,7 +98,7 @@ fn place_of_object(place: &Place) -> Pos {
 /// A `for` (6.8.5.3), from after its first instruction on.
 #[cycle(code_starts)]
 fn put_for(
-    scope: &Scope<'_>,
+    source: &Source<'_>,
     found: &mut Found,
     place: Pos,
     declared: &[Statement],
@@ -101,9 +107,9 @@ fn put_for(
     at: usize,
 ) -> Result<usize, AllocError> {
     let number = open_scope(found, declared_object(declared), declared.len(), at)?;
-    let start = put_statements(scope, found, declared, at)?;
+    let start = put_statements(source, found, declared, at)?;
     let jump = plus(start, effects_size(&control.start));
-    let step = put_statement(scope, found, body, plus(jump, 1))?;
+    let step = put_statement(source, found, body, plus(jump, 1))?;
     put_start(found, place, step)?;
     let test = plus(step, effects_size(&control.step));
     let behind = plus(test, repeats_size(&control.test));
@@ -114,14 +120,14 @@ fn put_for(
 /// A body followed by its test (6.8.5.1, 6.8.5.2).
 #[cycle(code_starts)]
 fn put_loop(
-    scope: &Scope<'_>,
+    source: &Source<'_>,
     found: &mut Found,
     place: Pos,
     test: &Value,
     body: &Statement,
     at: usize,
 ) -> Result<usize, AllocError> {
-    let behind = put_statement(scope, found, body, at)?;
+    let behind = put_statement(source, found, body, at)?;
     put_start(found, place, behind)?;
     Ok(plus(behind, value_size(test, Shape::Jump)))
 }
@@ -129,7 +135,7 @@ fn put_loop(
 /// Consecutive statements, from the instruction `at` on. Returns the number of the instruction after them.
 #[cycle(code_starts)]
 fn put_statements(
-    scope: &Scope<'_>,
+    source: &Source<'_>,
     found: &mut Found,
     all: &[Statement],
     at: usize,
@@ -137,8 +143,8 @@ fn put_statements(
     match all.split_first() {
         None => Ok(at),
         Some((statement, more)) => {
-            let behind = put_statement(scope, found, statement, at)?;
-            put_statements(scope, found, more, behind)
+            let behind = put_statement(source, found, statement, at)?;
+            put_statements(source, found, more, behind)
         }
     }
 }
@@ -146,7 +152,7 @@ fn put_statements(
 /// The statements of a block, from the instruction `at` on; its objects are `count` from `first` on, and its code begins at `start`.
 #[cycle(code_starts)]
 fn put_block(
-    scope: &Scope<'_>,
+    source: &Source<'_>,
     found: &mut Found,
     block: (usize, usize, usize),
     all: &[Statement],
@@ -154,7 +160,7 @@ fn put_block(
 ) -> Result<usize, AllocError> {
     let (first, count, start) = block;
     let number = open_scope(found, first, count, start)?;
-    let behind = put_statements(scope, found, all, at)?;
+    let behind = put_statements(source, found, all, at)?;
     close_scope(found, number, behind);
     Ok(behind)
 }
@@ -162,7 +168,7 @@ fn put_block(
 /// A statement whose code begins at the instruction `at`. Returns the number of the instruction after it.
 #[cycle(code_starts)]
 fn put_statement(
-    scope: &Scope<'_>,
+    source: &Source<'_>,
     found: &mut Found,
     statement: &Statement,
     at: usize,
@@ -172,42 +178,45 @@ fn put_statement(
     let next = plus(at, 1);
     match statement {
         Statement::Block(_, first, count, all) => {
-            put_block(scope, found, (*first, *count, at), all, next)
+            put_block(source, found, (*first, *count, at), all, next)
         }
         Statement::If(_, e, a) => {
-            put_statement(scope, found, a, plus(next, value_size(e, Shape::Jump)))
+            put_statement(source, found, a, plus(next, value_size(e, Shape::Jump)))
         }
         Statement::IfElse(_, e, a, b) => {
             let test = plus(next, value_size(e, Shape::Jump));
-            let behind = put_statement(scope, found, a, test)?;
-            put_statement(scope, found, b, plus(behind, 1))
+            let behind = put_statement(source, found, a, test)?;
+            put_statement(source, found, b, plus(behind, 1))
         }
         Statement::Switch(_, _, e, first, count, all) => {
             let value = value_size(e, shape_for(waits_for_objects(e, *first, *count)));
             let tests = plus(plus(next, value), 1);
             let inside = plus(tests, tests_size(all));
-            put_block(scope, found, (*first, *count, inside), all, inside)
+            put_block(source, found, (*first, *count, inside), all, inside)
         }
-        Statement::While(_, e, a) => put_loop(scope, found, place, e, a, next),
+        Statement::While(_, e, a) => put_loop(source, found, place, e, a, next),
         Statement::DoWhile(_, a, e) => {
             let test = place_of(e).unwrap_or(place);
-            put_loop(scope, found, test, e, a, next)
+            put_loop(source, found, test, e, a, next)
         }
         Statement::For(_, declared, control, a) => {
-            put_for(scope, found, place, declared, control, a, next)
+            put_for(source, found, place, declared, control, a, next)
         }
-        _ => Ok(plus(at, statement_size(scope, statement))),
+        _ => Ok(plus(
+            at,
+            statement_size(source.program, source.function, statement),
+        )),
     }
 }
 
 fn found_in(alloc: Global, program: &Program, function: &Function) -> Result<Found, AllocError> {
-    let scope = Scope { program, function };
+    let source = Source { program, function };
     let mut found = Found {
         starts: Vec::new(alloc),
         scopes: Vec::new(alloc),
     };
     let idles = plus(1, function.function_type.parameters.len());
-    put_statement(&scope, &mut found, &function.body, idles)?;
+    put_statement(&source, &mut found, &function.body, idles)?;
     Ok(found)
 }
 

@@ -21,7 +21,7 @@ use lower_exprs::sizes::value_size;
 use lower_exprs::values::put_value;
 use lower_ops::form_sizes::plus;
 use lower_ops::modes::{Mode, Shape, mode_of, shape_for};
-use lower_ops::row_sizes::Scope;
+use lower_ops::scopes::Scope;
 use lower_ops::writing::{Code, ahead, put};
 use std::alloc::AllocError;
 use tac_code::Instruction;
@@ -58,7 +58,13 @@ fn put_if(
     ensures { OnOk result (WroteStatement (program_in scope.now) (function_in scope.now) (typed.branch (value_of e.now) (statement_of a.now)) out again back code.old.list.items code.new.list.items) }
 {
     let test = value_size(e, Shape::Jump);
-    let end = ahead(code, plus(1, plus(test, statement_size(scope, a))));
+    let end = ahead(
+        code,
+        plus(
+            1,
+            plus(test, statement_size(scope.program, scope.function, a)),
+        ),
+    );
     put(code, Instruction::Nothing)?;
     put_value(scope, code, e, Mode::If(false, end), all_free())?;
     put_statement(scope, code, a, out, again, back)?;
@@ -79,8 +85,8 @@ fn put_if_else(
     ensures { OnOk result (WroteStatement (program_in scope.now) (function_in scope.now) (typed.branches (value_of e.now) (statement_of a.now) (statement_of b.now)) out again back code.old.list.items code.new.list.items) }
 {
     let test = value_size(e, Shape::Jump);
-    let first = statement_size(scope, a);
-    let second = statement_size(scope, b);
+    let first = statement_size(scope.program, scope.function, a);
+    let second = statement_size(scope.program, scope.function, b);
     let other = ahead(code, plus(1, plus(test, plus(first, 1))));
     let end = ahead(code, plus(1, plus(test, plus(first, plus(1, second)))));
     put(code, Instruction::Nothing)?;
@@ -101,7 +107,7 @@ fn put_while(
 ) -> Result<(), AllocError>
     ensures { OnOk result ((out again : ℕ) → WroteStatement (program_in scope.now) (function_in scope.now) (typed.while (value_of e.now) (statement_of a.now)) out again back code.old.list.items code.new.list.items) }
 {
-    let body = statement_size(scope, a);
+    let body = statement_size(scope.program, scope.function, a);
     let test = value_size(e, Shape::Jump);
     let top = ahead(code, 1);
     let at = ahead(code, plus(1, body));
@@ -122,7 +128,7 @@ fn put_do_while(
 ) -> Result<(), AllocError>
     ensures { OnOk result ((out again : ℕ) → WroteStatement (program_in scope.now) (function_in scope.now) (typed.do_while (statement_of a.now) (value_of e.now)) out again back code.old.list.items code.new.list.items) }
 {
-    let body = statement_size(scope, a);
+    let body = statement_size(scope.program, scope.function, a);
     let test = value_size(e, Shape::Jump);
     let top = ahead(code, 1);
     let at = ahead(code, plus(1, body));
@@ -148,12 +154,21 @@ fn put_for(
     ensures { OnOk result ((out again : ℕ) → WroteStatement (program_in scope.now) (function_in scope.now) (typed.for (statements_of (map statement_of declared.now)) (option_value start.now) (option_value test.now) (option_value step.now) (statement_of a.now)) out again back code.old.list.items code.new.list.items) }
 {
     let top = ahead(code, before_body(scope, declared, start, 1));
-    let body = plus(1, statement_size(scope, a));
+    let body = plus(1, statement_size(scope.program, scope.function, a));
     let next = ahead(code, before_body(scope, declared, start, body));
-    let behind = plus(1, plus(statement_size(scope, a), effects_size(step)));
+    let behind = plus(
+        1,
+        plus(
+            statement_size(scope.program, scope.function, a),
+            effects_size(step),
+        ),
+    );
     let at = ahead(code, before_body(scope, declared, start, behind));
     let rest = plus(effects_size(step), repeats_size(test));
-    let all = plus(1, plus(statement_size(scope, a), rest));
+    let all = plus(
+        1,
+        plus(statement_size(scope.program, scope.function, a), rest),
+    );
     let end = ahead(code, before_body(scope, declared, start, all));
     put(code, Instruction::Nothing)?;
     put_statements(scope, code, declared, end, end, back)?;
@@ -177,7 +192,7 @@ fn before_body(
     plus(
         1,
         plus(
-            statements_size(scope, declared),
+            statements_size(scope.program, scope.function, declared),
             plus(effects_size(start), more),
         ),
     )
@@ -211,7 +226,10 @@ fn put_switch(
     let value = value_size(e, shape_for(operand));
     let tests = tests_size(all);
     let body = ahead(code, plus(1, plus(value, plus(1, tests))));
-    let behind = plus(1, plus(tests, statements_size(scope, all)));
+    let behind = plus(
+        1,
+        plus(tests, statements_size(scope.program, scope.function, all)),
+    );
     let end = ahead(code, plus(1, plus(value, behind)));
     put(code, Instruction::Nothing)?;
     put_value(scope, code, e, mode_of(operand), all_free())?;

@@ -10,7 +10,7 @@ ghost use Rattle.tac.specs.inside.Written.{WroteTests};
 use crate::block_sizes::statement_size;
 use lower_ops::form_sizes::plus;
 use lower_ops::instructions::branch;
-use lower_ops::row_sizes::Scope;
+use lower_ops::scopes::Scope;
 use lower_ops::words::word_of;
 use lower_ops::writing::{Code, put};
 use std::alloc::AllocError;
@@ -46,7 +46,7 @@ pub(crate) fn put_tests(
             Ok(())
         }
         Some((statement, more)) => {
-            let next = plus(at, statement_size(scope, statement));
+            let next = plus(at, statement_size(scope.program, scope.function, statement));
             match label_at(statement) {
                 None => {
                     put_tests(scope, code, operand, more, next, other)?;

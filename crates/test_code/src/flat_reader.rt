@@ -57,6 +57,7 @@ fn next_function(alloc: Global, words: &mut Words<'_>) -> Function {
         resident: next_place(words),
         area: next_place(words),
         outgoing: next_place(words),
+        gives: true,
     }
 }
 

@@ -22,6 +22,12 @@ CC = os.path.abspath(sys.argv[1])
 counted, PROGRAM = harness.Current(), harness.Program(CC)
 MAIN = 'int main(void) { return 3; }\n'
 NO_OBJECTS = 'error: there are no object files: a program is one unit; write zkc build MAIN -I DIR -o OUT, and in MAIN #include of the others\n'
+NO_WRAP = 'error: signed arithmetic does not wrap: compute with unsigned ints, and leave the word out\n'
+NO_RULE_HERE = 'error: only zkc build writes a rule for make: leave -MD and its like out\n'
+ONE_ERROR = 'error: write --warn=NAME --werror for a warning that is an error\n'
+ONE_TEXT = 'error: -E and -S write one file: leave --listing and the rule for make out\n'
+ONE_INPUT = 'error: - is standard input, and stands for MAIN alone\n'
+RULE_TAKEN = 'error: the file of the rule is OUT, the listing or one of the files that are read: write -MF FILE\n'
 NO_LINKER = 'error: nothing is linked: leave the word out\n'
 OTHER_MACHINE = 'error: the code is for RV32IM with the calling convention ILP32: leave the word out\n'
 ONLY_WITH_M = 'error: the code has the instructions of RV32M, so it is for a core that has them: write -march=rv32im\n'
@@ -63,7 +69,8 @@ def habits():
         ('build -march=rv32im -mabi=ilp32 main.c -o out', 3), ('build -march=rv32imac_zicsr main.c -o out', 3), ('-march=rv32gc main.c -o out', 3),
         ('-x c main.c -o out', 3), ('-xc main.c -o out', 3), ('-funsigned-char -finput-charset=UTF-8 -mlittle-endian main.c -o out', 3), ('build -ffreestanding -nostdlib -static -fno-common main.c -o out', 3),
         ('build -pipe -w -v main.c -o out', 3), ('-DN=4 n.c -o out', 4), ('build n.c -D N=5 -o out', 5), ('build n.c -DN -o out', 1), ('build n.c -o out -UM', 9),
-        ('build n.c -DN=6 -UN -o out', 9), ('build n.c -UN -DN=6 -o out', 9), ('build twice.c -DTWICE(x)=((x)+(x)) -o out', 8),
+        ('build n.c -DN=6 -UN -o out', 9), ('build n.c -UN -DN=6 -o out', 6), ('build n.c -DN=6 -U N -D N=5 -o out', 5), ('build n.c -UN -DN=6 -UN -o out', 9),
+        ('-pthread -static-libgcc --specs=nano.specs -specs=nosys.specs -no-pie -trigraphs -undef main.c -o out', 3), ('build twice.c -DTWICE(x)=((x)+(x)) -o out', 8), ('build n.c -DN=/*one*/7 -o out', 7), ('build n.c -DN=sizeof"/*" -o out', 3),
         ('build -I. in.c -o out', 7), ('build -I . in.c -o out', 7), ('build -Iinclude far.c -o out', 11), ('build -isystem include far.c -o out', 11),
         ('build -iquote include far.c -o out', 11), ('build -I none -I include far.c -o out', 11), ('build in.c near.h -o out', 7),
         ('build --stack 8K main.c -o out', 3), ('build --stack 1M main.c -o out', 3), ('build --stack=65536 main.c -o out', 3),
@@ -79,13 +86,28 @@ def habits():
         ('-mbig-endian main.c -o out', 'error: the code is for a little-endian machine: leave the word out\n'), ('-fsigned-char main.c -o out', UNSIGNED_CHAR),
         ('-fno-unsigned-char main.c -o out', UNSIGNED_CHAR), ('-fshort-enums main.c -o out', 'error: an enumeration is an int: leave the word out\n'),
         ('-ftrapv main.c -o out', 'error: an overflow does not stop a program: zkc interp MAIN tells each undefined act at its line\n'),
-        ('-finput-charset=utf-16 main.c -o out', OTHER_CHARSET),
+        ('-finput-charset=utf-16 main.c -o out', OTHER_CHARSET), ('-fwrapv main.c -o out', NO_WRAP), ('interp -fwrapv main.c', NO_WRAP), ('verify -fno-strict-overflow main.c', NO_WRAP),
+        ('-static-pie main.c -o out', NO_LINKER), ('--specs=rdimon.specs main.c -o out', NO_LINKER),
+        ('-Wp,-MD,x.d main.c -o out', 'error: write the options that follow -Wp, as words of their own\n'), ('-Xlinker -s main.c -o out', NO_LINKER),
+        ('-E -P main.c', 'error: zkc pp MAIN prints the tokens without markers: write it in place of -E -P\n'),
+        ('build main.c -o out -isystem', 'error: the folder is missing: -isystem DIR\n'), ('pp main.c -iquote', 'error: the folder is missing: -iquote DIR\n'),
+        ('check main.c -idirafter', 'error: the folder is missing: -idirafter DIR\n'), ('build main.c -o out -MF', 'error: the file of the rule is missing: -MF FILE\n'),
+        ('build main.c -o out -MT', 'error: the target of the rule is missing: -MT NAME or -MQ NAME\n'),
+        ('verify -MD main.c', NO_RULE_HERE), ('check -MMD -MF x.d main.c', NO_RULE_HERE), ('interp -MP main.c', NO_RULE_HERE), ('pp -MT x main.c', NO_RULE_HERE),
+        ('check -Werror=unused-parameter main.c', ONE_ERROR), ('check -Werror -Wno-error=shadow main.c', ONE_ERROR),
+        ('-E main.c -MD -MF dep.d', ONE_TEXT), ('-E main.c --listing l', ONE_TEXT), ('build -S main.c --listing l', ONE_TEXT), ('build -S main.c -MMD', ONE_TEXT),
+        ('build main.c -MD -MF one -o one', RULE_TAKEN), ('build main.c -MD -MF ./one -o one', RULE_TAKEN), ('build main.c -MD -o one.d', RULE_TAKEN),
+        ('build main.c -MD -MF l --listing l -o one', RULE_TAKEN), ('build main.c -MD -MF main.c -o one', RULE_TAKEN), ('build in.c -I. -MD -MF near.h -o one', RULE_TAKEN),
+        ('build main.c -MD -MF - -o -', RULE_TAKEN), ('build main.c --listing ./one -o one', 'error: the listing is OUT or one of the files that are read\n'),
+        ('build main.c - -o out', ONE_INPUT), ('build - - -o out', ONE_INPUT), ('pp main.c -', ONE_INPUT),
         ('-include near.h main.c -o out', 'error: write the #include in MAIN\n'), ('main.c', 'error: the file to write is missing: -o OUT\n'),
         ('build main.c --stack 5000 -o out', 'error: the bytes of the stack are no multiple of 4096 from 4096 to 16777216, as 65536, 64K or 1M\n'),
         ('build main.c --stack 32M -o out', 'error: the bytes of the stack are no multiple of 4096 from 4096 to 16777216, as 65536, 64K or 1M\n'),
         ('build main.c -D +=2 -o out', 'error: a macro is written -D NAME, -D NAME=VALUE or -U NAME, on one line\n'),
         ('build main.c -D A=\\ -o out', 'error: a macro is written -D NAME, -D NAME=VALUE or -U NAME, on one line\n'),
         ('build main.c -D A=2??/ -o out', 'error: a macro is written -D NAME, -D NAME=VALUE or -U NAME, on one line\n'),
+        ('build main.c -DA=1/* -o out', 'error: a macro is written -D NAME, -D NAME=VALUE or -U NAME, on one line\n'),
+        ('build main.c -DA=/**/1/*/ -o out', 'error: a macro is written -D NAME, -D NAME=VALUE or -U NAME, on one line\n'),
         ('build main.c -U A=2 -o out', 'error: a macro is written -D NAME, -D NAME=VALUE or -U NAME, on one line\n'),
         ('run out -I include', 'error: --stack, -I, -D and -U are for --map here\n'),
     ]
@@ -103,8 +125,11 @@ def habits():
         counted.expect('nothing more is written', sorted(os.listdir(work)), before)
         version = zkc(work, '--version')
         put(work, idle_c='int f(int a) { return 1; }\nint main(void) { return f(2); }\n')
-        for word, status in (('-Werror', 1), ('--werror', 1), ('-Wall', 0)):
-            counted.expect('check ' + word, zkc(work, 'check', word, 'idle.c')[0], status)
+        for word, status in (('-Werror', 1), ('--werror', 1), ('-Wall', 0), ('-Werror -Werror', 1), ('-Werror -Wno-unused-parameter', 0), ('-Werror -w', 0), ('-w -Werror --warn=all', 0),
+                             ('-Werror -Wno-unused-variable', 1), ('-Werror -Wno-pointer-sign', 1), ('-Werror=implicit-int --werror', 1)):
+            counted.expect('check ' + word, zkc(work, 'check', *word.split(), 'idle.c')[0], status)
+        counted.expect('check -Wno-unused-parameter', zkc(work, 'check', '-Wno-unused-parameter', 'idle.c'), (0, '', ''))
+        counted.expect('help does not show the words of others', [word for word in ('folder-', 'no-warn', 'depend-quoted') if word in zkc(work, 'help', 'build')[1] + zkc(work, 'help', 'check')[1]], [])
         counted.expect('--version', (version[0], version[2], version[1][:4]), (0, '', 'zkc '))
         counted.expect('-v', zkc(work, '-v'), version)
         counted.expect('help', zkc(work, 'help'), zkc(work, '--help'))
@@ -171,13 +196,22 @@ def includes():
         # the same file by two ways has one name
         put(work, lib__one_h='#include "../lib/y.h"\n#include "y.h"\n', lib__y_h='#define Y 1\n', src__main_c='#include "one.h"\nint main(void) { return Y; }\n')
         counted.expect('two names of one file', zkc(work, 'build', '-Ilib', 'src/main.c', '-o', 'out')[0], 0)
+        # of several folders that have the file the one that gcc takes, whatever their order among the words
+        put(work, order_c='#include "o.h"\nint main(void) { return O; }\n', q__o_h='#define O 1\n', i__o_h='#define O 2\n', s__o_h='#define O 3\n', a__o_h='#define O 4\n')
+        for words, status in (('-idirafter a -isystem s -I i -iquote q', 1), ('-idirafter a -isystem s -I i', 2), ('-idirafter a -isystem s', 3), ('-idirafter a', 4), ('-isystem s -isystem i', 3)):
+            counted.expect(words, zkc(work, 'interp', *words.split(), 'order.c')[0], status)
         # a file without token lines is told where it is included
         put(work, src__main_c='#include "open.h"\nint main(void) { return 0; }\n', lib__open_h='/* open\n')
         counted.expect('an open comment', zkc(work, 'build', '-Ilib', 'src/main.c', '-o', 'out'), (1, '', 'open.h:1: 113 comment not closed\n'))
         # a C file among FILES that nothing includes is no part of the program
         put(work, src__main_c='int f(void);\nint main(void) { return f(); }\n', f_c='int f(void) { return 1; }\n')
         status, out, err = zkc(work, 'build', '-I.', 'src/main.c', 'f.c', '-o', 'out')
-        counted.expect('several main files', (status, err.splitlines()[0], len(err.splitlines())), (1, 'note: no file includes f.c, so it is no part of the program, which is one unit: write #include "f.c" in MAIN', 2))
+        note = 'note: no file includes f.c, so it is no part of the program, which is one unit: write #include "f.c" in MAIN'
+        counted.expect('several main files', (status, err.splitlines()[0], len(err.splitlines())), (1, note, 2))
+        put(work, one_c='int main(void) { return 4; }\n', made_c='#define F "f.c"\n#include F\nint main(void) { return f(); }\n', named_c='#include "f.c"\nint main(void) { return f(); }\n')
+        counted.expect('a further main file without -I', zkc(work, 'build', 'one.c', 'f.c', '-o', 'out'), (0, '', note + '\n'))
+        counted.expect('a further file that is included', zkc(work, 'build', 'named.c', 'f.c', '-o', 'out'), (0, '', ''))
+        counted.expect('a further file that a macro may name', zkc(work, 'build', 'made.c', 'f.c', '-o', 'out'), (0, '', ''))
 
 
 def macros():
@@ -211,8 +245,11 @@ def rules():
         counted.expect('-MF', (zkc(work, *build, '-MD', '-MF', 'x.d'), read(work, 'x.d')), ((0, '', ''), 'bin.elf: src/a.c inc/b.h\n'))
         counted.expect('-MFy.d', (zkc(work, *build, '-MMD', '-MFy.d'), read(work, 'y.d')), ((0, '', ''), 'bin.elf: src/a.c inc/b.h\n'))
         counted.expect('-MT -MP', (zkc(work, *build, '-MD', '-MT', 't', '-MP'), read(work, 'bin.d')), ((0, '', ''), 't: src/a.c inc/b.h\ninc/b.h:\n'))
-        counted.expect('-MF is a source', zkc(work, *build, '-MF', 'inc/b.h')[::2], (2, 'error: OUT is one of the files that are read\n'))
+        counted.expect('-MF is a source', zkc(work, *build, '-MF', 'inc/b.h')[::2], (2, RULE_TAKEN))
         counted.expect('the header is kept', read(work, 'inc/b.h'), '\n')
+        counted.expect('-MT twice', (zkc(work, *build, '-MD', '-MT', 'x', '-MQ', 'a b$c', '-MT', 'y z'), read(work, 'bin.d')), ((0, '', ''), 'x y z a\\ b$$c: src/a.c inc/b.h\n'))
+        counted.expect('-MQ', (zkc(work, *build, '-MD', '-MQa#b'), read(work, 'bin.d')), ((0, '', ''), 'a\\#b: src/a.c inc/b.h\n'))
+        counted.expect('of standard input', (zkc(work, 'build', '-', '-MD', '-o', 'in.elf', given=b'int main(void) { return 0; }\n'), read(work, 'in.d')), ((0, '', ''), 'in.elf:\n'))
         put_at(work, 'my file.c', '#include "d$.h"\nint main(void) { return 0; }\n')
         put_at(work, 'd$.h', '\n')
         counted.expect('names', (zkc(work, 'build', '-I.', 'my file.c', '-o', 'm', '-MD'), read(work, 'm.d')), ((0, '', ''), 'm: my\\ file.c d$$.h\n'))

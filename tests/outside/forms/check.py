@@ -221,20 +221,27 @@ def places(work):
 
 
 def after_each_pass(work, flat):
-    """Five passes; the code after the last one is flat code, and each has the functions in order. A constant that the second pass propagates and a store
-    that it drops are gone behind it, and the last one alone has words in registers."""
+    """Seven passes; the code after the last one is flat code, and each has the functions in order. A constant that the second pass propagates and a store
+    that it drops are gone behind it, and the last one alone has words in registers. Each instruction stays at its place, but in jump threading: that leaves
+    out what does nothing, and the jump over unreachable code, and a `continue` of a `while` gets the test of the loop in place of a jump to it."""
     put(work, 's.c', SMALL)
     status, out, err = cc(work, 'show', 'passes', 's.c')
     check('passes', (status, err) == (0, '') and out.startswith('passes\n'), err)
     parts = [part.split('\n', 1) for part in out.split('\n  after ')[1:]]
-    check('passes: names', [name for name, _ in parts] == ['flattening', 'constant-propagation-and-dead-stores', 'constant-hoisting', 'register-allocation-of-leaf-functions', 'register-allocation'], [name for name, _ in parts])
+    check('passes: names', [name for name, _ in parts] == ['flattening', 'constant-propagation-and-dead-stores', 'unreachable-code-elimination', 'jump-threading', 'constant-hoisting', 'register-allocation-of-leaf-functions', 'register-allocation'], [name for name, _ in parts])
     codes = [textwrap.dedent(code).strip('\n') for _, code in parts]
     check('passes: the last is flat code', codes[-1] == flat.strip('\n'), first_difference(codes[-1], flat))
     put(work, 'c.c', 'int main(void) { int a[2]; a[1] = 4; return a[1] * 8; }\n')
     codes = [part.split('\n', 1)[1] for part in cc(work, 'show', 'passes', 'c.c')[1].split('\n  after ')[1:]]
     check('passes: a subscript is computed', 'Element' in codes[0] and 'Element' not in codes[1], codes[1])
     check('passes: a product is a shift', 'Mul' in codes[0] and 'Mul' not in codes[1] and 'ShiftLeft' in codes[1], codes[1])
-    check('passes: as many instructions', len({len(code.splitlines()) for code in codes}) == 1, codes)
+    lengths = [len(code.splitlines()) for code in codes]
+    check('passes: as many instructions', len(set(lengths[:3])) == 1 and len(set(lengths[3:])) == 1, lengths)
+    check('passes: fewer instructions', lengths[3] < lengths[2], codes)
+    check('passes: a jump to what follows', 'Jump' in codes[2] and 'Jump' not in codes[3], codes[3])
+    put(work, 'd.c', 'int main(void) { int a[2], n = 9; a[0] = 0; while (n > 0) { n--; if (n == 5) continue; a[0] += n; } return a[0]; }\n')
+    codes = [part.split('\n', 1)[1] for part in cc(work, 'show', 'passes', 'd.c')[1].split('\n  after ')[1:]]
+    check('passes: the test of the loop at a continue', [code.count(' Branch ') for code in codes] == [2] * 3 + [3] * 4, codes[3])
 
 
 OPPOSITE = {'beq': 'bne', 'bne': 'beq', 'blt': 'bge', 'bge': 'blt', 'bltu': 'bgeu', 'bgeu': 'bltu'}

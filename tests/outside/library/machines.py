@@ -279,6 +279,9 @@ def explained(counted, zk, said, work):
         status, told = said('explain', 'build', *files, '--json')
         answer = zk.explain(files, 'main.c')
         counted.holds('explained: ' + name, status == 1 and told != b'' and (answer.status, answer.output) == (0, told), answer.output[:200])
+        # what one case has beside it is not there for the next
+        for file in files:
+            os.remove(os.path.join(work, file))
     fine = zk.explain({'main.c': ECHO}, 'main.c')
     counted.holds('nothing to explain', (fine.status, fine.output) == (0, b''), fine)
 

@@ -182,6 +182,9 @@ def others():
     check('an included file beside, as JSON', notes == [dict(topic='hint', text=help)], notes)
     check('an included file beside, with -I', run(beside, ['explain', 'build', 'main.c', '-I', '.'])[:3] == (0, '', ''))
     check('an included file that is nowhere', 'it lies beside' not in run({'main.c': beside['main.c']}, ['explain', 'build', 'main.c'])[2])
+    wide = {'main.c': 'int main(void) { /*' + 'a' * 4096 + '*/ return x; }\n'}
+    said = run(wide, ['explain', 'build', 'main.c'])[2]
+    check('a line that is too long to be shown', said == "main.c:1:4126: 528 undeclared name 'x'\n", said[:200])
     many = {'main.c': ''.join('int f%d(void) { return a; }\n' % n for n in range(9)) + 'int main(void) { return 0; }\n'}
     check('--errors', run(many, ['explain', 'build', 'main.c', '--errors', '3'])[2].count(' 528 ') == 3)
     mended = json.loads(run({'main.c': 'int main(void) {\n    return 0\n}\n'}, ['explain', 'build', '--json', 'main.c'])[1])['fix']
@@ -191,17 +194,30 @@ def others():
         check('no fix: ' + source, said['code'] == '233' and 'fix' not in said, said)
     said = run({'main.c': '#define H <rvio.h>\n#include H\n'}, ['explain', 'build', 'main.c'])[2]
     check('a header that a macro makes', '<NAME>' not in said, said)
+    for source in ('#if 1 + X > 2.0 (\n#endif\n', '#line N 8\n', '#define N 1\n#if (N\n#endif\n'):
+        said = json.loads(run({'main.c': source}, ['explain', 'build', '--json', 'main.c'])[1].split('\n')[0])
+        check('no column that is not sure: ' + source, said['column'] is None, said)
+    mended = json.loads(run({'main.c': '#include <a.h>\nint main(void) { return 0; }\n', 'a.h': '\n'}, ['explain', 'build', '--json', 'main.c', 'a.h'])[1])['fix']
+    check('a fix of brackets', mended == dict(line=1, column=10, end_line=1, end=15, text='"a.h"'), mended)
+    mended = json.loads(run({'main.c': 'enum { A }\nint main(void) { return A; }\n'}, ['explain', 'build', '--json', 'main.c'])[1])
+    check('a fix behind enumerators', mended['fix'] == dict(line=1, column=11, end_line=1, end=11, text=';') and len(mended['notes']) == 1, mended)
+    for source in ('int main(void) { return sizeof(); }\n', 'int main(void) { return 1 - () - 4; }\n', 'int main(void)\n'):
+        said = json.loads(run({'main.c': source}, ['explain', 'build', '--json', 'main.c'])[1].split('\n')[0])
+        check('no fix: ' + source, said['code'] == '401' and 'fix' not in said, said)
     mended = json.loads(run({'main.c': '#include <rvio.h>;\n'}, ['explain', 'build', '--json', 'main.c'])[1])['fix']
     check('a fix behind a header', mended == dict(line=1, column=18, end_line=1, end=19, text=''), mended)
     for name in ('ifdef', 'ifndef', 'undef'):
         said = run({'main.c': '#%s\n#endif\n' % name}, ['explain', 'build', 'main.c'])[2]
         check('no other directive: ' + name, ' 233 ' in said and 'did you mean' not in said, said)
     for source, code in (('int main(void) { int n = 3; for (int i = n); i < 3; i++) n++; return n; }\n', '401'),
+                         ('#define REG(n) reg_ ## n\nint reg_1;\nint main(void) { return REG(2); }\n', '528'), ('#define CAT(a, b) a##b\nint main(void) { return CAT(un, decl); }\n', '528'),
+                         ('#define F(x) (x)\nint main(void) { return F(none); }\n', '528'), ('#define F(n) f(g_ ## n)\nint f(int a) { return a; }\nint main(void) { return F(1); }\n', '528'),
+                         ('int a[4] = { 1, 2, ... };\nint main(void) { return 0; }\n', '401'), ('long long x;\nint main(void) { return 0; }\n', '511'),
                          ('int a[2];\nint main(void) { return (a[) + 1; }\n', '401'), ('int main(void) { return 0xg; }\n', '301'),
                          ('int main(void) { int alphab\\\netical = 0; return alphabeticol; }\n', '528')):
         said = json.loads(run({'main.c': source}, ['explain', 'build', '--json', 'main.c'])[1].split('\n')[0])
         check('nothing that is not sure: ' + source, said['code'] == code and not any(word in note['text'] for note in said['notes']
-              for word in ('nothing is open', 'octal', 'did you mean')), said)
+              for word in ('nothing is open', 'octal', 'did you mean', 'which the macro makes', 'functions with', 'expected `;`')), said)
     line = "main.c:1: 528 undeclared name\r\n"
     shown = on_terminal(bare, {'NO_COLOR': '1'}, ['build', 'main.c', '-o', 'out'])
     check('build on a terminal', shown == line + '    1 | int main(void) { return x; }\r\n      |                         ^\r\n', shown)

@@ -56,7 +56,7 @@ async function joined(reader) {
   reader.check('and among the tokens', (await reader.at(`all('#token-text .joined').map(one => one.textContent).join(' ')`)) === 'rv_putbyte ( 70 + 2 ) ;');
   for (let k = 0; k < 4; k++) await page.key('ArrowRight', 39);
   reader.check('arrow keys go on to the next line', (await reader.at(`all('#marks .joined').map(one => one.textContent.trim()).join()`)) === 'return 44 - 2;' || await reader.at(`document.activeElement.textContent`) === ';', await reader.at(`document.activeElement.textContent`));
-  for (const [form, code] of [['3', /Call|Put|Compute/], ['4', /Put|Compute|Move/], ['5', /addi x17,x0,64/]]) {
+  for (const [form, code] of [['3', /Call|Put|Compute/], ['5', /addi x17,x0,64/]]) {
     await page.click('tab-forms');
     await page.set('form', form);
     await reader.until(`/instruction|item/.test($('form-nodes').textContent)`);
@@ -79,7 +79,7 @@ async function listing(reader) {
   reader.check('what x5 is', /x5 is t0: a temporary/.test(await page.told('word-says')), await page.told('word-says'));
   await page.key('ArrowDown', 40);
   reader.check('an arrow goes to the next word', /^00011028:/.test(await page.told('word-name')), await page.told('word-name'));
-  reader.check('functions and labels have lines of their own', (await reader.at(`all('#listing-lines tr.label').map(one => one.textContent).join(' ')`)) === 'main: .L11058: .L11068:', await reader.at(`all('#listing-lines tr.label').map(one => one.textContent).join(' ')`));
+  reader.check('functions and labels have lines of their own', (await reader.at(`all('#listing-lines tr.label').map(one => one.textContent).join(' ')`)) === 'main: .L11058:', await reader.at(`all('#listing-lines tr.label').map(one => one.textContent).join(' ')`));
   reader.check('a call has the name of what it calls', /jalr x1,16\(x1\) {2}# main/.test(await page.told('listing-lines')));
   reader.check('a branch has its label', /beq x10,x0,\.L11058/.test(await page.told('listing-lines')));
   await reader.tick('abi', true);

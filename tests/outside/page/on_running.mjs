@@ -27,7 +27,7 @@ async function stepping(reader) {
   await page.key('F10', 121, 2);
   reader.check('to the line of the cursor', await reader.until(`/0001?1058/.test($('where').textContent)`) && (await reader.at(nextLine)) === 'return 44 - 2;', await page.told('where'));
   await page.key('F8', 119);
-  reader.check('a run ends with its status', await page.tells('status', '/After 24 instructions the program ended with status 42/'), await page.told('status'));
+  reader.check('a run ends with its status', await page.tells('status', '/After 23 instructions the program ended with status 42/'), await page.told('status'));
   await page.set('count', '5');
   reader.check('an instruction is gone to by its number', await page.tells('status', '/^After 5 instructions/'), await page.told('status'));
   await page.set('break-at', '11040');

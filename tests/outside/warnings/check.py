@@ -33,7 +33,7 @@ WANTED = {
     "unused-result": [("with.c", 11, 5, "square"), ("with.c", 12, 5, "sum")],
     "parentheses": [("with.c", 5, 11, "="), ("with.c", 7, 14, "="), ("with.c", 9, 14, "="), ("with.c", 13, 14, "=")],
     "chained-comparison": [("with.c", 3, 15, "<"), ("with.c", 5, 16, "=="), ("with.c", 7, 16, ">")],
-    "empty-body": [("with.c", 5, 16, ";"), ("with.c", 9, 9, ";"), ("with.c", 11, 5, "{"), ("with.c", 15, 5, "{")],
+    "empty-body": [("with.c", 5, 16, ";"), ("with.c", 9, 9, ";"), ("with.c", 10, 31, ";"), ("with.c", 14, 23, ";")],
     "implicit-fallthrough": [("with.c", 8, 5, "case"), ("with.c", 11, 5, "default"), ("with.c", 15, 5, "case")],
     "shadow": [("with.c", 4, 20, "total"), ("with.c", 8, 14, "i"), ("with.c", 11, 13, "limit")],
     "static-in-two-files": [("two.c", 1, 12, "count")],

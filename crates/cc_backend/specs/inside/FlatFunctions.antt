@@ -1,12 +1,15 @@
 -- Flat code of the functions of a program, which are made one by one.
-use Rattle.std.specs.Prelude.{◌≡◌, ℕ, Bool, nat_eq, List, length, slice_get, Some}
+use Rattle.std.specs.Prelude.{◌≡◌, ◌≤◌, ℕ, sum_by, Bool, nat_eq, List, length, slice_get, Some}
 use Rattle.typing_spec.specs.Program as typed
 use Rattle.tac_code.specs.Code as tac
 use Rattle.tac.specs.layer.Functions.{IsFunctionWith}
 use Rattle.frames_code.specs.Code as flat
+use Rattle.frames.specs.Costs.{code_bytes}
 use Rattle.frames.specs.Layout.{Starts}
 use Rattle.frames.specs.Translated.{flat_function}
 use Rattle.frames_opt.specs.layer.Functions.{IsSimplerFunction}
+use Rattle.frames_reach.specs.layer.Functions.{IsReachedFunction}
+use Rattle.frames_layout.specs.layer.Functions.{IsLaidOutFunction}
 use Rattle.frames_hoist.specs.layer.Functions.{IsHoistedFunction}
 use Rattle.frames_leaf.specs.layer.Functions.{IsLeafAllocated}
 use Rattle.frames_regalloc.specs.Renumbered.{IsRenumberedFunction}
@@ -17,8 +20,14 @@ pub record IsFlatFunctionOf (p : typed.Program) (s : Starts) (is_main : Bool) (f
   pub lowered : IsFunctionWith p is_main f code
   pub simpler : flat.Function
   pub simplified : IsSimplerFunction (flat_function s code) simpler
+  pub shorter : flat.Function
+  pub reached : IsReachedFunction simpler shorter
+  pub most : ℕ
+  pub most_is : most ≤ sum_by code_bytes (flat_function s code).code
+  pub laid : flat.Function
+  pub laid_out : IsLaidOutFunction most shorter laid
   pub better : flat.Function
-  pub hoisted : IsHoistedFunction simpler better
+  pub hoisted : IsHoistedFunction laid better
   pub last : flat.Function
   pub allocated : IsLeafAllocated better last
   pub renumbered : IsRenumberedFunction last h

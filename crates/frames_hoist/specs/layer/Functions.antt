@@ -26,6 +26,7 @@ with_code f h n code = record {
   resident = resident_in h f.resident (f.cells + words_more h n);
   area = f.area;
   outgoing = f.outgoing;
+  gives = f.gives;
 }
 
 -- the function with the words of the pool in their places

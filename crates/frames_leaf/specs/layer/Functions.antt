@@ -7,7 +7,7 @@ use Rattle.frames_leaf.specs.Allocated.{IsAllocated}
 use Rattle.frames_leaf.specs.layer.Moving.{is_leaf, moved}
 
 abbrev pub with_code : Function → List Instruction → Function
-with_code f code = record { code = code; cells = f.cells; resident = f.resident; area = f.area; outgoing = f.outgoing }
+with_code f code = record { code = code; cells = f.cells; resident = f.resident; area = f.area; outgoing = f.outgoing; gives = f.gives }
 
 -- g is f, which calls nothing, with these words of its frame in temporaries that it does not name
 pub record IsMoved (f g : Function) : Type 0 where

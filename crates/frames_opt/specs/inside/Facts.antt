@@ -72,7 +72,7 @@ abbrev pub home_bound : Function → ℕ
 home_bound f = if nat_le f.outgoing 0x200 && nat_le f.cells 0x200 then area_home f else 0x1000
 
 abbrev pub room_of : Function → Room
-room_of f = record { area = f.area; home = home_bound f }
+room_of f = record { area = f.area; home = home_bound f; gives = f.gives }
 
 abbrev pub is_index : Operand → Bool
 is_index (operand.Temporary k) = true

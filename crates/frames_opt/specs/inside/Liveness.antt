@@ -1,5 +1,5 @@
 -- Which temporaries an instruction reads and writes.
-use Rattle.std.specs.Prelude.{ℕ, ◌==◌, ◌||◌, Bool, true, false, Option, Some, None}
+use Rattle.std.specs.Prelude.{ℕ, ◌==◌, ◌&&◌, ◌||◌, Bool, true, false, Option, Some, None}
 use Rattle.frames_code.specs.declared.code.Operand.{Operand}
 use Rattle.frames_code.specs.declared.code.Operand.TheVariants as operand
 use Rattle.frames_code.specs.declared.code.Target.{Target}
@@ -37,23 +37,23 @@ wants status.Dead k l = is_through k l
 wants (status.Index b size) k l = is_by k l
 
 -- it reads what the old code has in temporary k, where the new code's is as told; a call, a byte put or got, and an exit count as reading all, and a
--- return reads the result
-abbrev pub reads : Status → ℕ → Instruction → Bool
-reads z k instruction.Nothing = false
-reads z k (instruction.Move d x) = names k x
-reads z k (instruction.Compute o d x y) = names k x || names k y
-reads z k (instruction.Convert c d x) = names k x
-reads z k (instruction.Load w d l) = wants z k l
-reads z k (instruction.Store w x l) = names k x || wants z k l
-reads z k (instruction.Address d l) = is_through k l
-reads z k (instruction.Element d x y size) = names k x || names k y
-reads z k (instruction.Jump to) = false
-reads z k (instruction.Branch t x y to) = names k x || names k y
-reads z k (instruction.Call f) = true
-reads z k instruction.PutByte = true
-reads z k instruction.GetByte = true
-reads z k instruction.Exit = true
-reads z k instruction.Return = k == 0
+-- return reads the result, if the function has one
+abbrev pub reads : (gives : Bool) → Status → ℕ → Instruction → Bool
+reads gives z k instruction.Nothing = false
+reads gives z k (instruction.Move d x) = names k x
+reads gives z k (instruction.Compute o d x y) = names k x || names k y
+reads gives z k (instruction.Convert c d x) = names k x
+reads gives z k (instruction.Load w d l) = wants z k l
+reads gives z k (instruction.Store w x l) = names k x || wants z k l
+reads gives z k (instruction.Address d l) = is_through k l
+reads gives z k (instruction.Element d x y size) = names k x || names k y
+reads gives z k (instruction.Jump to) = false
+reads gives z k (instruction.Branch t x y to) = names k x || names k y
+reads gives z k (instruction.Call f) = true
+reads gives z k instruction.PutByte = true
+reads gives z k instruction.GetByte = true
+reads gives z k instruction.Exit = true
+reads gives z k instruction.Return = gives && (k == 0)
 
 abbrev pub temporary_of : Target → Option ℕ
 temporary_of (target.Temporary k) = Some k

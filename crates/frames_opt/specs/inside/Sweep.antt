@@ -185,8 +185,8 @@ abbrev pub behind_it : ℕ → Instruction → Status → Status
 behind_it k x z = if is_written k x then status.Same else z
 
 -- such an instruction reads only what is the same
-abbrev pub stays_right : List Row → ℕ → Instruction → ℕ → Status → Bool
-stays_right states i x k z = (is_same z || not (reads z k x)) && leads states i x k (behind_it k x z)
+abbrev pub stays_right : (gives : Bool) → List Row → ℕ → Instruction → ℕ → Status → Bool
+stays_right gives states i x k z = (is_same z || not (reads gives z k x)) && leads states i x k (behind_it k x z)
 
 -- the element that a reference leads on to from one whose index temporary k holds
 abbrev pub on_from : Room → ℕ → Status → Operand → ℕ → Known
@@ -224,7 +224,7 @@ drop_right room states i o x k =
 
 abbrev pub is_right : Room → List Row → ℕ → Known → Instruction → ℕ → Bool
 is_right room states i o x k =
-    fits room k (status_at states i k) && (if is_left_out states i x then drop_right room states i o x k else stays_right states i x k (status_at states i k))
+    fits room k (status_at states i k) && (if is_left_out states i x then drop_right room states i o x k else stays_right room.gives states i x k (status_at states i k))
 
 -- ---- all at once: by masks where a temporary is dead, one by one where it holds an index at the instruction or where that leads
 
@@ -249,22 +249,22 @@ through_dead m (location.At x) = names_dead m x
 through_dead m (location.Indexed b y size) = names_dead m y
 
 -- an instruction reads one of these, of which there are some
-abbrev pub reads_dead : ℕ → Instruction → Bool
-reads_dead m instruction.Nothing = false
-reads_dead m (instruction.Move d x) = names_dead m x
-reads_dead m (instruction.Compute o d x y) = names_dead m x || names_dead m y
-reads_dead m (instruction.Convert c d x) = names_dead m x
-reads_dead m (instruction.Load w d l) = through_dead m l
-reads_dead m (instruction.Store w x l) = names_dead m x || through_dead m l
-reads_dead m (instruction.Address d l) = through_dead m l
-reads_dead m (instruction.Element d x y size) = names_dead m x || names_dead m y
-reads_dead m (instruction.Jump to) = false
-reads_dead m (instruction.Branch t x y to) = names_dead m x || names_dead m y
-reads_dead m (instruction.Call f) = true
-reads_dead m instruction.PutByte = true
-reads_dead m instruction.GetByte = true
-reads_dead m instruction.Exit = true
-reads_dead m instruction.Return = is_dead m 0
+abbrev pub reads_dead : (gives : Bool) → ℕ → Instruction → Bool
+reads_dead gives m instruction.Nothing = false
+reads_dead gives m (instruction.Move d x) = names_dead m x
+reads_dead gives m (instruction.Compute o d x y) = names_dead m x || names_dead m y
+reads_dead gives m (instruction.Convert c d x) = names_dead m x
+reads_dead gives m (instruction.Load w d l) = through_dead m l
+reads_dead gives m (instruction.Store w x l) = names_dead m x || through_dead m l
+reads_dead gives m (instruction.Address d l) = through_dead m l
+reads_dead gives m (instruction.Element d x y size) = names_dead m x || names_dead m y
+reads_dead gives m (instruction.Jump to) = false
+reads_dead gives m (instruction.Branch t x y to) = names_dead m x || names_dead m y
+reads_dead gives m (instruction.Call f) = true
+reads_dead gives m instruction.PutByte = true
+reads_dead gives m instruction.GetByte = true
+reads_dead gives m instruction.Exit = true
+reads_dead gives m instruction.Return = gives && is_dead m 0
 
 -- these are dead wherever instruction i leads, but for the one that it writes
 abbrev pub dead_leads : List Row → ℕ → Instruction → ℕ → Bool
@@ -284,12 +284,12 @@ dead_leads states i instruction.GetByte m = is_within m (mask_at states (i + 1))
 dead_leads states i instruction.Exit m = true
 dead_leads states i instruction.Return m = true
 
-abbrev pub masks_right : List Row → ℕ → Instruction → ℕ → Bool
-masks_right states i x m =
-    if is_left_out states i x then is_within m (mask_at states (i + 1)) (written x) else not (reads_dead m x) && dead_leads states i x m
+abbrev pub masks_right : (gives : Bool) → List Row → ℕ → Instruction → ℕ → Bool
+masks_right gives states i x m =
+    if is_left_out states i x then is_within m (mask_at states (i + 1)) (written x) else not (reads_dead gives m x) && dead_leads states i x m
 
-abbrev pub dead_right : List Row → ℕ → Instruction → Bool
-dead_right states i x = (mask_at states i == 0) || masks_right states i x (mask_at states i)
+abbrev pub dead_right : (gives : Bool) → List Row → ℕ → Instruction → Bool
+dead_right gives states i x = (mask_at states i == 0) || masks_right gives states i x (mask_at states i)
 
 abbrev pub held_right : Room → List Row → ℕ → Known → Instruction → Held → Bool
 held_right room states i o x held.Nothing = true
@@ -306,7 +306,7 @@ jump_right room states i o x (Some to) = row_right room states i o x to
 
 abbrev pub all_right : Room → List Row → ℕ → Known → Instruction → Bool
 all_right room states i o x =
-    dead_right states i x && (row_right room states i o x i && (row_right room states i o x (i + 1) && jump_right room states i o x (jump_of x)))
+    dead_right room.gives states i x && (row_right room states i o x i && (row_right room states i o x (i + 1) && jump_right room states i o x (jump_of x)))
 
 -- of code from instruction i on, by what is offered at each instruction
 abbrev pub are_right : Room → List Row → List Known → ℕ → List Instruction → Bool

@@ -23,7 +23,7 @@ pub data IsSimplerCode (room : Room) (old new : List Instruction) : Type 0 where
   improved : (is : IsImproved room old new) → IsSimplerCode room old new
 
 abbrev pub with_code : Function → List Instruction → Function
-with_code f code = record { code = code; cells = f.cells; resident = f.resident; area = f.area; outgoing = f.outgoing }
+with_code f code = record { code = code; cells = f.cells; resident = f.resident; area = f.area; outgoing = f.outgoing; gives = f.gives }
 
 pub record IsSimplerFunction (f g : Function) : Type 0 where
   pub code : IsSimplerCode (room_of f) f.code g.code

@@ -1,7 +1,10 @@
 use Rattle.typed_ast.specs.View as view
 use Rattle.tac_code.specs.Code as three_address
-use Rattle.cc_backend.proofs.FlatFunctions.{function_fits}
+use Rattle.cc_backend.proofs.FlatFunctions.{types_sized, function_fits}
 use Rattle.cc_backend.proofs.passes.function_after.Goals as goal
+
+pub lower_function-requires-clause-sized : goal.lower_function-requires-clause-sized
+lower_function-requires-clause-sized c = types_sized (view.program_of c.args.program.now) c.requires.ready
 
 pub flatten_function-requires-clause-fits : goal.flatten_function-requires-clause-fits
 flatten_function-requires-clause-fits c =

@@ -9,6 +9,15 @@ use Rattle.tac.specs.inside.Functions.{AreFunctionsOf}
 use Rattle.tac.proofs.Whole.{item_in_map, one_more_function}
 use Rattle.tac.proofs.programs.lowered_functions.Goals as goal
 
+pub lower_function-requires-clause-own : goal.lower_function-requires-clause-own
+lower_function-requires-clause-own c =
+    let n = c.loop-function.function-index in
+    let f = c.function-item.result in (
+      n,
+      subst (λ (fs : List Function). slice_get (map view.function_of fs) n ≡ Some (view.function_of f)) c.deref-function-items.ensures.value
+          (item_in_map view.function_of c.deref-function-items.result.now n f c.loop-function-test.true c.function-item.is),
+    )
+
 pub loop-function-preserved : goal.loop-function-preserved
 loop-function-preserved c =
     let p = view.program_of c.args.program.now in

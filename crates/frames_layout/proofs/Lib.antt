@@ -1,0 +1,9 @@
+pub mod Moving
+pub mod Walking
+pub mod Straight
+pub mod Fitting
+pub mod Stepping
+pub mod Running
+pub mod Checked
+pub mod Staying
+pub mod Whole

@@ -1,0 +1,3 @@
+-- What contracts between crates cite; nothing of it has to be believed.
+pub mod Plans
+pub mod Functions
