@@ -28,10 +28,8 @@ OPEN = {
     ('interp_store/src/grid.rt', 'fill'),
     ('interp_store/src/grid.rt', 'set'),
     ('interp_store/src/scene.rt', 'object_behind'),
-    ('lower_ops/src/changes.rt', 'put_call'),
     ('lower_ops/src/waiting.rt', 'next'),
     ('tac/src/initialisers.rt', 'ahead_of'),
-    ('tac/src/initialisers.rt', 'put_word'),
 }
 
 WORD = re.compile(r"'\w+(?!')|\w+!?|=>|->|::|[-+*/%&|^<>=!]=|&&|\|\||[^\s\w]")

@@ -100,7 +100,7 @@ module _ (z : Ground) where
   calls_within typed.put_byte m t k pc pc2 c l fr b i =
       settle z 1 44 (omega arith) (join z (one z _ 76 pc i.0 i.1 (omega arith) (λ a. tt)) (ends_within z m zero_word t k i.0 pc2 l fr zero_small i.2))
   calls_within typed.exit m t k pc pc2 c l fr b i = one z _ 44 pc pc2 i (omega arith) (λ a. tt)
-  calls_within (typed.missing name) m t k pc pc2 c l fr b i = absurd i
+  calls_within (typed.missing name) m t k pc pc2 c l fr b i = settle z 1 44 (omega arith) (ends_within z m zero_word t k pc pc2 l fr zero_small i)
 
   -- ---- truths
 

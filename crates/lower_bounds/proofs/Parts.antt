@@ -7,7 +7,7 @@ use Rattle.ctypes.specs.declared.types.IntType.{IntType}
 use Rattle.typing_spec.specs.Types.{ObjectType, same_type}
 use Rattle.typing_spec.specs.Program as typed
 use Rattle.typing_spec.specs.Program.{Value, Initialiser}
-use Rattle.typing_spec.specs.Nodes.{type_of_value, value_nodes, option_nodes, initialiser_nodes}
+use Rattle.typing_spec.specs.Nodes.{type_of_value, value_nodes, option_nodes, initialiser_nodes, initialisers_nodes}
 use Rattle.typing_spec.specs.WellTyped.{some_number, value_is_typed, initialiser_is_typed, option_is_typed, test_is_typed}
 use Rattle.tac_code.specs.Designated.{in_value, in_initialiser, in_option}
 use Rattle.tac_code.specs.Spans.{widest_initial}
@@ -105,6 +105,9 @@ label_room c = omega arith
 pub less_room : (n d : ℕ) → 128 * n + 0 ≤ 128 * n + d
 less_room n d = omega arith
 
+listed_room : (n : ℕ) → 128 * 1 + 64 ≤ 128 * (n + 1 + 1) + 124
+listed_room n = omega arith
+
 repeat_room : (e : ℕ) → 128 * e + 124 ≤ 128 * (e + 1) + 32
 repeat_room e = omega arith
 
@@ -165,8 +168,8 @@ module _ (z : Ground) where
       let is : IsNumber z n = (o.element, ap scalar_type at ∙ scalar_if o.lengths o.element (left_true (nat_eq (length o.lengths) 0) (V e && N e) h2)) in
       settle z (value_nodes e + 1) 64 (initial_room (value_nodes e)) (join z
       (aimed z (λ a. (on i.0 pc2 z.limit (next_le i.0 pc2 i.2.next) a, tt)) (gives_within u e (target.Object n) pc i.0 he d w is i.1)) (nothing i.0 pc2 i.2))
-  word_within (typed.text t) n o pc pc2 at h d w i = absurd i
-  word_within (typed.list all) n o pc pc2 at h d w i = absurd i
+  word_within (typed.text t) n o pc pc2 at h d w i = settle z (1 + 1) 64 (omega arith) (nothing pc pc2 i)
+  word_within (typed.list all) n o pc pc2 at h d w i = settle z (initialisers_nodes all + 1 + 1) 64 (listed_room (initialisers_nodes all)) (nothing pc pc2 i)
   word_within (typed.in_braces b) n o pc pc2 at h d w i =
       settle z (initialiser_nodes b + 1 + 1) 64 (braces_room (initialiser_nodes b)) (join z (nothing pc i.0 i.1) (word_within b n o i.0 pc2 at h d w i.2))
 

@@ -330,7 +330,8 @@ module _ (p : typed.Program) (tf : Function) (call : Calling) (q : Program) (dee
         (left_true (arguments_are_typed p tf (params_of (callee_type p typed.exit)) args) (call_fits result used (callee_type p typed.exit)) ht) ha h.3)
         h.4
     into_does (typed.call at (typed.missing name) result used args) m t k pc pc2 ht ha w fr su h =
-        absurd h.4
+        absurd (differ (right_true (arguments_are_typed p tf (params_of (callee_type p (typed.missing name))) args)
+        (call_fits result used (callee_type p (typed.missing name))) ht))
 
     -- a place in memory
     pub find_does : (a : Place) (c : Bool) (t k pc pc2 : ℕ) → place_is_typed p tf a ≡ true → place_is_asked a ≡ true → PlaceInMemory p tf call q deep f same a

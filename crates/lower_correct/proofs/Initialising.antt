@@ -111,11 +111,11 @@ module _ (p : typed.Program) (tf : Function) (call : Calling) (q : Program) (dee
       into_does p tf call q deep f same ok e m t k a z ht (left_true (value_is_asked e) (gives e) ha)
       (wanted_any p tf call q deep f same ok m (gives e) (right_true (value_is_asked e) (gives e) ha)) fr su i
 
-  word_begins : (i : Initialiser) (t : ObjectType) (x b pc pc2 : ℕ) → slice_get (function_at q f).objects x ≡ Some t
+  word_begins : (i : Initialiser) (t : ObjectType) (x b pc pc2 : ℕ) → t.lengths ≡ [] → slice_get (function_at q f).objects x ≡ Some t
       → initialiser_is_typed p tf t.element t.lengths i ≡ true → initialiser_is_asked i ≡ true
       → InitialisesWord (function_at q f).code p tf i x pc pc2
       → BeginsAt p call q deep f tf.type.result (initialise p call i t.element t.lengths (whole (b + x))) b pc pc2
-  word_begins (typed.one_value u e) t x b pc pc2 at ht ha h =
+  word_begins (typed.one_value u e) t x b pc pc2 el at ht ha h =
       let h1 = right_true (same_type t.element u) (nat_eq (length t.lengths) 0 && number_is_typed p tf e) ht in
       let num : IsNumber (function_at q f).objects x u =
       record {
@@ -129,11 +129,11 @@ module _ (p : typed.Program) (tf : Function) (call : Calling) (q : Program) (dee
       (converts_does p call q deep f (keeps u e) e u (target.Object x) 0 0 pc h.0 refl (scalar_is (function_at q f).objects x u num) tt
       (does_at e 0 0 (left_true (value_is_typed p tf e) (some_number (type_of_value e)) (right_true (nat_eq (length t.lengths) 0) (number_is_typed p tf e) h1))
       ha) (sized (λ size. Converts (function_at q f).code (keeps u e) (λ m a z. Into (function_at q f).code size e m 0 0 a z) u (operand_of e 0 0) (target.Object x) pc h.0) h.1)) h.2
-  word_begins (typed.text n) t x b pc pc2 at ht ha h = absurd h
-  word_begins (typed.in_braces i) t x b pc pc2 at ht ha h =
+  word_begins (typed.text n) t x b pc pc2 el at ht ha h = absurd (differ (subst (λ l. initialiser_is_typed p tf t.element l (typed.text n) ≡ true) el ht))
+  word_begins (typed.in_braces i) t x b pc pc2 el at ht ha h =
       braces_begin p call q deep f tf.type.result (initialise p call i t.element t.lengths (whole (b + x))) b pc h.0 pc2 h.1
-      (word_begins i t x b h.0 pc2 at ht ha h.2)
-  word_begins (typed.list all) t x b pc pc2 at ht ha h = absurd h
+      (word_begins i t x b h.0 pc2 el at ht ha h.2)
+  word_begins (typed.list all) t x b pc pc2 el at ht ha h = absurd (differ (subst (λ l. initialiser_is_typed p tf t.element l (typed.list all) ≡ true) el ht))
 
   -- ---- arrays
 
@@ -264,7 +264,7 @@ module _ (p : typed.Program) (tf : Function) (call : Calling) (q : Program) (dee
         → initialiser_is_typed p tf t.element t.lengths i ≡ true → initialiser_is_asked i ≡ true
         → InitialisesObject (function_at q f).code p tf t.element lengths i x pc pc2
         → BeginsAt p call q deep f tf.type.result (initialise p call i t.element t.lengths (whole (b + x))) b pc pc2
-    object_begins [] t el i x b pc pc2 at ht ha h = word_begins i t x b pc pc2 at ht ha h
+    object_begins [] t el i x b pc pc2 at ht ha h = word_begins i t x b pc pc2 el at ht ha h
     object_begins (k ∷ lengths) t el i x b pc pc2 at ht ha h =
         let fit = room x t (sym (ap (λ l. slice_get l x) same.objects) ∙ at) in
         fills_begin x t (record { at = at; is_array = λ e. no_lengths k lengths (sym el ∙ e); small = is_small t fit }) (has_elements t fit) i t.lengths [] 0 b pc pc2 refl

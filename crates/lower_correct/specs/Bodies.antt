@@ -63,12 +63,13 @@ module _ (code : List Instruction) where
     abbrev pub Gives : IntType → Value → Target → ℕ → ℕ → Type 0
     Gives u e g pc pc2 = Converts code (keeps u e) (λ m a b. Into code (size_of_place p f) e m 0 0 a b) u (operand_of e 0 0) g pc pc2
 
-    -- object n, which is no array, gets its first value, which costs a tick after its expression (6.7.9p11)
+    -- object n, which is no array, gets its first value, which costs a tick after its expression (6.7.9p11); a text or a list is none, and no
+    -- checked program has it
     abbrev pub InitialisesWord : Initialiser → ℕ → ℕ → ℕ → Type 0
     InitialisesWord (typed.one_value u e) n pc pc2 = (p1 : ℕ) × Gives u e (target.Object n) pc p1 × One code instruction.Nothing p1 pc2
-    InitialisesWord (typed.text literal) n pc pc2 = ⊥
+    InitialisesWord (typed.text literal) n pc pc2 = One code instruction.Nothing pc pc2
     InitialisesWord (typed.in_braces i) n pc pc2 = (p1 : ℕ) × One code instruction.Nothing pc p1 × InitialisesWord i n p1 pc2
-    InitialisesWord (typed.list all) n pc pc2 = ⊥
+    InitialisesWord (typed.list all) n pc pc2 = One code instruction.Nothing pc pc2
 
     -- object n, of this element type and these lengths; an array from its first element on (6.7.9p14, p17)
     abbrev pub InitialisesObject : IntType → List ℕ → Initialiser → ℕ → ℕ → ℕ → Type 0

@@ -235,7 +235,8 @@ module _ (code : List Instruction) where
   Calls typed.get_byte m pc pc2 = (p1 : ℕ) × One instruction.GetByte pc p1 × Ends m (operand.Temporary 0) p1 pc2
   Calls typed.put_byte m pc pc2 = (p1 : ℕ) × One instruction.PutByte pc p1 × Ends m zero_word p1 pc2
   Calls typed.exit m pc pc2 = One instruction.Exit pc pc2
-  Calls (typed.missing name) m pc pc2 = ⊥
+  -- never evaluated; its value would be 0
+  Calls (typed.missing name) m pc pc2 = Ends m zero_word pc pc2
 
   -- the end of a truth that is to be a number: 1 at pc, 0 at `other`
   abbrev pub Truths : Target → ℕ → ℕ → ℕ → Type 0

@@ -249,7 +249,10 @@ pub fn put_call(code: &mut Code, callee: Callee, mode: Mode) -> Result<(), Alloc
             put(code, Instruction::Exit)?;
             Ok(())
         }
-        Callee::Missing(_) => Err(AllocError),
+        Callee::Missing(_) => {
+            put_end(code, mode, Operand::Constant(0))?;
+            Ok(())
+        }
     }
 }
 

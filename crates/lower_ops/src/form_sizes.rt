@@ -188,7 +188,7 @@ pub fn calls_size(callee: Callee, shape: Shape) -> usize
         Callee::GetByte => plus(1, ends_size(shape)),
         Callee::PutByte => plus(1, ends_size(shape)),
         Callee::Exit => 1,
-        Callee::Missing(_) => 0,
+        Callee::Missing(_) => ends_size(shape),
     }
 }
 

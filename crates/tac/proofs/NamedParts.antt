@@ -382,7 +382,7 @@ module _ (w : List Instruction) where
   calls_few typed.get_byte m a b fm i = join (one _ a i.0 i.1 tt) (ends m (operand.Temporary 0) i.0 b fm nothing_few i.2)
   calls_few typed.put_byte m a b fm i = join (one _ a i.0 i.1 tt) (ends m zero_word i.0 b fm tt i.2)
   calls_few typed.exit m a b fm i = one _ a b i tt
-  calls_few (typed.missing name) m a b fm i = absurd i
+  calls_few (typed.missing name) m a b fm i = ends m zero_word a b fm tt i
 
   -- ---- truths
 

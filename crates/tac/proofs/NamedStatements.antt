@@ -57,9 +57,9 @@ module _ (w : List Instruction) (short : length w < 4611686018427387904) (p : ty
 
   word : (x : Initialiser) (n a b : ℕ) → a ≤ length w → InitialisesWord w p f x n a b → Names w a b
   word (typed.one_value u e) n a b l i = join w (gives u e (target.Object n) a i.0 l tt i.1) (one w _ i.0 b i.2 tt)
-  word (typed.text m) n a b l i = absurd i
+  word (typed.text m) n a b l i = one w _ a b i tt
   word (typed.in_braces x) n a b l i = join w (one w _ a i.0 i.1 tt) (word x n i.0 b (past w _ a i.0 i.1) i.2)
-  word (typed.list all) n a b l i = absurd i
+  word (typed.list all) n a b l i = one w _ a b i tt
 
   goes_on : (c top a b : ℕ) → GoesOn w c top a b → Names w a b
   goes_on c top a b i = join w (one w _ a i.0 i.1 (nothing_few, nothing_few, tt)) (one w _ i.0 b i.2 (nothing_few, tt))

@@ -112,9 +112,9 @@ fn word_size(initialiser: &Initialiser) -> usize
 {
     match initialiser {
         Initialiser::One(ty, e) => plus(converted_size(*ty, e, Shape::Object), 1),
-        Initialiser::Text(_) => 0,
+        Initialiser::Text(_) => 1,
         Initialiser::InBraces(inner) => plus(1, word_size(inner)),
-        Initialiser::List(_) => 0,
+        Initialiser::List(_) => 1,
     }
 }
 

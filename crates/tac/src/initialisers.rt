@@ -55,13 +55,19 @@ fn put_word(
             put(code, Instruction::Nothing)?;
             Ok(())
         }
-        Initialiser::Text(_) => Err(AllocError),
+        Initialiser::Text(_) => {
+            put(code, Instruction::Nothing)?;
+            Ok(())
+        }
         Initialiser::InBraces(inner) => {
             put(code, Instruction::Nothing)?;
             put_word(scope, code, inner, object)?;
             Ok(())
         }
-        Initialiser::List(_) => Err(AllocError),
+        Initialiser::List(_) => {
+            put(code, Instruction::Nothing)?;
+            Ok(())
+        }
     }
 }
 

@@ -140,7 +140,7 @@ calls_size (typed.function f) s = plus 1 (ends_size s)
 calls_size typed.get_byte s = plus 1 (ends_size s)
 calls_size typed.put_byte s = plus 1 (ends_size s)
 calls_size typed.exit s = 1
-calls_size (typed.missing name) s = 0
+calls_size (typed.missing name) s = ends_size s
 
 abbrev pub truths_size : ℕ
 truths_size = plus 1 (plus 1 1)

@@ -14,9 +14,9 @@ use Rattle.lower_exprs.specs.layer.Sizes.{value_size, rest_shape}
 -- of an object that is no array
 abbrev pub word_size : Initialiser → ℕ
 word_size (typed.one_value u e) = plus (converts_size (keeps u e) (value_size e) (rest_shape e) shape.Object) 1
-word_size (typed.text literal) = 0
+word_size (typed.text literal) = 1
 word_size (typed.in_braces i) = plus 1 (word_size i)
-word_size (typed.list all) = 0
+word_size (typed.list all) = 1
 
 -- ---- loops
 

@@ -8,3 +8,6 @@ returns-in_ok-put_called-in-GetByte c = rw c.in-GetByte.is c.in_ok-put_called-in
 
 pub returns-in_ok-put_called-in-PutByte : goal.returns-in_ok-put_called-in-PutByte
 returns-in_ok-put_called-in-PutByte c = rw c.in-PutByte.is c.in_ok-put_called-in-PutByte.ensures
+
+pub returns-in_ok-put_end-in-Missing : goal.returns-in_ok-put_end-in-Missing
+returns-in_ok-put_end-in-Missing c = rw c.in-Missing.is c.in_ok-put_end-in-Missing.ensures
