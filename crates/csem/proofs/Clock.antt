@@ -257,9 +257,9 @@ plain_all_renewed : (objects : List ObjectType) (x n : ℕ) → Plain (all_renew
 plain_all_renewed objects x zero = plain_self
 plain_all_renewed objects x (suc n) = plain_chain (renewed objects x) (all_renewed objects (suc x) n) (plain_renewed objects x) (plain_all_renewed objects (suc x) n)
 
-plain_zeros : (k i : ℕ) (lengths : List ℕ) (r : Reference) → Plain (zeros k i lengths r)
-plain_zeros zero i lengths r = plain_self
-plain_zeros (suc k) i lengths r = plain_chain _ (zeros k (suc i) lengths r) (record { same = λ s. refl; moves = λ s. refl }) (plain_zeros k (suc i) lengths r)
+plain_zeros : (k i : ℕ) (r : Reference) → Plain (zeros k i r)
+plain_zeros zero i r = plain_self
+plain_zeros (suc k) i r = plain_chain _ (zeros k (suc i) r) (record { same = λ s. refl; moves = λ s. refl }) (plain_zeros k (suc i) r)
 
 plain_characters : (t : IntType) (k i : ℕ) (text : List ℕ) (r : Reference) → Plain (characters t k i text r)
 plain_characters t zero i text r = plain_self
@@ -267,7 +267,7 @@ plain_characters t (suc k) i [] r = plain_chain (stored (into r i) (pos 0)) (cha
 plain_characters t (suc k) i (ch ∷ text) r = plain_chain (stored (into r i) (converted t (pos ch))) (characters t k (suc i) text r) (plain_stored (into r i) (converted t (pos ch))) (plain_characters t k (suc i) text r)
 
 steady_clear : (k i : ℕ) (lengths : List ℕ) (r : Reference) → Steady (clear k i lengths r) (clear k i lengths r)
-steady_clear k i lengths r = steady_then (ticks (k * elements_in lengths)) (ticks (k * elements_in lengths)) _ _ (steady_ticks (k * elements_in lengths)) (λ u. steady_change tt (zeros k i lengths r) (plain_zeros k i lengths r))
+steady_clear k i lengths r = steady_then (ticks (k * elements_in lengths)) (ticks (k * elements_in lengths)) _ _ (steady_ticks (k * elements_in lengths)) (λ u. steady_change tt (zeros k i r) (plain_zeros k i r))
 
 -- the reference to an object of the present call does not depend on the clock
 steady_own : {A : Type 0} (x : ℕ) (f f' : Reference → State → Run A) → ((r : Reference) → Steady (f r) (f' r)) → Steady (λ s. f (own x s) s) (λ s. f' (own x s) s)

@@ -13,8 +13,8 @@ use Rattle.tree.specs.declared.expression.PrefixOp.TheVariants as prefix
 use Rattle.typing_spec.specs.Types.{elements_in}
 use Rattle.typing_spec.specs.Operators.{right_operand}
 use Rattle.typing_spec.specs.WellTyped.{values_fit}
-use Rattle.csem.specs.Store.{Tree, Element, Array, Row, no_parts, and_part, Store, part_of, part_in, at_path, value_of, change_part, change_in, put_at, put_in, repeated, filled, row_of, laid_out}
-use Rattle.csem.specs.Laws.{OperationFits, SignFits, TreeFits, RowFits, FitsWhere, ValueFits, ReadFits, WriteFits, NewFits, StaticFits}
+use Rattle.csem.specs.Store.{Tree, Element, Array, Row, no_parts, and_part, Store, part_of, part_in, at_path, value_of, change_part, change_in, put_at, put_in, tree_at, with_value, zeroed, zeroed_row, repeated, filled, row_of, laid_out}
+use Rattle.csem.specs.Laws.{OperationFits, SignFits, TreeFits, RowFits, FitsWhere, ValueFits, ReadFits, WriteFits, SetFits, NewFits, StaticFits}
 
 pub operation_fits : OperationFits
 operation_fits op t a b = computed_fits op t (converted t a) (right_operand op t b) (converted_fits t a)
@@ -84,6 +84,24 @@ put_in_fits t (a ∷ store) (suc x) path new h hn = put_in_fits t store x path n
 
 pub write_fits : WriteFits
 write_fits t store r new h hn = put_in_fits t store r.object r.path new h hn
+
+with_value_fits : (t : IntType) (v : ℤ) (o : Option Tree) → IsValueOf t v → FitsWhere t o → TreeFits t (with_value v o)
+with_value_fits t v None hv h = hv
+with_value_fits t v (Some (Element w)) hv h = hv
+with_value_fits t v (Some (Array row)) hv h = h
+
+pub set_fits : SetFits
+set_fits t store r v h hv =
+    write_fits t store r (with_value v (tree_at store r)) h (with_value_fits t v (tree_at store r) hv (path_fits t r.path (slice_get store r.object) h))
+
+mutual
+  pub zeroed_fits : (t : IntType) (tree : Tree) → TreeFits t (zeroed tree)
+  zeroed_fits t (Element v) = zero_fits t
+  zeroed_fits t (Array row) = zeroed_row_fits t row
+
+  zeroed_row_fits : (t : IntType) (row : Row) → RowFits t (zeroed_row row)
+  zeroed_row_fits t no_parts = tt
+  zeroed_row_fits t (and_part part row) = (zeroed_fits t part, zeroed_row_fits t row)
 
 repeated_fits : (t : IntType) (n : ℕ) (a : Tree) → TreeFits t a → RowFits t (repeated n a)
 repeated_fits t zero a h = tt

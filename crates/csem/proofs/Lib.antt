@@ -4,4 +4,5 @@ mod MoreRows
 pub mod Clock
 pub mod Histories
 pub mod Writes
+pub mod InPlace
 pub mod Fits

@@ -27,7 +27,7 @@ get_same [] x path new = refl
 get_same (t ∷ store) zero path new = refl
 get_same (t ∷ store) (suc x) path new = get_same store x path new
 
-at_none : (path : List ℕ) → at_path None path ≡ None
+pub at_none : (path : List ℕ) → at_path None path ≡ None
 at_none [] = refl
 at_none (i ∷ path) = at_none path
 

@@ -9,7 +9,7 @@ use Rattle.typing_spec.specs.Types.{ObjectType}
 use Rattle.typing_spec.specs.Operators.{operated, sign_of, signed_type}
 use Rattle.typing_spec.specs.WellTyped.{values_fit}
 use Rattle.typing_spec.specs.Program.{Static, Program}
-use Rattle.csem.specs.Store.{Tree, Element, Array, Row, no_parts, and_part, Store, Reference, tree_at, value_at, put, indeterminate, static_object}
+use Rattle.csem.specs.Store.{Tree, Element, Array, Row, no_parts, and_part, Store, Reference, tree_at, value_at, put, set_value, zeroed, set_zeros, indeterminate, static_object}
 use Rattle.csem.specs.History.{Entry}
 use Rattle.csem.specs.Machine.{State, Ending, Ended, Undefined, TicksUsed, Stops}
 use Rattle.csem.specs.Meaning.{cstep, last_of}
@@ -64,6 +64,21 @@ OtherPartStays = (store : Store) (written read : Reference) (new : Tree) → Par
 abbrev pub WrittenIsRead : Type 0
 WrittenIsRead = (store : Store) (r : Reference) (old new : Tree) → tree_at store r ≡ Some old → tree_at (put store r new) r ≡ Some new
 
+-- what is written to is no array's place: an array keeps its lengths
+abbrev pub ArrayStays : Type 0
+ArrayStays = (store : Store) (r : Reference) (row : Row) (v : ℤ) → tree_at store r ≡ Some (Array row) → set_value store r v ≡ store
+
+-- an element that becomes v is the tree of v in its place
+abbrev pub ElementIsSet : Type 0
+ElementIsSet = (store : Store) (r : Reference) (w : Option ℤ) (v : ℤ) → tree_at store r ≡ Some (Element w) → set_value store r v ≡ put store r (Element (Some v))
+
+abbrev pub ZerosAreSet : Type 0
+ZerosAreSet = (store : Store) (r : Reference) (tree : Tree) → tree_at store r ≡ Some tree → set_zeros store r ≡ put store r (zeroed tree)
+
+-- where there is nothing, nothing changes
+abbrev pub NothingIsPut : Type 0
+NothingIsPut = (store : Store) (r : Reference) (new : Tree) → tree_at store r ≡ None → put store r new ≡ store
+
 -- ---- values within their types (6.2.6.1p5 would let others be trap representations)
 
 -- the result of an operator is a value of its result type, whatever its operands are
@@ -99,6 +114,10 @@ ReadFits = (t : IntType) (store : Store) (r : Reference) → FitsWhere t (slice_
 abbrev pub WriteFits : Type 0
 WriteFits = (t : IntType) (store : Store) (r : Reference) (new : Tree) → FitsWhere t (slice_get store r.object) → TreeFits t new →
     FitsWhere t (slice_get (put store r new) r.object)
+
+abbrev pub SetFits : Type 0
+SetFits = (t : IntType) (store : Store) (r : Reference) (v : ℤ) → FitsWhere t (slice_get store r.object) → IsValueOf t v →
+    FitsWhere t (slice_get (set_value store r v) r.object)
 
 -- a new object fits every type, and a static object of a typed program its own
 abbrev pub NewFits : Type 0

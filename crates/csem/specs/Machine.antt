@@ -5,7 +5,7 @@ use Rattle.ctypes.specs.declared.operators.Undef.{Undef}
 use Rattle.ctypes.specs.declared.operators.Undef.TheVariants.{U5, U6, U7}
 use Rattle.typing_spec.specs.Program as typed
 use Rattle.typing_spec.specs.Program.{Storage, Program}
-use Rattle.csem.specs.Store.{Store, Reference, whole, into, Element, tree_at, length_of, value_at, put}
+use Rattle.csem.specs.Store.{Store, Reference, whole, into, tree_at, length_of, value_at, set_value}
 use Rattle.csem.specs.History.{Entry}
 
 -- the point of a run: the ticks that its clock has left, the objects that live (those of the present call from number `base` on), the arrays that the array
@@ -91,7 +91,7 @@ read at r s = value_or_undefined at (value_at s.store r) s
 
 -- the element at r becomes v (6.5.16p3); in a string literal that is undefined, at the operator (6.4.5p7)
 abbrev pub stored : Reference → ℤ → State → State
-stored r v s = record s { store = put s.store r (Element (Some v)) }
+stored r v s = record s { store = set_value s.store r v }
 
 abbrev pub write : Program → Pos → Reference → ℤ → State → Run ℤ
 write p at r v s = choose (nat_lt r.object (length p.literals)) (undefined U7 at s) (Goes v (stored r v s))

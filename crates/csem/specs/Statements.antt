@@ -6,20 +6,20 @@ use Rattle.ctypes.specs.Types.{truth, converted}
 use Rattle.typing_spec.specs.Types.{ObjectType, elements_in}
 use Rattle.typing_spec.specs.Program as typed
 use Rattle.typing_spec.specs.Program.{Value, Initialiser, Initialisers, Statement, Statements, Program}
-use Rattle.csem.specs.Store.{Tree, Element, Reference, whole, into, put, filled, indeterminate}
+use Rattle.csem.specs.Store.{Tree, Element, Reference, whole, into, put, set_zeros, indeterminate}
 use Rattle.csem.specs.Machine.{State, TicksUsed, Run, Goes, Stops, then_do, choose, tick, ticks, stored}
 use Rattle.csem.specs.Expressions.{Calling, evaluate, evaluate_or}
 
 -- ---- initialisers (6.7.9)
 
--- p10, p21: k elements or rows of these lengths from number i on become zero
-abbrev pub zeros : ℕ → ℕ → List ℕ → Reference → State → State
-zeros zero i lengths r s = s
-zeros (suc k) i lengths r s = zeros k (suc i) lengths r (record s { store = put s.store (into r i) (filled (Some (pos 0)) lengths) })
+-- p10, p21: k elements or rows from number i on become zero
+abbrev pub zeros : ℕ → ℕ → Reference → State → State
+zeros zero i r s = s
+zeros (suc k) i r s = zeros k (suc i) r (record s { store = set_zeros s.store (into r i) })
 
--- with a tick for each element
+-- with a tick for each element of these rows
 abbrev pub clear : ℕ → ℕ → List ℕ → Reference → State → Run (Unit {0})
-clear k i lengths r s = then_do (ticks (k * elements_in lengths) s) (λ u s. Goes tt (zeros k i lengths r s))
+clear k i lengths r s = then_do (ticks (k * elements_in lengths) s) (λ u s. Goes tt (zeros k i r s))
 
 -- p14, p21: k characters of type t from number i on become those of the text, those past it zero
 abbrev pub characters : IntType → ℕ → ℕ → List ℕ → Reference → State → State

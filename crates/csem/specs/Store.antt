@@ -90,6 +90,36 @@ put_in (t ∷ store) (suc x) path new = t ∷ put_in store x path new
 abbrev pub put : Store → Reference → Tree → Store
 put store r new = put_in store r.object r.path new
 
+-- ---- the store with other values: an array keeps its lengths
+
+-- an element becomes v; an array stays what it is
+abbrev pub with_value : ℤ → Option Tree → Tree
+with_value v None = Element (Some v)
+with_value v (Some (Element w)) = Element (Some v)
+with_value v (Some (Array row)) = Array row
+
+-- the element at r, if there is one, becomes v
+abbrev pub set_value : Store → Reference → ℤ → Store
+set_value store r v = put store r (with_value v (tree_at store r))
+
+-- each element becomes zero
+abbrev mutual
+  pub zeroed : Tree → Tree
+  zeroed (Element v) = Element (Some (pos 0))
+  zeroed (Array row) = Array (zeroed_row row)
+
+  pub zeroed_row : Row → Row
+  zeroed_row no_parts = no_parts
+  zeroed_row (and_part t row) = and_part (zeroed t) (zeroed_row row)
+
+abbrev pub with_zeros : Option Tree → Tree
+with_zeros None = Element (Some (pos 0))
+with_zeros (Some t) = zeroed t
+
+-- each element of the part at r becomes zero
+abbrev pub set_zeros : Store → Reference → Store
+set_zeros store r = put store r (with_zeros (tree_at store r))
+
 -- ---- new objects
 
 abbrev pub repeated : ℕ → Tree → Row

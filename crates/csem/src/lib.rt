@@ -3,7 +3,7 @@
 //! There is nothing to run. Each law is the contract of a function without code, so that it is surely proved.
 #![tactic(auto)]
 
-ghost use Rattle.csem.specs.Laws.{HistoryGrows, EndedStays, OtherObjectStays, OtherPartStays, WrittenIsRead, OperationFits, SignFits, ReadFits, WriteFits, NewFits, StaticFits};
+ghost use Rattle.csem.specs.Laws.{HistoryGrows, EndedStays, OtherObjectStays, OtherPartStays, WrittenIsRead, OperationFits, SignFits, ReadFits, WriteFits, SetFits, NewFits, StaticFits, ArrayStays, ElementIsSet, ZerosAreSet, NothingIsPut};
 
 /// With more ticks the history of a run is that of fewer ticks, perhaps with newer entries (5.1.2.3).
 pub fn history_grows()
@@ -30,6 +30,26 @@ pub fn written_is_read()
     ensures { WrittenIsRead }
 {}
 
+/// An array keeps its lengths: what would be written in its place as a value changes nothing.
+pub fn array_stays()
+    ensures { ArrayStays }
+{}
+
+/// An element that becomes a value is that value in its place (6.5.16p3).
+pub fn element_is_set()
+    ensures { ElementIsSet }
+{}
+
+/// Elements that become zero are the zeroed tree in their place (6.7.9p10).
+pub fn zeros_are_set()
+    ensures { ZerosAreSet }
+{}
+
+/// Where there is nothing, nothing changes.
+pub fn nothing_is_put()
+    ensures { NothingIsPut }
+{}
+
 /// The result of a binary operator is a value of its result type (6.5p5).
 pub fn operation_fits()
     ensures { OperationFits }
@@ -48,6 +68,11 @@ pub fn read_fits()
 /// It keeps to the type where the written tree fits it.
 pub fn write_fits()
     ensures { WriteFits }
+{}
+
+/// So it does where a value that fits is written.
+pub fn set_fits()
+    ensures { SetFits }
 {}
 
 /// A new object, which is indeterminate, fits every type.
