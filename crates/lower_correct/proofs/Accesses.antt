@@ -31,7 +31,7 @@ use Rattle.lower_correct.proofs.Steps.{Reaches, reaches_on, stays, GoesTo, goes,
 use Rattle.lower_correct.proofs.Shapes.{value_in}
 use Rattle.lower_correct.proofs.Stores.{World, Refers, Fine, After, after_none, after_store}
 use Rattle.lower_correct.proofs.Standing.{Scratch, here, put_scratch, set_same, put_state, Holds, does_convert, first_automatic, world, IsCode}
-use Rattle.lower_correct.proofs.Memory.{IsAt, tree_there, held_word, does_load, does_store}
+use Rattle.lower_correct.proofs.Memory.{IsAt, tree_there, element_is_stored, held_word, does_load, does_store}
 use Rattle.lower_correct.proofs.Goods.{Keeps, keeps_all, keeps_put, IsFreeFor, RestsIn, Known, is_number_there, Suits, takes, target_suits, Good, ends, follows}
 use Rattle.lower_correct.proofs.Leaves.{IntoDoes}
 use Rattle.lower_correct.proofs.Typing.{same_type_is, no_length}
@@ -231,12 +231,15 @@ module _ (p : typed.Program) (tf : Function) (call : Calling) (q : Program) (dee
       ends p q f e (If sense to) t k o pc pc2 hi before old now ws x s fr su i (subst (λ z. Holds q f o (word_for z) now s) (sym fin) h) b known
 
   -- a store, which is undefined in a string literal, and the code after it
-  pub write_there : {B : Type 0} (Good2 : B → machine.State → State → Type 0) (hi lo : ℕ) (z : State) (at : Pos) (r : Reference) (v : ℤ) (s : machine.State)
-      (go : ℤ → machine.State → Run B) (b : Bool) → z.history ≡ s.history → z.input ≡ s.input → nat_lt r.object (length p.literals) ≡ b
-      → (nat_lt r.object (length q.literals) ≡ false → Sim q 14 hi lo z Good2 (go v (stored r v s)))
+  pub write_there : {B : Type 0} (Good2 : B → machine.State → State → Type 0) (hi lo : ℕ) (z : State) (at : Pos) (r : Reference) (u : IntType) (v : ℤ)
+      (ws : List Call) (s : machine.State) (go : ℤ → machine.State → Run B) (b : Bool) → Fine (world p q f ws) s → Refers (world p q f ws) r u []
+      → z.history ≡ s.history → z.input ≡ s.input → nat_lt r.object (length p.literals) ≡ b
+      → (nat_lt r.object (length q.literals) ≡ false → Sim q 14 hi lo z Good2 (go v (with_element r v s)))
       → Sim q 14 hi lo z Good2 (then_do (choose b (undefined U7 at s) (Goes v (stored r v s))) go)
-  write_there Good2 hi lo z at r v s go true e1 e2 e next = halts q hi z s e1 e2
-  write_there Good2 hi lo z at r v s go false e1 e2 e next = next (ap (λ l. nat_lt r.object (length l)) is.literals ∙ e)
+  write_there Good2 hi lo z at r u v ws s go true fine hr e1 e2 e next = halts q hi z s e1 e2
+  write_there Good2 hi lo z at r u v ws s go false fine hr e1 e2 e next =
+      subst (λ y. Sim q 14 hi lo z Good2 (go v y)) (element_is_stored (world p q f ws) r u v s fine hr)
+      (next (ap (λ l. nat_lt r.object (length l)) is.literals ∙ e))
 
   -- the found place, and a further temporary that is free
   pub found_beside : (a : Place) (c : Bool) (t k j w : ℕ) (r : Reference) (now : Scratch) (s : machine.State) → free_temporary_at (found a c t k) t ≤ j

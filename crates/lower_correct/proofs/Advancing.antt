@@ -96,8 +96,8 @@ module _ (p : typed.Program) (tf : Function) (call : Calling) (q : Program) (dee
       let kept : Keeps false j k2 now4 now5 =
       keeps_put g (word_for w) false j k2 now4 l1.now2 jj (l1.keeps false j k2 now4 jj (keeps_all false j k2 now4)) in
       let ha5 = stays_found p tf call q deep f is a false t k r now4 now5 writes_none s2 s2 kept (after_none writes_none s2) ha in
-      write_there p tf call q deep f is Result2 (60 * s2.clock + 80) s2.clock (here f pc now4 ws s2) at r cw s2 (λ y s. Goes ov s)
-      (nat_lt r.object (length p.literals)) refl refl refl
+      write_there p tf call q deep f is Result2 (60 * s2.clock + 80) s2.clock (here f pc now4 ws s2) at r u cw ws s2
+      (λ y s. Goes ov s) (nat_lt r.object (length p.literals)) fine hr refl refl refl
       (λ hl.
       let st = puts_do p tf call q deep f is (cuts u Nowhere || is_wide u) u (operand.Temporary (j + 1)) spot Nowhere (j + 1) i.0 i.1 r w now5 ws s2
       (can_stay u Nowhere w (is_wide u) rw_ (λ y. sym (wide_word u w y))) i.3 (set_same l1.now2.temporaries (j + 1) (word (word_for w))) ha5

@@ -95,8 +95,8 @@ module _ (p : typed.Program) (tf : Function) (call : Calling) (q : Program) (dee
         let more = free_more_at p tf call q deep f is spot t k in
         let rv = ranged (extent e) v ke.value in
         goes_same p call q deep f Result2 (60 * s3.clock + 114) s3.clock (here f p3 now3 ws s3) (write p at r cv s3)
-        (write_there p tf call q deep f is Result2 (60 * s3.clock + 114) s3.clock (here f p3 now3 ws s3) at r cv s3 (λ y s. Goes y s)
-        (nat_lt r.object (length p.literals)) refl refl refl
+        (write_there p tf call q deep f is Result2 (60 * s3.clock + 114) s3.clock (here f p3 now3 ws s3) at r u cv ws s3
+        (λ y s. Goes y s) (nat_lt r.object (length p.literals)) ke.fine refers refl refl refl
         (λ hl.
         let st = puts_do p tf call q deep f is (cuts u m || keeps u e) u (operand_of e t2 k2) spot m t2 p3 pc2 r v now3 ws s3
         (can_stay u m v (keeps u e) rv (λ g. sym (word_stays u (extent e) v g ke.value))) i h ha
@@ -163,8 +163,8 @@ module _ (p : typed.Program) (tf : Function) (call : Calling) (q : Program) (dee
       let kept : Keeps c t2 k2 now now5 =
       keeps_put g (word_for w) c t2 k2 now l1.now2 le (l1.keeps c t2 k2 now le (keeps_all c t2 k2 now)) in
       let ha5 = stays_found p tf call q deep f is a c t k r now now5 writes_none s s kept (after_none writes_none s) ha in
-      write_there p tf call q deep f is Result2 (60 * s.clock + 80) s.clock (here f pc now ws s) at r cw s (λ y s. Goes (finish y) s)
-      (nat_lt r.object (length p.literals)) refl refl refl
+      write_there p tf call q deep f is Result2 (60 * s.clock + 80) s.clock (here f pc now ws s) at r u cw ws s
+      (λ y s. Goes (finish y) s) (nat_lt r.object (length p.literals)) fine hr refl refl refl
       (λ hl.
       let st = puts_do p tf call q deep f is (cuts u m || is_wide u) u (operand.Temporary j) (found a c t k) m j i.0 pc2 r w now5 ws s
       (can_stay u m w (is_wide u) rw_ (λ y. sym (wide_word u w y))) i.2 (set_same l1.now2.temporaries j (word (word_for w))) ha5

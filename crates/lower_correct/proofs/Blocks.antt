@@ -19,7 +19,7 @@ use Rattle.lower_correct.specs.Code.{One}
 use Rattle.lower_correct.proofs.Words.{differ, ranged, converts_again}
 use Rattle.lower_correct.proofs.Steps.{stays, GoesTo, goes, from, Sim, sim_after, sim_then, sim_more, sim_map, sim_move, tick_in}
 use Rattle.lower_correct.proofs.Standing.{Scratch, here, slots_only, does_nothing, does_jump, does_forget, world, first_automatic}
-use Rattle.lower_correct.proofs.Stores.{Fine, After, after_on, with_tree, fine_put, after_put, fine_later, after_since}
+use Rattle.lower_correct.proofs.Stores.{Fine, After, after_on, with_tree, fine_put, put_is_stored, after_put, fine_later, after_since}
 use Rattle.lower_correct.proofs.Goods.{Good, object_state}
 use Rattle.lower_correct.proofs.Leaves.{IsNumber, scalar_is, IntoDoes, Converted, ConvertsDoes}
 use Rattle.lower_correct.proofs.Flows.{writes_all, all_forgotten, StandsAt, FlowGood, Runs, Lists, flow_since, there}
@@ -93,17 +93,19 @@ module _ (p : typed.Program) (call : Calling) (q : Program) (deep f : ℕ) (resu
       (tick_in q 14 Good2 (here f p1 c.now ws s3) (here f pc2 c.now ws s3) s2 14 (60 * s2.clock + 14) (λ s. Goes tt (stored (whole (s2.base + x)) cv s))
       (omega arith) refl refl (does_nothing q f p1 pc2 c.now ws s3 o)
       (λ k lt2.
-      let s4 : machine.State = with_tree x (Element (Some cv)) (record s2 { clock = k }) in
-      goes q 14 (StandsAt p call q deep f result pc2 s ws) (60 * k + 60 + 14) k 0 0 (here f pc2 c.now ws s3) (here f pc2 c.now ws s3) s4
+      let later : machine.State = record s2 { clock = k } in
+      let s4 = with_tree x (Element (Some cv)) later in
+      let fine2 = fine_later (world p q f ws) s2 k c.known.fine in
+      subst (λ y. Sim q 14 (60 * k + 60 + 14) k (here f pc2 c.now ws s3) Good2 (Goes tt y)) (put_is_stored (world p q f ws) x num.type cv later num.at num.lengths fine2)
+      (goes q 14 (StandsAt p call q deep f result pc2 s ws) (60 * k + 60 + 14) k 0 0 (here f pc2 c.now ws s3) (here f pc2 c.now ws s3) s4
       (stays q (here f pc2 c.now ws s3)) (omega arith) (omega arith)
       (record {
         now = c.now;
         at = refl;
-        fine = fine_put (world p q f ws) x num.type cv (record s2 { clock = k }) num.at num.lengths
-            (subst (λ y. IsValueOf y cv) (sym num.element) (converted_fits u v)) (fine_later (world p q f ws) s2 k c.known.fine);
+        fine = fine_put (world p q f ws) x num.type cv later num.at num.lengths (subst (λ y. IsValueOf y cv) (sym num.element) (converted_fits u v)) fine2;
         after = after_on writes_all writes_all writes_all s s2 s4 (λ y h. h) (λ y h. h) (all_after _ s s2 c.known.after)
-            (after_since writes_all s2 s4 k (after_put writes_all x (Element (Some cv)) (record s2 { clock = k }) refl));
-      })))))
+            (after_since writes_all s2 s4 k (after_put writes_all x (Element (Some cv)) later refl));
+      }))))))
 
   pub braces_begin : (ri : machine.State → Run (Unit {0})) (b pc p1 pc2 : ℕ) → One (function_at q f).code instruction.Nothing pc p1 → BeginsAt ri b p1 pc2
       → BeginsAt (λ s. tick s ri) b pc pc2

@@ -14,7 +14,7 @@ use Rattle.typing_spec.specs.Program as typed
 use Rattle.typing_spec.specs.Program.{Moment, Value as Expression}
 use Rattle.csem.specs.Store.{Element, Reference, whole, put, value_at}
 use Rattle.csem.specs.Machine as machine
-use Rattle.csem.specs.Machine.{Run, Goes, Stops, then_do, choose, undefined, computed_at, read, write, value_or_undefined}
+use Rattle.csem.specs.Machine.{Run, Goes, Stops, then_do, choose, undefined, computed_at, read, write, value_or_undefined, stored}
 use Rattle.csem.specs.Expressions.{Calling, evaluate, find}
 use Rattle.tac_code.specs.declared.code.Operand.{Operand}
 use Rattle.tac_code.specs.declared.code.Operand.TheVariants as operand
@@ -27,7 +27,7 @@ use Rattle.lower_correct.specs.Code.{Ends, Changes, Into}
 use Rattle.lower_correct.proofs.Words.{Ranged, ranged, converts_again, wide_word, is_word}
 use Rattle.lower_correct.proofs.Steps.{Reaches, reaches_on, Sim, sim_after, sim_then, sim_move, tick_in, find_in, halts}
 use Rattle.lower_correct.proofs.Standing.{Scratch, here, put_scratch, set_same, put_state, Holds, does_nothing, does_convert, world, sizes}
-use Rattle.lower_correct.proofs.Stores.{Fine, after_on, after_put, with_tree, fine_put, read_back, read_fits, fine_later, after_since}
+use Rattle.lower_correct.proofs.Stores.{Fine, after_on, after_put, with_tree, fine_put, put_is_stored, read_back, read_fits, fine_later, after_since}
 use Rattle.lower_correct.proofs.Goods.{Keeps, keeps_put, IsFreeFor, Known, Suits, Good, ends, mode_free, mode_suits, held, object_state}
 use Rattle.lower_correct.proofs.Operations.{computes_do, operated_extent}
 use Rattle.lower_correct.proofs.Leaves.{IsNumber, scalar_is, writes_itself, or_right, IntoDoes, takes_converted}
@@ -111,9 +111,10 @@ module _ (p : typed.Program) (call : Calling) (q : Program) (deep f : ℕ) where
       let fine3 = fine_put (world p q f ws) x num.type v s num.at num.lengths (subst (λ y. IsValueOf y v) (sym num.element) hv) fine in
       let now_at : z ≡ here f pc now ws s3 = ap (here f pc now ws) (object_state p q f x u w v s (scalar_is (function_at q f).objects x u num) ew) in
       subst (λ n. Sim q 14 hi s.clock z Good2 (then_do (write p at (whole (n + x)) v s) go)) eb
-      (undefined_then Good2 hi s.clock z (nat_lt (s.base + x) (length p.literals)) U7 at s (Goes v s3) go
+      (undefined_then Good2 hi s.clock z (nat_lt (s.base + x) (length p.literals)) U7 at s (Goes v (stored (whole (s.base + x)) v s)) go
       (ap (λ y. y.history) now_at) (ap (λ y. y.input) now_at)
-      (sim_move q 14 Good2 hi s.clock z (here f pc now ws s3) (go v s3) now_at (next fine3 there)))
+      (subst (λ y. Sim q 14 hi s.clock z Good2 (go v y)) (put_is_stored (world p q f ws) x num.type v s num.at num.lengths fine)
+      (sim_move q 14 Good2 hi s.clock z (here f pc now ws s3) (go v s3) now_at (next fine3 there))))
 
   -- the object changes: on from there
   pub change_in : (Good2 : ℤ → machine.State → State → Type 0) (go : ℤ → machine.State → Run ℤ) (at : Pos) (o : BinOp) (x : ℕ) (u of : IntType) (a : Operand)

@@ -1,15 +1,16 @@
 -- The store after initialisers of arrays (ISO/IEC 9899:2011 6.7.9p10, p14, p21): rows of zeros and characters are elements that were
 -- written one after the other.
-use Rattle.std.proofs.Common.{◌≡◌, ℕ, zero, suc, ◌+◌, ◌-◌, ◌*◌, ◌≤◌, List, [], ◌∷◌, ◌++◌, Some, ℤ, pos, refl, sym, ap, ◌∙◌, subst, arith}
+use Rattle.std.proofs.Common.{◌≡◌, ℕ, zero, suc, ◌+◌, ◌-◌, ◌*◌, ◌<◌, ◌≤◌, List, [], ◌∷◌, ◌++◌, Some, ℤ, pos, refl, sym, ap, ◌∙◌, subst, arith}
 use Rattle.std.specs.Prelude.{slice_get}
 use Rattle.ctypes.specs.declared.types.IntType.{IntType}
 use Rattle.ctypes.specs.Types.{IsValueOf, converted}
 use Rattle.typing_spec.specs.Types.{elements_in}
-use Rattle.csem.specs.Store.{Tree, Element, Store, Reference, put_at, put_in, filled}
+use Rattle.csem.specs.Store.{Tree, Element, Store, Reference, into, put_at, put_in, set_zeros, filled}
 use Rattle.csem.specs.Machine as machine
+use Rattle.csem.specs.Machine.{stored}
 use Rattle.csem.specs.Statements.{zeros, characters}
 use Rattle.tac_code.specs.Run.{path_of, first_of}
-use Rattle.lower_correct.proofs.Shapes.{HasShape, Leads}
+use Rattle.lower_correct.proofs.Shapes.{HasShape, Leads, shape_put, filled_has, target_there, set_there, zeros_there}
 use Rattle.lower_correct.proofs.Elementwise.{value_no, cases}
 use Rattle.lower_correct.proofs.Written.{set_at, set_no, IsWritten, is_put}
 use Rattle.lower_correct.proofs.Zeros.{number, first_is, leads_on, number_on, zero_rows}
@@ -49,18 +50,23 @@ put_element store x old tree i path v e is =
 
 -- ---- zeros
 
-pub zeros_state : (k i : ℕ) (lengths : List ℕ) (r : Reference) (s : machine.State) (tree : Tree) → slice_get s.store r.object ≡ Some tree
-    → zeros k i lengths r s ≡ record s { store = with_object s.store r.object (zero_rows r.path k i lengths tree) }
-zeros_state zero i lengths r s tree e = ap (λ (l : Store). record s { store = l }) (sym (put_itself s.store r.object tree e))
-zeros_state (suc k) i lengths r s tree e =
-    let one = filled (Some (pos 0)) lengths in
-    let next = put_at (r.path ++ i ∷ []) one tree in
-    let stored = put_in s.store r.object (r.path ++ i ∷ []) one in
-    let s1 : machine.State = record s { store = stored } in
-    let whole : stored ≡ with_object s.store r.object next = put_whole s.store r.object (r.path ++ i ∷ []) tree one e in
-    let there : slice_get stored r.object ≡ Some next = ap (λ l. slice_get l r.object) whole ∙ got_object s.store r.object tree next e in
-    let last = zero_rows r.path k (suc i) lengths next in
-    zeros_state k (suc i) lengths r s1 next there
+pub zeros_state : (t : IntType) (l : List ℕ) (n : ℕ) (rest : List ℕ) (k i : ℕ) (r : Reference) (s : machine.State) (tree : Tree)
+    → slice_get s.store r.object ≡ Some tree → HasShape t l tree → Leads r.path l (n ∷ rest) → i + k ≤ n → IsValueOf t (pos 0)
+    → zeros k i r s ≡ record s { store = with_object s.store r.object (zero_rows r.path k i rest tree) }
+zeros_state t l n rest zero i r s tree e h lead room hv = ap (λ (l : Store). record s { store = l }) (sym (put_itself s.store r.object tree e))
+zeros_state t l n rest (suc k) i r s tree e h lead room hv =
+    let one = filled (Some (pos 0)) rest in
+    let path = r.path ++ i ∷ [] in
+    let here = leads_on r.path l n i rest lead (omega (arith, room)) in
+    let next = put_at path one tree in
+    let cleared = set_zeros s.store (into r i) in
+    let s1 : machine.State = record s { store = cleared } in
+    let whole : cleared ≡ with_object s.store r.object next =
+    zeros_there s.store (into r i) t rest (target_there s.store (into r i) t l rest tree e h here) ∙ put_whole s.store r.object path tree one e in
+    let there : slice_get cleared r.object ≡ Some next = ap (λ l. slice_get l r.object) whole ∙ got_object s.store r.object tree next e in
+    let shape = shape_put path t l rest tree one here h (filled_has t (Some (pos 0)) rest hv) in
+    let last = zero_rows r.path k (suc i) rest next in
+    zeros_state t l n rest k (suc i) r s1 next there shape lead (omega (arith, room)) hv
     ∙ ap (λ (l : Store). record s { store = l }) (ap (λ l. with_object l r.object last) whole ∙ put_again s.store r.object next last)
 
 -- ---- characters
@@ -113,22 +119,32 @@ texted t path l n (suc k) i text tree h lead room hv =
     by_one m i = omega arith
 
 -- an element is stored, and then the others
-one_more : (t : IntType) (k i : ℕ) (text : List ℕ) (v : ℤ) (r : Reference) (s : machine.State) (tree : Tree) → slice_get s.store r.object ≡ Some tree
-    → ((s1 : machine.State) (tree1 : Tree) → slice_get s1.store r.object ≡ Some tree1 → characters t k (suc i) text r s1 ≡ record s1 { store = with_object s1.store r.object (text_rows r.path t k (suc i) text tree1) })
-    → characters t k (suc i) text r (record s { store = put_in s.store r.object (r.path ++ i ∷ []) (Element (Some v)) })
+one_more : (t : IntType) (l : List ℕ) (n k i : ℕ) (text : List ℕ) (v : ℤ) (r : Reference) (s : machine.State) (tree : Tree)
+    → slice_get s.store r.object ≡ Some tree → HasShape t l tree → Leads r.path l (n ∷ []) → i < n → IsValueOf t v
+    → ((s1 : machine.State) (tree1 : Tree) → slice_get s1.store r.object ≡ Some tree1 → HasShape t l tree1
+    → characters t k (suc i) text r s1 ≡ record s1 { store = with_object s1.store r.object (text_rows r.path t k (suc i) text tree1) })
+    → characters t k (suc i) text r (stored (into r i) v s)
     ≡ record s { store = with_object s.store r.object (text_rows r.path t k (suc i) text (put_at (r.path ++ i ∷ []) (Element (Some v)) tree)) }
-one_more t k i text v r s tree e others =
+one_more t l n k i text v r s tree e h lead lt hv others =
     let one = Element (Some v) in
-    let next = put_at (r.path ++ i ∷ []) one tree in
-    let stored = put_in s.store r.object (r.path ++ i ∷ []) one in
-    let s1 : machine.State = record s { store = stored } in
-    let whole : stored ≡ with_object s.store r.object next = put_whole s.store r.object (r.path ++ i ∷ []) tree one e in
-    let there : slice_get stored r.object ≡ Some next = ap (λ l. slice_get l r.object) whole ∙ got_object s.store r.object tree next e in
+    let path = r.path ++ i ∷ [] in
+    let here = leads_on r.path l n i [] lead lt in
+    let next = put_at path one tree in
+    let s1 = stored (into r i) v s in
+    let whole : s1.store ≡ with_object s.store r.object next =
+    set_there s.store (into r i) t v (target_there s.store (into r i) t l [] tree e h here) ∙ put_whole s.store r.object path tree one e in
+    let there : slice_get s1.store r.object ≡ Some next = ap (λ l. slice_get l r.object) whole ∙ got_object s.store r.object tree next e in
     let last = text_rows r.path t k (suc i) text next in
-    others s1 next there ∙ ap (λ (l : Store). record s { store = l }) (ap (λ l. with_object l r.object last) whole ∙ put_again s.store r.object next last)
+    others s1 next there (shape_put path t l [] tree one here h hv)
+    ∙ ap (λ (l : Store). record s { store = l }) (ap (λ l. with_object l r.object last) whole ∙ put_again s.store r.object next last)
 
-pub characters_state : (t : IntType) (k i : ℕ) (text : List ℕ) (r : Reference) (s : machine.State) (tree : Tree) → slice_get s.store r.object ≡ Some tree
+pub characters_state : (t : IntType) (l : List ℕ) (n k i : ℕ) (text : List ℕ) (r : Reference) (s : machine.State) (tree : Tree)
+    → slice_get s.store r.object ≡ Some tree → HasShape t l tree → Leads r.path l (n ∷ []) → i + k ≤ n → ((j : ℕ) → IsValueOf t (character t text j))
     → characters t k i text r s ≡ record s { store = with_object s.store r.object (text_rows r.path t k i text tree) }
-characters_state t zero i text r s tree e = ap (λ (l : Store). record s { store = l }) (sym (put_itself s.store r.object tree e))
-characters_state t (suc k) i [] r s tree e = one_more t k i [] (pos 0) r s tree e (characters_state t k (suc i) [] r)
-characters_state t (suc k) i (c ∷ text) r s tree e = one_more t k i text (converted t (pos c)) r s tree e (characters_state t k (suc i) text r)
+characters_state t l n zero i text r s tree e h lead room hv = ap (λ (l : Store). record s { store = l }) (sym (put_itself s.store r.object tree e))
+characters_state t l n (suc k) i [] r s tree e h lead room hv =
+    one_more t l n k i [] (pos 0) r s tree e h lead (omega (arith, room)) (hv 0)
+    (λ s1 tree1 e1 h1. characters_state t l n k (suc i) [] r s1 tree1 e1 h1 lead (omega (arith, room)) hv)
+characters_state t l n (suc k) i (c ∷ text) r s tree e h lead room hv =
+    one_more t l n k i text (converted t (pos c)) r s tree e h lead (omega (arith, room)) (hv 0)
+    (λ s1 tree1 e1 h1. characters_state t l n k (suc i) text r s1 tree1 e1 h1 lead (omega (arith, room)) (λ j. hv (suc j)))

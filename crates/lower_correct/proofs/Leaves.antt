@@ -26,7 +26,7 @@ use Rattle.lower_correct.specs.Code.{One, Ends, Constantly, Converts, Into, trut
 use Rattle.lower_correct.proofs.Words.{Ranged, ranged, smallest_has, converts_again, converted_is_word, word_stays, differ}
 use Rattle.lower_correct.proofs.Steps.{Reaches, GoesTo, goes, from, Sim, sim_then, sim_more, sim_map, sim_move, undefined_or, tick_in, tick_ends, find_in, halts}
 use Rattle.lower_correct.proofs.Standing.{Scratch, here, put_scratch, type_in, put_state, Takes, does_nothing, does_move, does_jump, does_convert, world, sizes}
-use Rattle.lower_correct.proofs.Stores.{World, Fine, after_on, after_put, with_tree, fine_put, read_back, read_fits, fine_later, after_later, after_since}
+use Rattle.lower_correct.proofs.Stores.{World, Fine, after_on, after_put, with_tree, fine_put, put_is_stored, read_back, read_fits, fine_later, after_later, after_since}
 use Rattle.lower_correct.proofs.Goods.{keeps_all, keeps_put, IsFree, IsFreeFor, HasIn, has_put, meets, Known, known_with, SuitsIn, Suits, takes, Good, ends, mode_free, mode_suits, Held, held, object_state}
 
 -- object x of a call is a number of type u
@@ -242,9 +242,11 @@ module _ (p : typed.Program) (call : Calling) (q : Program) (deep f : ℕ) where
       let last : Sim q 14 hi s.clock (here f pc now ws s3) (Good p q f e m t k pc2 before old ws) (Goes v s3) =
       ends p q f e m t k (operand.Object x) pc pc2 hi before old now ws v s3 fr su i (ap (option_map (λ y. word (word_for y))) there) h1 (known fine3 there) in
       subst (λ n. Sim q 14 hi s.clock z (Good p q f e m t k pc2 before old ws) (write p at (whole (n + x)) v s)) eb
-      (undefined_or q 14 (Good p q f e m t k pc2 before old ws) hi s.clock z (nat_lt (s.base + x) (length p.literals)) U7 at s (Goes v s3)
-      (ap (λ y. y.history) now_at) (ap (λ y. y.input) now_at)
-      (sim_move q 14 (Good p q f e m t k pc2 before old ws) hi s.clock z (here f pc now ws s3) (Goes v s3) now_at last))
+      (undefined_or q 14 (Good p q f e m t k pc2 before old ws) hi s.clock z (nat_lt (s.base + x) (length p.literals)) U7 at s
+      (Goes v (stored (whole (s.base + x)) v s)) (ap (λ y. y.history) now_at) (ap (λ y. y.input) now_at)
+      (subst (λ y. Sim q 14 hi s.clock z (Good p q f e m t k pc2 before old ws) (Goes v y))
+      (put_is_stored (world p q f ws) x num.type v s num.at num.lengths fine)
+      (sim_move q 14 (Good p q f e m t k pc2 before old ws) hi s.clock z (here f pc now ws s3) (Goes v s3) now_at last)))
 
   assign_last : (at at2 : Pos) (u : IntType) (x : ℕ) (e : Expression) (m : Mode) (t k n p2 pc2 : ℕ) (now : Scratch) (ws : List Call) (s : machine.State)
       → IsNumber (function_at q f).objects x u → IsFreeFor m t k → Suits p q f m u → Ends (function_at q f).code m (operand.Object x) p2 pc2

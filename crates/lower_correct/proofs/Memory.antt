@@ -9,7 +9,7 @@ use Rattle.ctypes.specs.Types.{IsValueOf, bytes_of}
 use Rattle.ctypes.proofs.Uses.{converted_keeps}
 use Rattle.typing_spec.specs.Types.{ObjectType, same_type, elements_in}
 use Rattle.typing_spec.specs.Program as typed
-use Rattle.csem.specs.Store.{Tree, Element, Array, Reference, into, tree_at, at_path, length_of, value_at, put}
+use Rattle.csem.specs.Store.{Tree, Element, Array, Store, Reference, into, tree_at, at_path, length_of, value_at, put}
 use Rattle.csem.specs.Machine as machine
 use Rattle.tac_code.specs.declared.code.Operand.{Operand}
 use Rattle.tac_code.specs.declared.code.Operand.TheVariants as operand
@@ -24,7 +24,7 @@ use Rattle.tac_code.specs.Run as tac
 use Rattle.lower_correct.specs.Code.{One}
 use Rattle.lower_correct.proofs.Words.{ranged, converts_again}
 use Rattle.lower_correct.proofs.Steps.{Reaches}
-use Rattle.lower_correct.proofs.Shapes.{HasShape, Leads, Sub, sub_there, is_scalar_tree, parts_are, elements_are}
+use Rattle.lower_correct.proofs.Shapes.{HasShape, Leads, Sub, sub_there, is_scalar_tree, parts_are, elements_are, set_there}
 use Rattle.lower_correct.proofs.Stores.{World, all_types, Refers, Fine, tree_is}
 use Rattle.lower_correct.proofs.Standing.{Scratch, here, put_scratch, put_state, Takes, Holds, given, word_there, is_same, does_one, literal_type, types_below, world}
 
@@ -69,6 +69,11 @@ tree_there W r t l s fine h =
       is = ap (λ o. at_path o r.path) old.1 ∙ sub.is;
       has = subst (λ y. HasShape y l sub.tree) h.element sub.has;
     }
+
+-- what is put there is what the abstract machine stores (6.5.16p3)
+pub element_is_stored : (W : World) (r : Reference) (t : IntType) (v : ℤ) (s : machine.State) → Fine W s → Refers W r t []
+    → record s { store = put s.store r (Element (Some v)) } ≡ machine.stored r v s
+element_is_stored W r t v s fine h = ap (λ (l : Store). record s { store = l }) (sym (set_there s.store r t v (tree_there W r t [] s fine h)))
 
 leads_into : (path from : List ℕ) (n i : ℕ) (rest : List ℕ) → Leads path from (n ∷ rest) → i < n → Leads (path ++ i ∷ []) from rest
 leads_into [] from n i rest h lt = subst (λ l. Leads (i ∷ []) l rest) (sym h) (lt, refl)

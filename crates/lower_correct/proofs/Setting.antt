@@ -25,10 +25,10 @@ use Rattle.lower_correct.proofs.Elements.{through}
 use Rattle.lower_correct.proofs.Zeros.{number, first_is}
 use Rattle.lower_correct.proofs.Stores.{Refers, Fine, fine_changed, fine_later, after_on, after_store, after_since, tree_is, own_at, own_fits, own_apart}
 use Rattle.lower_correct.proofs.Standing.{Scratch, here, put_scratch, world, IsCode}
-use Rattle.lower_correct.proofs.Memory.{IsAt, is_at_element}
+use Rattle.lower_correct.proofs.Memory.{IsAt, element_is_stored, is_at_element}
 use Rattle.lower_correct.proofs.Goods.{Good, held}
 use Rattle.lower_correct.proofs.Leaves.{IntoDoes}
-use Rattle.lower_correct.proofs.Accesses.{can_stay, puts_do}
+use Rattle.lower_correct.proofs.Accesses.{can_stay, with_element, puts_do}
 use Rattle.lower_correct.proofs.Flows.{writes_all, all_after, StandsAt}
 use Rattle.lower_correct.proofs.Stretches.{done, IsArray, refers_to}
 
@@ -86,14 +86,16 @@ module _ (p : typed.Program) (tf : Function) (call : Calling) (q : Program) (dee
       (λ k lt2.
       let s3 : machine.State = record s2 { clock = k } in
       let fine3 = fine_later W s2 k ke.fine in
-      goes q 14 (Good2 done) (60 * k + 60 + 22) (suc k) st.steps st.cost x (here f st.pc st.now2 ws (stored r cv s3)) (stored r cv s3) st.reaches
+      let s4 = with_element p tf call q deep f same r cv s3 in
+      subst (λ y. Sim q 14 (60 * k + 60 + 22) (suc k) x Good2 (Goes done y)) (element_is_stored W r u cv s3 fine3 refers)
+      (goes q 14 (Good2 done) (60 * k + 60 + 22) (suc k) st.steps st.cost x (here f st.pc st.now2 ws s4) s4 st.reaches
       (let small = st.small in omega (arith, small)) (let some = st.some in omega (arith, some))
       (record {
         now = st.now2;
-        at = ap (λ m. here f m st.now2 ws (stored r cv s3)) st.ends;
+        at = ap (λ m. here f m st.now2 ws s4) st.ends;
         fine = fine_changed W r o [] (Element (Some cv)) s3 (own_at W s2 n o ke.fine is.at) lead
             (subst (λ y. IsValueOf y cv) (sym eu) (converted_fits u v)) apart fine3;
-        after = after_on writes_all writes_all writes_all s s2 (stored r cv s3) (λ y h. h) (λ y h. h)
+        after = after_on writes_all writes_all writes_all s s2 s4 (λ y h. h) (λ y h. h)
             (all_after p call q deep f result _ s s2 ke.after)
-            (after_since writes_all s2 (stored r cv s3) k (after_store W writes_all r u [] (Element (Some cv)) s3 fine3 refers));
-      })))))
+            (after_since writes_all s2 s4 k (after_store W writes_all r u [] (Element (Some cv)) s3 fine3 refers));
+      }))))))

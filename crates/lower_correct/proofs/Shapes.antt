@@ -1,10 +1,12 @@
 -- Trees of elements: their lengths, the types of their values, and the parts that a path leads to (ISO/IEC 9899:2011 6.2.5p20, 6.5.2.1).
-use Rattle.std.proofs.Common.{◌≡◌, ℕ, zero, suc, ◌*◌, ◌<◌, List, [], ◌∷◌, Option, Some, None, true, ℤ, refl, sym, ap, ◌∙◌, subst, arith}
+use Rattle.std.proofs.Common.{◌≡◌, ℕ, zero, suc, ◌*◌, ◌<◌, List, [], ◌∷◌, Option, Some, None, true, ℤ, pos, refl, sym, ap, ◌∙◌, subst, arith}
+use Rattle.std.specs.Prelude.{slice_get}
 use Rattle.ctypes.specs.declared.types.IntType.{IntType}
 use Rattle.ctypes.specs.Types.{IsValueOf}
 use Rattle.typing_spec.specs.Types.{elements_in}
-use Rattle.csem.specs.Store.{Tree, Element, Array, Row, no_parts, and_part, parts, part_of, at_path, value_of, change_part, put_at, repeated, filled}
+use Rattle.csem.specs.Store.{Tree, Element, Array, Row, no_parts, and_part, Store, Reference, parts, part_of, at_path, tree_at, value_of, change_part, put_at, put, set_value, zeroed, zeroed_row, set_zeros, repeated, filled}
 use Rattle.csem.specs.Laws.{ValueFits}
+use Rattle.csem.proofs.InPlace.{element_is_set, zeros_are_set}
 use Rattle.tac_code.specs.Run.{elements_of, elements_of_row, is_element}
 
 -- a tree of these lengths, whose elements that have a value have one of type t
@@ -119,3 +121,39 @@ row_filled t l tree (suc n) h = (h, row_filled t l tree n h)
 pub filled_has : (t : IntType) (v : Option ℤ) (l : List ℕ) → ValueFits t v → HasShape t l (filled v l)
 filled_has t v [] h = h
 filled_has t v (n ∷ l) h = row_filled t l (filled v l) n (filled_has t v l h)
+
+-- ---- values that are written in place: an array keeps its lengths
+
+-- the target of a reference
+pub target_there : (store : Store) (r : Reference) (t : IntType) (l rest : List ℕ) (tree : Tree) → slice_get store r.object ≡ Some tree → HasShape t l tree
+    → Leads r.path l rest → Sub t rest (tree_at store r)
+target_there store r t l rest tree e h lead =
+    let sub = sub_there r.path t l rest tree lead h in
+    record { tree = sub.tree; is = ap (λ o. at_path o r.path) e ∙ sub.is; has = sub.has }
+
+-- an element that becomes v
+pub set_there : (store : Store) (r : Reference) (t : IntType) (v : ℤ) → Sub t [] (tree_at store r) → set_value store r v ≡ put store r (Element (Some v))
+set_there store r t v sub = by_tree sub.tree sub.is sub.has
+  where
+    by_tree : (tree : Tree) → tree_at store r ≡ Some tree → HasShape t [] tree → set_value store r v ≡ put store r (Element (Some v))
+    by_tree (Element w) e h = element_is_set store r w v e
+    by_tree (Array row) e h = absurd h
+
+mutual
+  zeroed_is : (t : IntType) (l : List ℕ) (tree : Tree) → HasShape t l tree → zeroed tree ≡ filled (Some (pos 0)) l
+  zeroed_is t [] (Element v) h = refl
+  zeroed_is t [] (Array row) h = absurd h
+  zeroed_is t (n ∷ l) (Element v) h = absurd h
+  zeroed_is t (n ∷ l) (Array row) h = ap Array (zeroed_row_is t n l row h)
+
+  zeroed_row_is : (t : IntType) (n : ℕ) (l : List ℕ) (row : Row) → RowHas t n l row → zeroed_row row ≡ repeated n (filled (Some (pos 0)) l)
+  zeroed_row_is t zero l no_parts h = refl
+  zeroed_row_is t zero l (and_part part row) h = absurd h
+  zeroed_row_is t (suc n) l no_parts h = absurd h
+  zeroed_row_is t (suc n) l (and_part part row) h =
+      ap (λ x. and_part x (zeroed_row row)) (zeroed_is t l part h.0) ∙ ap (and_part (filled (Some (pos 0)) l)) (zeroed_row_is t n l row h.1)
+
+-- a part of these lengths that becomes zero
+pub zeros_there : (store : Store) (r : Reference) (t : IntType) (l : List ℕ) → Sub t l (tree_at store r)
+    → set_zeros store r ≡ put store r (filled (Some (pos 0)) l)
+zeros_there store r t l sub = zeros_are_set store r sub.tree sub.is ∙ ap (put store r) (zeroed_is t l sub.tree sub.has)

@@ -10,7 +10,7 @@ use Rattle.csem.specs.Machine as machine
 use Rattle.tac_code.specs.Run.{is_element}
 use Rattle.tac_code.specs.Sound.{AreBytes}
 use Rattle.lower_correct.proofs.Words.{differ}
-use Rattle.lower_correct.proofs.Shapes.{HasShape, Leads, shape_put, value_in, shape_scalar}
+use Rattle.lower_correct.proofs.Shapes.{HasShape, Leads, shape_put, value_in, shape_scalar, target_there, set_there}
 
 -- ---- the list of objects
 
@@ -215,6 +215,14 @@ pub fine_put : (W : World) (x : ℕ) (t : ObjectType) (v : ℤ) (s : machine.Sta
 fine_put W x t v s e el h fine =
     fine_changed W (whole (s.base + x)) t t.lengths (Element (Some v)) s (own_at W s x t fine e) refl
     (subst (λ l. HasShape t.element l (Element (Some v))) (sym el) h) (own_apart W s x fine) fine
+
+-- that is what the abstract machine stores (6.5.16p3)
+pub put_is_stored : (W : World) (x : ℕ) (t : ObjectType) (v : ℤ) (s : machine.State) → slice_get W.own x ≡ Some t → t.lengths ≡ [] → Fine W s
+    → with_tree x (Element (Some v)) s ≡ machine.stored (whole (s.base + x)) v s
+put_is_stored W x t v s e el fine =
+    let r = whole (s.base + x) in
+    let old = tree_is t (slice_get s.store (s.base + x)) (own_fits W s x t fine e) in
+    ap (λ (l : Store). record s { store = l }) (sym (set_there s.store r t.element v (target_there s.store r t.element t.lengths [] old.0 old.1 old.2 el)))
 
 -- the value read from it
 pub read_back : (W : World) (x : ℕ) (t : ObjectType) (v : ℤ) (s : machine.State) → slice_get W.own x ≡ Some t → Fine W s

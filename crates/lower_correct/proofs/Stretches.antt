@@ -134,7 +134,7 @@ module _ (p : typed.Program) (call : Calling) (q : Program) (deep f : ℕ) (resu
     first = number o.lengths path + i * elements_in inner
 
     abbrev last : ℕ → Unit {0} → machine.State → Run (Unit {0})
-    last b u s = Goes done (zeros k i inner (record { object = b; path = path }) s)
+    last b u s = Goes done (zeros k i (record { object = b; path = path }) s)
 
     fits : (s : machine.State) (tree : Tree) → HasShape o.element o.lengths tree → first + k * elements_in inner ≤ elements_in o.lengths
     fits s tree shape =
@@ -148,10 +148,11 @@ module _ (p : typed.Program) (call : Calling) (q : Program) (deep f : ℕ) (resu
 
     all_cleared : (s : machine.State) (tree : Tree) (k2 : ℕ) → slice_get s.store (s.base + n) ≡ Some tree → HasShape o.element o.lengths tree
         → with_array s k2 (written tree first (k * elements_in inner) (λ j. pos 0))
-        ≡ zeros k i inner (record { object = s.base + n; path = path }) (record s { clock = k2 })
+        ≡ zeros k i (record { object = s.base + n; path = path }) (record s { clock = k2 })
     all_cleared s tree k2 there shape =
         ap (λ t. with_array s k2 t) (zeros_are_written o.element path o.lengths count inner k i tree shape lead within zero_is (fits s tree shape))
-        ∙ sym (zeros_state k i inner (record { object = s.base + n; path = path }) (record s { clock = k2 }) tree there)
+        ∙ sym (zeros_state o.element o.lengths count inner k i (record { object = s.base + n; path = path }) (record s { clock = k2 }) tree there shape lead within
+        zero_is)
 
     clears_by : (c pc pc2 : ℕ) → c ≡ k * elements_in inner → Clears (function_at q f).code o.element n first c pc pc2
         → (s : machine.State) (now : Scratch) → Fine (world p q f ws) s
@@ -160,12 +161,12 @@ module _ (p : typed.Program) (call : Calling) (q : Program) (deep f : ℕ) (resu
         let old = tree_is o (slice_get s.store (s.base + n)) (own_fits (world p q f ws) s n o fine is.at) in
         let tree = old.0 in
         let same : written tree first (k * elements_in inner) (λ j. pos 0) ≡ tree = ap (λ c. written tree first c (λ j. pos 0)) (sym ec) in
-        let e : with_array s s.clock tree ≡ zeros k i inner (record { object = s.base + n; path = path }) s =
+        let e : with_array s s.clock tree ≡ zeros k i (record { object = s.base + n; path = path }) s =
         ap (λ t. with_array s s.clock t) (sym same) ∙ all_cleared s tree s.clock old.1 old.2 in
         sim_move q 14 (λ u. StandsAt p call q deep f result pc2 s ws) (60 * s.clock + 14) s.clock (here f pc now ws s) (here f pc2 now ws (with_array s s.clock tree))
         (last (s.base + n) done s)
         (ap (λ m. here f m now ws s) h ∙ ap (λ store. here f pc2 now ws (record s { store = store })) (sym (put_itself s.store (s.base + n) tree old.1)))
-        (ends_changed s (zeros k i inner (record { object = s.base + n; path = path }) s) s.clock pc2 (60 * s.clock + 14) now tree fine old.2 e (omega arith))
+        (ends_changed s (zeros k i (record { object = s.base + n; path = path }) s) s.clock pc2 (60 * s.clock + 14) now tree fine old.2 e (omega arith))
     clears_by (suc zero) pc pc2 ec h s now fine =
         let W = world p q f ws in
         let Good2 : Unit {0} → machine.State → State → Type 0 = λ u. StandsAt p call q deep f result pc2 s ws in
@@ -187,7 +188,7 @@ module _ (p : typed.Program) (call : Calling) (q : Program) (deep f : ℕ) (resu
         tick_then q Good2 s.clock (here f pc now ws s) s 14 (ticks 0) (last (s.base + n)) refl refl
         (λ k2 lt. sim_after q 14 Good2 (60 * k2 + 60 + 14) (suc k2) (60 * k2 + 14) k2 1 7 (here f pc now ws s) (here f pc2 now ws (with_array s k2 new))
         (last (s.base + n) done (record s { clock = k2 })) step2 (omega arith) (omega arith)
-        (ends_changed s (zeros k i inner (record { object = s.base + n; path = path }) (record s { clock = k2 })) k2 pc2 (60 * k2 + 14) now new fine w.shape
+        (ends_changed s (zeros k i (record { object = s.base + n; path = path }) (record s { clock = k2 })) k2 pc2 (60 * k2 + 14) now new fine w.shape
         (ap (λ c. with_array s k2 (written old.tree first c (λ j. pos 0))) ec ∙ all_cleared s old.tree k2 old.there old.shape) (omega arith)))
     clears_by (suc (suc c)) pc pc2 ec h s now fine =
         let W = world p q f ws in
@@ -213,7 +214,7 @@ module _ (p : typed.Program) (call : Calling) (q : Program) (deep f : ℕ) (resu
         (clears p q f ws o.element first (suc (suc c)) h.1 pc2 h.4 (let small = is.small in omega (arith, room, ec, small)) (λ j. pos 0) (λ j. zero_is) zero_is 0
         (λ j le. refl) (suc c) 0 now2 s a 2 Good2 (last (s.base + n)) (omega arith) (omega arith) (omega (arith, room, ec)) old.shape fine
         (record { count = refl; base = refl })
-        (λ k2 now3 same. ends_changed s (zeros k i inner (record { object = s.base + n; path = path }) (record s { clock = k2 })) k2 pc2 (60 * k2 + 21 + 2) now3
+        (λ k2 now3 same. ends_changed s (zeros k i (record { object = s.base + n; path = path }) (record s { clock = k2 })) k2 pc2 (60 * k2 + 21 + 2) now3
         (written old.tree first (suc (suc c)) (λ j. pos 0)) fine w.shape
         (ap (λ c. with_array s k2 (written old.tree first c (λ j. pos 0))) ec ∙ all_cleared s old.tree k2 old.there old.shape) (omega arith)))
 

@@ -97,7 +97,8 @@ module _ (p : typed.Program) (tf : Function) (call : Calling) (q : Program) (dee
       subst (λ i. IsWritten o.element o.lengths tree rows i count give) none
       (texted o.element path o.lengths count count 0 text tree shape lead (omega arith) (letters_fit o.element text)) in
       ap (λ t. array_with s k2 t) (same_written o.element o.lengths tree (written tree first count give) rows first count give code meaning)
-      ∙ sym (characters_state o.element count 0 text (record { object = s.base + n; path = path }) (record s { clock = k2 }) tree there)
+      ∙ sym (characters_state o.element o.lengths count count 0 text (record { object = s.base + n; path = path }) (record s { clock = k2 }) tree there shape lead
+      (omega arith) (letters_fit o.element text))
 
   abbrev Ended : ℕ → machine.State → Unit {0} → machine.State → State → Type 0
   Ended pc2 s u = StandsAt p call q deep f result pc2 s ws
