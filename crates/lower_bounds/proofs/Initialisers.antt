@@ -1,5 +1,5 @@
 -- The code of the first values of arrays keeps within its nodes' room, and is fine: a text's takes all that its node has.
-use Rattle.std.proofs.Common.{◌≡◌, ℕ, zero, suc, ◌+◌, ◌*◌, ◌-◌, ◌<◌, ◌≤◌, ◌^◌, min, max, List, [], ◌∷◌, length, Option, Some, None, Bool, true, false, ◌&&◌, ◌||◌, refl, sym, ap, subst, arith}
+use Rattle.std.proofs.Common.{◌≡◌, ℕ, zero, suc, ◌+◌, ◌*◌, ◌<◌, ◌≤◌, ◌^◌, min, max, List, [], ◌∷◌, length, Option, Some, None, Bool, true, false, ◌&&◌, ◌||◌, refl, sym, ap, subst, arith}
 use Rattle.std.specs.Prelude.{nat_le, nat_lt, nat_eq, slice_get}
 use Rattle.std.proofs.Math.Nat.{max-le}
 use Rattle.std.proofs.lemmas.Option.{slice_get_within}
@@ -115,17 +115,12 @@ filled_room n = omega arith
 none_left : (n : ℕ) → n + 1 ≤ 0 → ⊥
 none_left n h = omega (arith, h)
 
--- one of k rows, and those after it
-first_row : (i k n e c : ℕ) → n + 1 ≤ k → i + k * e ≤ c → i + e ≤ c
-first_row i zero n e c some h = absurd (none_left n some)
-first_row i (suc k) n e c some h = let sum : suc k * e ≡ e + k * e = grind arith in omega (arith, h, sum)
+-- the first row, and the k rows after it
+first_row : (i k e c : ℕ) → i + suc k * e ≤ c → i + e ≤ c
+first_row i k e c h = let sum : suc k * e ≡ e + k * e = grind arith in omega (arith, h, sum)
 
-next_rows : (i k n e c : ℕ) → n + 1 ≤ k → i + k * e ≤ c → i + e + (k - 1) * e ≤ c
-next_rows i zero n e c some h = absurd (none_left n some)
-next_rows i (suc k) n e c some h =
-    let sum : suc k * e ≡ e + k * e = grind arith in
-    let less : suc k - 1 ≡ k = omega arith in
-    subst (λ m. i + e + m * e ≤ c) (sym less) (let l : i + e + k * e ≤ c = omega (arith, h, sum) in l)
+next_rows : (i k e c : ℕ) → i + suc k * e ≤ c → i + e + k * e ≤ c
+next_rows i k e c h = let sum : suc k * e ≡ e + k * e = grind arith in omega (arith, h, sum)
 
 first_there : (i e c : ℕ) → i + e ≤ c → 0 < e → i < c
 first_there i e c h s = omega (arith, h, s)
@@ -142,7 +137,7 @@ least_small n m h = omega (arith, h)
 small_part : (n c : ℕ) → n ≤ c → c < 2 ^ 32 → n < 2 ^ 32
 small_part n c h s = omega (arith, h, s)
 
-fewer_initials : (n k : ℕ) → n + 1 ≤ k → n ≤ k - 1
+fewer_initials : (n k : ℕ) → n + 1 ≤ suc k → n ≤ k
 fewer_initials n k h = omega (arith, h)
 
 text_there : (t : IntType) (n : ℕ) (texts : List (List ℕ)) (m : ℕ) (o : Option (List ℕ)) → slice_get texts m ≡ o → text_fits t (n ∷ []) o ≡ true
@@ -288,18 +283,19 @@ module _ (z : Ground) where
           → i + k * elements_in lengths ≤ elements_in o.lengths → 0 < elements_in lengths
           → FillAll z.code z.source.literals (sizes z) all o.element k lengths n i pc pc2 → Within z (pc2 ≤ z.limit) (initialisers_nodes all + 1) 56 pc pc2
       fill_all_within typed.no_initialisers k lengths i pc pc2 h d w few le some s = clears_within (k * elements_in lengths) i pc pc2 le s
-      fill_all_within (typed.and_initialiser x more) k lengths i pc pc2 h d w few le some s =
+      fill_all_within (typed.and_initialiser x more) zero lengths i pc pc2 h d w few le some s = absurd (none_left (initialisers_in more) few)
+      fill_all_within (typed.and_initialiser x more) (suc k) lengths i pc pc2 h d w few le some s =
           let this = initialiser_is_typed z.source z.function o.element lengths x in
           let others = initialisers_are_typed z.source z.function o.element lengths more in
           let ix = in_initialiser z.source x in
           let im = in_initialisers z.source more in
-          let rest = fill_all_within more (k - 1) lengths (i + elements_in lengths) s.0 pc2 (right_true this others h) (right_true ix im d)
+          let rest = fill_all_within more k lengths (i + elements_in lengths) s.0 pc2 (right_true this others h) (right_true ix im d)
           (right_wide (widest_initial x) (widest_initials more) z.slots w) (fewer_initials (initialisers_in more) k few)
-          (next_rows i k (initialisers_in more) (elements_in lengths) (elements_in o.lengths) few le) some s.2 in
+          (next_rows i k (elements_in lengths) (elements_in o.lengths) le) some s.2 in
           settle z (initialiser_nodes x + initialisers_nodes more + 1) 56 (part_room (initialiser_nodes x) (initialisers_nodes more)) (join z
           (aimed z (λ a. on s.0 pc2 z.limit rest.forward a)
           (fills_within x lengths i pc s.0 (left_true this others h) (left_true ix im d) (left_wide (widest_initial x) (widest_initials more) z.slots w)
-          (first_row i k (initialisers_in more) (elements_in lengths) (elements_in o.lengths) few le) some s.1)) rest)
+          (first_row i k (elements_in lengths) (elements_in o.lengths) le) some s.1)) rest)
 
   -- ---- definitions
 

@@ -248,16 +248,20 @@ module _ (p : typed.Program) (tf : Function) (call : Calling) (q : Program) (dee
           → FillAll (function_at q f).code p.literals (size_of_place p tf) all o.element k inner n i pc pc2
           → RestAt (initialise_all p call all o.element k j inner (part_at b path)) b pc pc2
       all_begin typed.no_initialisers path count inner k j i b pc pc2 lead within few ei ht ha h = rest_clears path count inner k j i b pc pc2 lead within ei h
-      all_begin (typed.and_initialiser x more) path count inner k j i b pc pc2 lead within few ei ht ha h =
+      all_begin (typed.and_initialiser x more) path count inner zero j i b pc pc2 lead within few ei ht ha h = absurd (omega (arith, few))
+      all_begin (typed.and_initialiser x more) path count inner (suc k) j i b pc pc2 lead within few ei ht ha h =
           let typed_x = initialiser_is_typed p tf o.element inner x in
           let typed_more = initialisers_are_typed p tf o.element inner more in
-          parts_begin (initialise p call x o.element inner (part_at b (path ++ j ∷ [])))
-          (initialise_all p call more o.element (k - 1) (suc j) inner (part_at b path)) b pc h.0 pc2
+          let less : suc k - 1 ≡ k = omega arith in
+          subst (λ m. RestAt (λ s. then_do (initialise p call x o.element inner (part_at b (path ++ j ∷ [])) s)
+          (λ u s. initialise_all p call more o.element m (suc j) inner (part_at b path) s)) b pc pc2) (sym less)
+          (parts_begin (initialise p call x o.element inner (part_at b (path ++ j ∷ [])))
+          (initialise_all p call more o.element k (suc j) inner (part_at b path)) b pc h.0 pc2
           (fills_begin x inner (path ++ j ∷ []) i b pc h.0 (leads_on path o.lengths count j inner lead (omega (arith, within, few)))
           (number_on path o.lengths count j inner lead ∙ ei) (left_true typed_x typed_more ht) (left_true (initialiser_is_asked x) (initialisers_are_asked more) ha) h.1)
-          (all_begin more path count inner (k - 1) (suc j) (i + elements_in inner) b h.0 pc2 lead (omega (arith, within, few)) (omega (arith, few))
+          (all_begin more path count inner k (suc j) (i + elements_in inner) b h.0 pc2 lead (omega (arith, within, few)) (omega (arith, few))
           (next_row (number o.lengths path) j (elements_in inner) i ei) (right_true typed_x typed_more ht)
-          (right_true (initialiser_is_asked x) (initialisers_are_asked more) ha) h.2)
+          (right_true (initialiser_is_asked x) (initialisers_are_asked more) ha) h.2))
 
   module _ (room : AreSized tf) where
     object_begins : (lengths : List ℕ) (t : ObjectType) → t.lengths ≡ lengths → (i : Initialiser) (x b pc pc2 : ℕ) → slice_get (function_at q f).objects x ≡ Some t

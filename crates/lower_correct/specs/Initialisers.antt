@@ -2,7 +2,7 @@
 -- become zero, and characters, are written by loops. Elements are counted in memory order, across all rows of the array.
 --
 -- Nothing is evaluated meanwhile: temporary 0 counts, temporary 1 is the reference of the first element, 2 that of the literal.
-use Rattle.std.specs.Prelude.{◌≡◌, ℕ, zero, suc, ◌+◌, ◌*◌, ◌-◌, min, nat_lt, Bool, true, false, ◌||◌, List, length, slice_get}
+use Rattle.std.specs.Prelude.{◌≡◌, ℕ, zero, suc, ◌+◌, ◌*◌, min, nat_lt, Bool, true, false, ◌||◌, List, length, slice_get}
 use Rattle.ctypes.specs.declared.types.IntType.{IntType}
 use Rattle.ctypes.specs.declared.types.IntType.TheVariants as ty
 use Rattle.typing_spec.specs.Types.{elements_in}
@@ -90,8 +90,10 @@ module _ (code : List Instruction) where
       Fills (typed.list all) t lengths n i pc pc2 =
           (p1 : ℕ) × One code instruction.Nothing pc p1 × FillAll all t (first_length lengths) (inner_lengths lengths) n i p1 pc2
 
-      -- k elements or rows of these lengths, the first of which begins at element i (6.7.9p17)
+      -- k elements or rows of these lengths, the first of which begins at element i (6.7.9p17). Initialisers past the last element have no
+      -- code: a typed program has none such
       pub FillAll : Initialisers → IntType → (k : ℕ) → List ℕ → (n i : ℕ) → ℕ → ℕ → Type 0
       FillAll typed.no_initialisers t k lengths n i pc pc2 = Clears t n i (k * elements_in lengths) pc pc2
-      FillAll (typed.and_initialiser x more) t k lengths n i pc pc2 =
-          (p1 : ℕ) × Fills x t lengths n i pc p1 × FillAll more t (k - 1) lengths n (i + elements_in lengths) p1 pc2
+      FillAll (typed.and_initialiser x more) t zero lengths n i pc pc2 = pc ≡ pc2
+      FillAll (typed.and_initialiser x more) t (suc k) lengths n i pc pc2 =
+          (p1 : ℕ) × Fills x t lengths n i pc p1 × FillAll more t k lengths n (i + elements_in lengths) p1 pc2
