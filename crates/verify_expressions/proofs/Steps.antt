@@ -24,9 +24,8 @@ use Rattle.typed_ast.specs.declared.storage_places.Callee.TheVariants as called
 use Rattle.typed_ast.specs.declared.storage_places.Storage as stored
 use Rattle.typed_ast.specs.declared.storage_places.Storage.TheVariants as kind
 use Rattle.typed_ast.specs.View.{Given, number_given, array_given, argument_of, arguments_of, and_given, callee_of, storage_of}
-use Rattle.csem.specs.Store.{Tree, Element, Array, Row, no_parts, and_part, parts, Store, Reference, put_at, put_in}
+use Rattle.csem.specs.Store.{Tree, Element, Array, Row, no_parts, and_part, parts, Store, Reference, put_at, put_in, put}
 use Rattle.csem.specs.Machine.{State}
-use Rattle.csem.specs.Machine as machine
 use Rattle.csem.specs.Expressions.{step_operation, position_of}
 use Rattle.csem.proofs.Fits.{operation_fits, sign_fits}
 use Rattle.std.specs.declared.vec.Vec.{Vec}
@@ -38,6 +37,7 @@ use Rattle.verify_logic.specs.States.{Known, Frame, In, just, Below, range_of, s
 use Rattle.verify_logic.specs.Judgements.{Evaluates, Tests, Operates, OperatesAt, Signs, SignsAt, GivesOr, MayRead, Subscripts, Converts}
 use Rattle.verify_logic.specs.Places.{OneRow, Subscribes, NonZero, Splits, Designates, Finds, FindsAt, Passes, got, step_interval}
 use Rattle.verify_logic.proofs.Runs.{gives_or}
+use Rattle.verify_logic.proofs.Objects.{value_put}
 use Rattle.verify_logic.proofs.Rules.{named_rule, finds_at, element_rule, read_rule, compound_rule, stepped_rule, both_rule, one_rule, get_byte_rule, put_byte_rule, exit_rule, number_rule, array_rule, no_arguments_rule, value_tests}
 use Rattle.verify_logic.specs.declared.operands.Operand.{Operand}
 use Rattle.verify_logic.specs.declared.operands.Operand.TheVariants.{Object}
@@ -331,9 +331,14 @@ one_put (n ∷ lengths) (j ∷ path) old k i v o a f m (Array row) h =
     one_part n lengths path old k (Element (Some v)) (λ u g. one_put lengths path old k i v o.1 a.1 f m u g) row j one (omega (arith, one, long)) (omega (arith, one, lt)) h.1
 
 pub one_writes_by : (fr : Frame) (o : Option Known) (x : ℕ) (old k : AbsValue) (sub : Option Interval) (i : Interval) (o2 : Option Known) → OneElement (shape_of fr x) → Contents o x old → Entails (record { initialised = true; interval = i }) k → Replaces o x k o2 → Writes fr o x sub i o2
-one_writes_by fr o x old k sub i o2 one g n h = record { is = λ s r v c q u m. at s r v c q m (slice_get s.store x) refl (g.is fr s c) }
+one_writes_by fr o x old k sub i o2 one g n h = record {
+  is = λ s r v c q u m.
+      let P : Store → Type 0 = λ store. Reaches fr o2 (record s { store = store }) in
+      subst P (sym (value_put fr x old s.store r v (g.is fr s c) q)) (at s r v c q m (slice_get s.store x) refl (g.is fr s c));
+}
   where
-    at : (s : State) (r : Reference) (v : ℤ) → Reaches fr o s → Refers fr x [] r → In i v → (t : Option Tree) → t ≡ slice_get s.store x → ObjectIs old (shape_of fr x) t → Reaches fr o2 (machine.stored r v s)
+    at : (s : State) (r : Reference) (v : ℤ) → Reaches fr o s → Refers fr x [] r → In i v → (t : Option Tree) → t ≡ slice_get s.store x → ObjectIs old (shape_of fr x) t →
+        Reaches fr o2 (record s { store = put s.store r (Element (Some v)) })
     at s r v c q m None e b = absurd b
     at s r v c q m (Some t) e b =
         let P : Store → Type 0 = λ store. Reaches fr o2 (record s { store = store }) in

@@ -4,8 +4,9 @@ use Rattle.std.proofs.lemmas.Int.{ints}
 use Rattle.std.proofs.lemmas.List.{take_all}
 use Rattle.std.proofs.Math.Seq.{take-suc}
 use Rattle.std.specs.Prelude.{slice_get, slice_set}
-use Rattle.csem.specs.Store.{Tree, Element, Array, Row, no_parts, and_part, parts, part_of, at_path, change_part, put_at, Store, Reference, put_in}
-use Rattle.csem.specs.Machine.{State, stored}
+use Rattle.csem.specs.Store.{Tree, Element, Array, Row, no_parts, and_part, parts, part_of, at_path, tree_at, change_part, put_at, Store, Reference, put_in, put, set_value}
+use Rattle.csem.specs.Machine.{State}
+use Rattle.csem.proofs.InPlace.{element_is_set}
 use Rattle.verify_logic.specs.declared.abstract_values.Interval.{Interval}
 use Rattle.verify_logic.specs.declared.abstract_values.AbsValue.{AbsValue}
 use Rattle.verify_logic.specs.States.{Known, Frame, In, ValueIs, EachPart, TreeIs, ObjectsAre, or_scalar, shapes_of, shape_of, Holds, Reaches, Below, Entails, EachEntails, Implies, Along, Refers, ObjectIs, FactsAre, KnownEntails, SubscriptIs, Contents, Forgets, Changes, Replaces, Writes}
@@ -108,7 +109,28 @@ path_is k (n ∷ lengths) (i ∷ path) rest (Array row) a h =
     let P : Option Tree → Type 0 = λ o. at_path o path ≡ Some deep.0 in
     (deep.0, subst P (sym q.1) deep.1, deep.2)
 
+-- the tree at a reference has the lengths that are left there
+pub tree_there : (fr : Frame) (x : ℕ) (k : AbsValue) (rest : List ℕ) (store : Store) (r : Reference) → ObjectIs k (shape_of fr x) (slice_get store x) → Refers fr x rest r →
+    (u : Tree) × (tree_at store r ≡ Some u) × TreeIs k rest u
+tree_there fr x k rest store r h q =
+    let P : ℕ → Type 0 = λ y. ObjectIs k (shape_of fr x) (slice_get store y) in
+    at (slice_get store r.object) refl (subst P (sym q.object) h)
+  where
+    at : (o : Option Tree) → slice_get store r.object ≡ o → ObjectIs k (shape_of fr x) o → (u : Tree) × (tree_at store r ≡ Some u) × TreeIs k rest u
+    at None e h = absurd h
+    at (Some t) e h =
+        let deep = path_is k (shape_of fr x) r.path rest t q.path h in
+        (deep.0, ap (λ o. at_path o r.path) e ∙ deep.1, deep.2)
+
 -- ---- writes
+
+-- a value that is written to an element takes its place
+pub value_put : (fr : Frame) (x : ℕ) (k : AbsValue) (store : Store) (r : Reference) (v : ℤ) → ObjectIs k (shape_of fr x) (slice_get store x) → Refers fr x [] r → set_value store r v ≡ put store r (Element (Some v))
+value_put fr x k store r v h q = let there = tree_there fr x k [] store r h q in element there.0 there.1 there.2
+  where
+    element : (u : Tree) → tree_at store r ≡ Some u → TreeIs k [] u → set_value store r v ≡ put store r (Element (Some v))
+    element (Element w) e h = element_is_set store r w v e
+    element (Array row) e h = absurd h
 
 parts_change : (row : Row) (i : ℕ) (f : Tree → Tree) → parts (change_part row i f) ≡ parts row
 parts_change no_parts i f = refl
@@ -155,9 +177,15 @@ none_writes fr x sub i o = record { is = λ s r v h f q m. absurd h }
 -- an element of an array keeps its value, or has the new one
 pub array_writes : (fr : Frame) (a b : Known) (x : ℕ) (old k : AbsValue) (sub : Option Interval) (i : Interval) → slice_get a.objects x ≡ Some old → Entails old k → Entails (record { initialised = true; interval = i }) k → b.objects ≡ slice_set a.objects x k →
     Changes x sub i a.facts b.facts → Writes fr (Some a) x sub i (Some b)
-array_writes fr a b x old k sub i eo f g d ch = record { is = λ s r v h q u m. at s r v h q u m (slice_get s.store x) refl (object_at a.objects (shapes_of fr) s.store x old h.objects_are eo) }
+array_writes fr a b x old k sub i eo f g d ch = record {
+  is = λ s r v h q u m.
+      let there : ObjectIs old (shape_of fr x) (slice_get s.store x) = object_at a.objects (shapes_of fr) s.store x old h.objects_are eo in
+      let P : Store → Type 0 = λ store. Reaches fr (Some b) (record s { store = store }) in
+      subst P (sym (value_put fr x old s.store r v there q)) (at s r v h q u m (slice_get s.store x) refl there);
+}
   where
-    at : (s : State) (r : Reference) (v : ℤ) → Holds fr a s.base s.arrays s.store s.input → Refers fr x [] r → SubscriptIs sub r.path → In i v → (t : Option Tree) → t ≡ slice_get s.store x → ObjectIs old (shape_of fr x) t → Reaches fr (Some b) (stored r v s)
+    at : (s : State) (r : Reference) (v : ℤ) → Holds fr a s.base s.arrays s.store s.input → Refers fr x [] r → SubscriptIs sub r.path → In i v → (t : Option Tree) → t ≡ slice_get s.store x → ObjectIs old (shape_of fr x) t →
+        Reaches fr (Some b) (record s { store = put s.store r (Element (Some v)) })
     at s r v h q u m None e c = absurd c
     at s r v h q u m (Some t) e c =
         let new : Tree = Element (Some v) in

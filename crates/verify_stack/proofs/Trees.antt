@@ -188,9 +188,9 @@ plain_all_renewed : (objects : List ObjectType) (x n : ℕ) → Plain (all_renew
 plain_all_renewed objects x zero = plain_self
 plain_all_renewed objects x (suc n) = plain_chain (renewed objects x) (all_renewed objects (suc x) n) (plain_renewed objects x) (plain_all_renewed objects (suc x) n)
 
-plain_zeros : (n i : ℕ) (lengths : List ℕ) (r : Reference) → Plain (zeros n i lengths r)
-plain_zeros zero i lengths r = plain_self
-plain_zeros (suc n) i lengths r = plain_chain _ (zeros n (suc i) lengths r) (record { same = λ s. refl }) (plain_zeros n (suc i) lengths r)
+plain_zeros : (n i : ℕ) (r : Reference) → Plain (zeros n i r)
+plain_zeros zero i r = plain_self
+plain_zeros (suc n) i r = plain_chain _ (zeros n (suc i) r) (record { same = λ s. refl }) (plain_zeros n (suc i) r)
 
 plain_characters : (t : IntType) (n i : ℕ) (text : List ℕ) (r : Reference) → Plain (characters t n i text r)
 plain_characters t zero i text r = plain_self
@@ -198,7 +198,7 @@ plain_characters t (suc n) i [] r = plain_chain (stored (into r i) (pos 0)) (cha
 plain_characters t (suc n) i (ch ∷ text) r = plain_chain (stored (into r i) (converted t (pos ch))) (characters t n (suc i) text r) (plain_stored (into r i) (converted t (pos ch))) (plain_characters t n (suc i) text r)
 
 keeps_clear : (k : Limits) (n i : ℕ) (lengths : List ℕ) (r : Reference) → Keeps k (clear n i lengths r)
-keeps_clear k n i lengths r = keeps_then k (ticks (n * elements_in lengths)) _ (keeps_ticks k (n * elements_in lengths)) (λ u. keeps_change k tt (zeros n i lengths r) (plain_zeros n i lengths r))
+keeps_clear k n i lengths r = keeps_then k (ticks (n * elements_in lengths)) _ (keeps_ticks k (n * elements_in lengths)) (λ u. keeps_change k tt (zeros n i r) (plain_zeros n i r))
 
 -- the reference to an object of the present call changes no state
 keeps_own : {A : Type 0} (k : Limits) (x : ℕ) (f : Reference → State → Run A) → ((r : Reference) → Keeps k (f r)) → Keeps k (λ s. f (own x s) s)

@@ -7,11 +7,12 @@ use Rattle.ctypes.proofs.Uses.{converted_fits}
 use Rattle.typing_spec.specs.Types.{ObjectType, elements_in}
 use Rattle.typing_spec.specs.Program as typed
 use Rattle.typing_spec.specs.Program.{Value, Initialiser, Initialisers}
-use Rattle.csem.specs.Store.{Tree, Element, Array, Row, no_parts, and_part, parts, part_of, at_path, change_part, change_in, put_at, put_in, put, Store, Reference, whole, into, repeated, filled}
+use Rattle.csem.specs.Store.{Tree, Element, Array, Row, no_parts, and_part, parts, part_of, at_path, change_part, change_in, put_at, put_in, put, set_value, zeroed, zeroed_row, set_zeros, Store, Reference, whole, into}
 use Rattle.csem.specs.Machine.{State, Ended, Undefined, TicksUsed, Run, Goes, Stops, then_do, ticks, stored}
 use Rattle.csem.specs.Expressions.{evaluate}
 use Rattle.csem.specs.Statements.{zeros, characters, text_or_none, initialise, initialise_all}
 use Rattle.csem.specs.Meaning.{calling}
+use Rattle.csem.proofs.InPlace.{zeros_are_set}
 use Rattle.verify_logic.specs.declared.abstract_values.Interval.{Interval}
 use Rattle.verify_logic.specs.declared.abstract_values.AbsValue.{AbsValue}
 use Rattle.verify_logic.specs.States.{Known, Frame, In, just, Below, range_of, EachPart, TreeIs, shape_of, Holds, Reaches, Ends, Entails, Implies, Along, Refers, ObjectIs, Contents, Replaces}
@@ -19,7 +20,7 @@ use Rattle.verify_logic.specs.Judgements.{Evaluates, Converts}
 use Rattle.verify_logic.specs.Statements.{Initialises}
 use Rattle.verify_logic.proofs.Runs.{then_ends, tick_ends, weaker}
 use Rattle.verify_logic.proofs.Rules.{into_refers}
-use Rattle.verify_logic.proofs.Objects.{below, path_is, put_is, tree_entails, entails_rule}
+use Rattle.verify_logic.proofs.Objects.{below, path_is, tree_there, value_put, put_is, tree_entails, entails_rule}
 use Rattle.verify_statements.specs.Quiet.{quiet}
 use Rattle.std.proofs.lemmas.Int.{ints}
 use Rattle.typed_ast.specs.declared.initialisers.Initialiser as held
@@ -108,17 +109,20 @@ parts_changed no_parts i f = refl
 parts_changed (and_part t row) zero f = refl
 parts_changed (and_part t row) (suc i) f = ap suc (parts_changed row i f)
 
-parts_repeated : (n : ℕ) (t : Tree) → parts (repeated n t) ≡ n
-parts_repeated zero t = refl
-parts_repeated (suc n) t = ap suc (parts_repeated n t)
+parts_zeroed : (row : Row) → parts (zeroed_row row) ≡ parts row
+parts_zeroed no_parts = refl
+parts_zeroed (and_part t row) = ap suc (parts_zeroed row)
 
-each_repeated : (P : Tree → Type 0) (n : ℕ) (t : Tree) → P t → EachPart P (repeated n t)
-each_repeated P zero t h = tt
-each_repeated P (suc n) t h = (h, each_repeated P n t h)
+each_zeroed : (P Q : Tree → Type 0) → ((t : Tree) → P t → Q (zeroed t)) → (row : Row) → EachPart P row → EachPart Q (zeroed_row row)
+each_zeroed P Q f no_parts h = tt
+each_zeroed P Q f (and_part t row) h = (f t h.0, each_zeroed P Q f row h.1)
 
-zero_is : (j : Interval) → In j (pos 0) → (lengths : List ℕ) → TreeIs (full j) lengths (filled (Some (pos 0)) lengths)
-zero_is j m [] = m
-zero_is j m (n ∷ lengths) = (parts_repeated n (filled (Some (pos 0)) lengths), each_repeated (TreeIs (full j) lengths) n (filled (Some (pos 0)) lengths) (zero_is j m lengths))
+-- a tree whose elements become zero keeps its lengths
+zeroed_is : (k : AbsValue) (j : Interval) → In j (pos 0) → (lengths : List ℕ) (t : Tree) → TreeIs k lengths t → TreeIs (full j) lengths (zeroed t)
+zeroed_is k j m [] (Element v) h = m
+zeroed_is k j m [] (Array row) h = absurd h
+zeroed_is k j m (n ∷ lengths) (Element v) h = absurd h
+zeroed_is k j m (n ∷ lengths) (Array row) h = (parts_zeroed row ∙ h.0, each_zeroed (TreeIs k lengths) (TreeIs (full j) lengths) (zeroed_is k j m lengths) row h.1)
 
 wider : (i j : Interval) → Below i j → (lengths : List ℕ) (t : Tree) → TreeIs (full i) lengths t → TreeIs (full j) lengths t
 wider i j b lengths t h = tree_entails (full i) (full j) lengths (entails_rule (full i) (full j) (λ e. absurd (cc e)) b) t h
@@ -136,6 +140,15 @@ part_put fr o x k j rest r new s h f g c n = at (slice_get s.store x) refl (h.co
         let Q : ℕ → Type 0 = λ y. Reaches fr o (record s { store = put_in s.store y r.path new }) in
         let is : TreeIs k (shape_of fr x) (put_at r.path new t) = put_is k (shape_of fr x) r.path rest new g.path (tree_entails (full j) k rest f new n) t b in
         subst Q (sym g.object) (subst P (put_whole s.store x r.path new t (sym e)) (h.replaces.is fr s (put_at r.path new t) c is))
+
+-- a value that is written to an element takes its place
+value_takes : (fr : Frame) (o : Option Known) (x : ℕ) (k : AbsValue) (r : Reference) (v : ℤ) (s : State) → Takes o x k → Refers fr x [] r → Reaches fr o s → set_value s.store r v ≡ put s.store r (Element (Some v))
+value_takes fr o x k r v s h g c = value_put fr x k s.store r v (h.contents.is fr s c) g
+
+value_stored : (fr : Frame) (o : Option Known) (x : ℕ) (k : AbsValue) (j : Interval) (r : Reference) (v : ℤ) (s : State) → Takes o x k → Entails (full j) k → Refers fr x [] r → Reaches fr o s → In j v → Reaches fr o (stored r v s)
+value_stored fr o x k j r v s h f g c m =
+    let P : Store → Type 0 = λ store. Reaches fr o (record s { store = store }) in
+    subst P (sym (value_takes fr o x k r v s h g c)) (part_put fr o x k j [] r (Element (Some v)) s h f g c m)
 
 -- the row at a reference
 row_at : (fr : Frame) (o : Option Known) (x : ℕ) (k : AbsValue) (n : ℕ) (inner : List ℕ) (r : Reference) (s : State) → Takes o x k → Refers fr x (n ∷ inner) r → Reaches fr o s → (row : Row) × (parts row ≡ n) × (s.store ≡ put s.store r (Array row))
@@ -185,9 +198,14 @@ value_fills fr u e t x rest o k i o2 j er h f q ev cv = record {
     done : (r : Reference) (s s2 : State) (v : ℤ) → In i v → Refers fr x rest r → Reaches fr o s2 → s2.store ≡ s.store → Reaches fr o (stored r (converted u v) s2) × Filled j rest s.store (stored r (converted u v) s2).store r
     done r s s2 v m g c es =
         let L : List ℕ → Type 0 = λ l. TreeIs (full j) l (Element (Some (converted u v))) in
-        let is : TreeIs (full j) rest (Element (Some (converted u v))) = subst L (sym er) (cv.gives v m) in (
-          part_put fr o x k j rest r (Element (Some (converted u v))) s2 h f g c is,
-          record { tree = Element (Some (converted u v)); is = is; put_there = ap (λ store. put store r (Element (Some (converted u v)))) es },
+        let R : List ℕ → Type 0 = λ l. Refers fr x l r in
+        let to : Refers fr x [] r = subst R er g in (
+          value_stored fr o x k j r (converted u v) s2 h f to c (cv.gives v m),
+          record {
+            tree = Element (Some (converted u v));
+            is = subst L (sym er) (cv.gives v m);
+            put_there = value_takes fr o x k r (converted u v) s2 h to c ∙ ap (λ store. put store r (Element (Some (converted u v)))) es;
+          },
         )
 
 pub braces_fill : (fr : Frame) (i : Initialiser) (t : IntType) (x : ℕ) (rest : List ℕ) (o : Option Known) (j : Interval) → Fills fr i t x rest o j → Fills fr (typed.in_braces i) t x rest o j
@@ -203,18 +221,23 @@ module _ (fr : Frame) (x : ℕ) (o : Option Known) (k : AbsValue) (h : Takes o x
   ticks_stay (suc q) s c = tick_ends fr.listed s (λ s. ticks q s) (λ u s2. (Reaches fr o s2) × (s2.store ≡ s.store)) (λ n. ticks_stay q (record s { clock = n }) c)
 
   zeros_fill : (n m i : ℕ) (inner : List ℕ) (j : Interval) (r : Reference) (before : Store) (row : Row) (s : State) → Entails (full j) k → In j (pos 0) → i + m ≡ n → Refers fr x (n ∷ inner) r → Reaches fr o s → s.store ≡ put before r (Array row) →
-      parts row ≡ n → FirstParts (TreeIs (full j) inner) i row → Reaches fr o (zeros m i inner r s) × FilledRow j n inner before (zeros m i inner r s).store r
+      parts row ≡ n → FirstParts (TreeIs (full j) inner) i row → Reaches fr o (zeros m i r s) × FilledRow j n inner before (zeros m i r s).store r
   zeros_fill n zero i inner j r before row s f z e g c es ep hp =
       let q : i ≡ n = omega (arith, e) in
       let F : ℕ → Type 0 = λ i. FirstParts (TreeIs (full j) inner) i row in
       (c, record { row = row; long = ep; each = all_first (TreeIs (full j) inner) row n ep (subst F q hp); put_there = es })
   zeros_fill n (suc m) i inner j r before row s f z e g c es ep hp =
       let lt : i < n = omega (arith, e) in
-      let new : Tree = filled (Some (pos 0)) inner in
+      let to : Refers fr x inner (into r i) = into_refers fr x n i inner r lt g in
+      let there = tree_there fr x k inner s.store (into r i) (h.contents.is fr s c) to in
+      let new : Tree = zeroed there.0 in
+      let is : TreeIs (full j) inner new = zeroed_is k j z inner there.0 there.2 in
+      let set : set_zeros s.store (into r i) ≡ put s.store (into r i) new = zeros_are_set s.store (into r i) there.0 there.1 in
+      let P : Store → Type 0 = λ store. Reaches fr o (record s { store = store }) in
       let row2 : Row = change_part row i (put_at [] new) in
-      let s2 : State = record s { store = put s.store (into r i) new } in
-      zeros_fill n m (suc i) inner j r before row2 s2 f z (let q : i + suc m ≡ n = e in omega (arith, q)) g (part_put fr o x k j inner (into r i) new s h f (into_refers fr x n i inner r lt g) c (zero_is j z inner))
-      (row_more before s.store r row i new es) (parts_changed row i (put_at [] new) ∙ ep) (first_changed (TreeIs (full j) inner) row i new (omega (arith, lt, ep)) hp (zero_is j z inner))
+      let s2 : State = record s { store = set_zeros s.store (into r i) } in
+      zeros_fill n m (suc i) inner j r before row2 s2 f z (let q : i + suc m ≡ n = e in omega (arith, q)) g (subst P (sym set) (part_put fr o x k j inner (into r i) new s h f to c is))
+      (set ∙ row_more before s.store r row i new es) (parts_changed row i (put_at [] new) ∙ ep) (first_changed (TreeIs (full j) inner) row i new (omega (arith, lt, ep)) hp is)
 
   pub none_fill : (t : IntType) (n i : ℕ) (inner : List ℕ) (j j2 : Interval) → Entails (full j2) k → Below j j2 → In j2 (pos 0) → FillsAll fr typed.no_initialisers t x n i inner o j j2
   none_fill t n i inner j j2 f b z = record {
@@ -231,7 +254,7 @@ module _ (fr : Frame) (x : ℕ) (o : Option Known) (k : AbsValue) (h : Takes o x
         then_ends fr.listed (ticks (m * elements_in inner) s) _ (λ u s2. (Reaches fr o s2) × (s2.store ≡ s.store)) (λ u s2. Reaches fr o s2 × FilledRow j n inner before s2.store r)
         (ticks_stay (m * elements_in inner) s c) (λ u s2 c2.
         let q : 0 ≡ m = omega (arith, e) in
-        let Z : ℕ → Type 0 = λ m. Reaches fr o (zeros m n inner r s2) × FilledRow j n inner before (zeros m n inner r s2).store r in
+        let Z : ℕ → Type 0 = λ m. Reaches fr o (zeros m n r s2) × FilledRow j n inner before (zeros m n r s2).store r in
         subst Z q (c2.0, record { row = row; long = ep; each = all_first (TreeIs (full j) inner) row n ep hp; put_there = c2.1 ∙ es }));
   }
 
@@ -272,15 +295,18 @@ module _ (fr : Frame) (x : ℕ) (o : Option Known) (k : AbsValue) (h : Takes o x
       (c, record { row = row; long = ep; each = all_first (TreeIs (full j) []) row n ep (subst F q hp); put_there = es })
   characters_fill t n (suc m) i [] j r before row s f z v e g c es ep hp =
       let lt : i < n = omega (arith, e) in
+      let to : Refers fr x [] (into r i) = into_refers fr x n i [] r lt g in
       let new : Tree = Element (Some (pos 0)) in
       characters_fill t n m (suc i) [] j r before (change_part row i (put_at [] new)) (stored (into r i) (pos 0) s) f z v (let q : i + suc m ≡ n = e in omega (arith, q)) g
-      (part_put fr o x k j [] (into r i) new s h f (into_refers fr x n i [] r lt g) c z) (row_more before s.store r row i new es) (parts_changed row i (put_at [] new) ∙ ep)
+      (value_stored fr o x k j (into r i) (pos 0) s h f to c z) (value_takes fr o x k (into r i) (pos 0) s h to c ∙ row_more before s.store r row i new es) (parts_changed row i (put_at [] new) ∙ ep)
       (first_changed (TreeIs (full j) []) row i new (omega (arith, lt, ep)) hp z)
   characters_fill t n (suc m) i (a ∷ text) j r before row s f z v e g c es ep hp =
       let lt : i < n = omega (arith, e) in
+      let to : Refers fr x [] (into r i) = into_refers fr x n i [] r lt g in
       let new : Tree = Element (Some (converted t (pos a))) in
       characters_fill t n m (suc i) text j r before (change_part row i (put_at [] new)) (stored (into r i) (converted t (pos a)) s) f z v (let q : i + suc m ≡ n = e in omega (arith, q)) g
-      (part_put fr o x k j [] (into r i) new s h f (into_refers fr x n i [] r lt g) c (v (pos a))) (row_more before s.store r row i new es) (parts_changed row i (put_at [] new) ∙ ep)
+      (value_stored fr o x k j (into r i) (converted t (pos a)) s h f to c (v (pos a))) (value_takes fr o x k (into r i) (converted t (pos a)) s h to c ∙ row_more before s.store r row i new es)
+      (parts_changed row i (put_at [] new) ∙ ep)
       (first_changed (TreeIs (full j) []) row i new (omega (arith, lt, ep)) hp (v (pos a)))
 
   pub text_fills : (a : ℕ) (t : IntType) (n : ℕ) (rest : List ℕ) (j : Interval) → rest ≡ n ∷ [] → Entails (full j) k → j ≡ range_of t → In j (pos 0) → Fills fr (typed.text a) t x rest o j

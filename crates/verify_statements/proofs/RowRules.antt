@@ -1,5 +1,5 @@
 -- First values of arrays of one row, from the results for each element.
-use Rattle.std.proofs.Common.{◌≡◌, ◌≤◌, ◌<◌, ◌+◌, ◌-◌, ◌++◌, ℕ, zero, suc, ℤ, pos, List, [], ◌∷◌, map, length, refl, sym, ap, subst, ◌∙◌, arith, add-one}
+use Rattle.std.proofs.Common.{◌≡◌, ◌≤◌, ◌<◌, ◌+◌, ◌-◌, ◌++◌, ℕ, zero, suc, ℤ, pos, List, [], ◌∷◌, map, length, refl, sym, ap, subst, ◌∙◌, arith, add-one, inl, inr}
 use Rattle.std.proofs.lemmas.Int.{ints}
 use Rattle.std.specs.Prelude.{◌-ℤ◌, Option, Some, None, true, slice_get, slice_set, ◌*◌}
 use Rattle.std.specs.declared.vec.Vec.{Vec}
@@ -11,10 +11,12 @@ use Rattle.typing_spec.specs.Program as typed
 use Rattle.typing_spec.specs.Program.{Value, Initialiser, Initialisers}
 use Rattle.typed_ast.specs.declared.initialisers.Initialiser as held
 use Rattle.typed_ast.specs.View.{initialiser_of, initialisers_of}
-use Rattle.csem.specs.Store.{Tree, Element, Array, Row, no_parts, and_part, parts, part_of, value_of, at_path, Store, Reference, into}
+use Rattle.csem.specs.Store.{Tree, Element, Array, Row, no_parts, and_part, parts, part_of, value_of, at_path, tree_at, put, with_value, with_zeros, set_value, set_zeros, Store, Reference, into}
 use Rattle.csem.specs.Machine.{State, Goes, then_do, tick, ticks, stored}
 use Rattle.csem.specs.Statements.{zeros, characters, text_or_none, initialise, initialise_all}
 use Rattle.csem.specs.Meaning.{calling}
+use Rattle.csem.specs.Laws.{IsNot, Parts}
+use Rattle.csem.proofs.Writes.{other_part_stays}
 use Rattle.verify_logic.specs.declared.abstract_values.Interval.{Interval}
 use Rattle.verify_logic.specs.declared.abstract_values.AbsValue.{AbsValue}
 use Rattle.verify_logic.specs.declared.abstract_values.Fact.{Fact}
@@ -24,7 +26,7 @@ use Rattle.verify_logic.specs.Statements.{Ways, Executes, RenewsOne, Initialises
 use Rattle.verify_logic.proofs.Runs.{then_ends, tick_ends, weaker}
 use Rattle.verify_logic.proofs.Calls.{ticks_end}
 use Rattle.verify_logic.proofs.Rules.{value_then, into_refers}
-use Rattle.verify_logic.proofs.Objects.{with_objects, some_contents}
+use Rattle.verify_logic.proofs.Objects.{with_objects, some_contents, tree_there}
 use Rattle.verify_logic.proofs.Begun.{define_rule, shape_at}
 use Rattle.verify_statements.specs.Rows.{IsRow, ElementBegins, RowClears, RowBegins, RowSpells, RowFills, RowBecomes}
 
@@ -55,23 +57,60 @@ element_begins fr u e x n i o j o1 sub k o2 es h cv w = record {
 
 -- ---- the rest, which is zero
 
+-- there is no row at a reference
+abbrev NoRow : Option Tree → Type 0
+NoRow None = Unit {0}
+NoRow (Some (Element w)) = Unit {0}
+NoRow (Some (Array row)) = ⊥
+
+zero_there : (store : Store) (r : Reference) → NoRow (tree_at store r) → set_value store r (pos 0) ≡ set_zeros store r
+zero_there store r h = ap (put store r) (same (tree_at store r) h)
+  where
+    same : (o : Option Tree) → NoRow o → with_value (pos 0) o ≡ with_zeros o
+    same None h = refl
+    same (Some (Element w)) h = refl
+    same (Some (Array row)) h = absurd h
+
+-- an object of known lengths
+object_there : (ks : List AbsValue) (shapes : List (List ℕ)) (store : Store) (x n : ℕ) → or_scalar (slice_get shapes x) ≡ n ∷ [] → ObjectsAre ks shapes store → (k : AbsValue) × ObjectIs k (or_scalar (slice_get shapes x)) (slice_get store x)
+object_there [] [] store x n e h = absurd (cc e)
+object_there [] (l ∷ shapes) store x n e h = absurd h
+object_there (k ∷ ks) [] store x n e h = absurd h
+object_there (k ∷ ks) (l ∷ shapes) [] x n e h = absurd h
+object_there (k ∷ ks) (l ∷ shapes) (t ∷ store) zero n e h = (k, h.0)
+object_there (k ∷ ks) (l ∷ shapes) (t ∷ store) (suc x) n e h = object_there ks shapes store x n e h.1
+
+element_there : (fr : Frame) (x n i : ℕ) (o : Option Known) (r : Reference) (s : State) → i < n → IsRow fr x n r → Reaches fr o s → NoRow (tree_at s.store (into r i))
+element_there fr x n i None r s lt row c = absurd c
+element_there fr x n i (Some known) r s lt row c =
+    let k = object_there known.objects (shapes_of fr) s.store x n row.shape c.objects_are in
+    let there = tree_there fr x k.0 [] s.store (into r i) k.1 (into_refers fr x n i [] r lt row.refers) in
+    let P : Option Tree → Type 0 = λ o. NoRow o in
+    subst P (sym there.1) (element k.0 there.0 there.2)
+  where
+    element : (k : AbsValue) (u : Tree) → TreeIs k [] u → NoRow (Some u)
+    element k (Element w) h = tt
+    element k (Array row) h = absurd h
+
 pub clears_end : (fr : Frame) (x n i : ℕ) (o : Option Known) → n ≤ i → RowClears fr x n i o o
 clears_end fr x n i o le = record { is = λ m r s e row c. at r m s e c }
   where
-    at : (r : Reference) (m : ℕ) (s : State) → i + m ≡ n → Reaches fr o s → Reaches fr o (zeros m i [] r s)
+    at : (r : Reference) (m : ℕ) (s : State) → i + m ≡ n → Reaches fr o s → Reaches fr o (zeros m i r s)
     at r zero s e c = c
     at r (suc m) s e c = absurd (omega (arith, e, le))
 
 pub clears_more : (fr : Frame) (x n i : ℕ) (o : Option Known) (sub k : Interval) (o1 o2 : Option Known) → i < n → sub ≡ just (pos i) → k ≡ just (pos 0) → Writes fr o x (Some sub) k o1 → RowClears fr x n (i + 1) o1 o2 → RowClears fr x n i o o2
 clears_more fr x n i o sub k o1 o2 lt es ek w h = record { is = λ m r s e row c. at r m s e row c }
   where
-    at : (r : Reference) (m : ℕ) (s : State) → i + m ≡ n → IsRow fr x n r → Reaches fr o s → Reaches fr o2 (zeros m i [] r s)
+    at : (r : Reference) (m : ℕ) (s : State) → i + m ≡ n → IsRow fr x n r → Reaches fr o s → Reaches fr o2 (zeros m i r s)
     at r zero s e row c = absurd (omega (arith, e, lt))
     at r (suc m) s e row c =
-        let P : ℕ → Type 0 = λ j. Reaches fr o2 (zeros m j [] r (stored (into r i) (pos 0) s)) in
+        let P : ℕ → Type 0 = λ j. Reaches fr o2 (zeros m j r (stored (into r i) (pos 0) s)) in
+        let S : Store → Type 0 = λ store. Reaches fr o2 (zeros m (suc i) r (record s { store = store })) in
         let q : (i + 1) + m ≡ n = omega (arith, e) in
         let zero_in : In k (pos 0) = (let Q : Interval → Type 0 = λ k. In k (pos 0) in subst Q (sym ek) (omega (arith, ints), omega (arith, ints))) in
-        subst P (add-one i) (h.is m r (stored (into r i) (pos 0) s) q row (element_put fr x n i o sub k o1 r (pos 0) s lt es w zero_in row c))
+        subst S (zero_there s.store (into r i) (element_there fr x n i o r s lt row c))
+        (subst P (add-one i) (h.is m r (stored (into r i) (pos 0) s) q row (element_put fr x n i o sub k o1 r (pos 0) s lt es w zero_in row c)))
 
 -- ---- lists (6.7.9p17)
 
@@ -116,12 +155,26 @@ spells_end fr t text x n i o le = record { is = λ m r s e row c. at r m s e c }
     at r zero s e c = c
     at r (suc m) s e c = absurd (omega (arith, e, le))
 
-past_text : (t : IntType) (m i : ℕ) (r : Reference) (s : State) → characters t m i [] r s ≡ zeros m i [] r s
-past_text t zero i r s = refl
-past_text t (suc m) i r s = past_text t m (suc i) r (stored (into r i) (pos 0) s)
+-- an element that is written leaves those after it as they are
+later_path : (path : List ℕ) (i j : ℕ) → IsNot i j → Parts (path ++ i ∷ []) (path ++ j ∷ [])
+later_path [] i j h = inl h
+later_path (k ∷ path) i j h = inr (refl, later_path path i j h)
+
+later_stays : (store : Store) (r : Reference) (i j : ℕ) (v : ℤ) → i < j → tree_at (set_value store (into r i) v) (into r j) ≡ tree_at store (into r j)
+later_stays store r i j v lt = other_part_stays store (into r i) (into r j) (with_value v (tree_at store (into r i))) (later_path r.path i j (λ e. absurd (omega (arith, lt, e))))
+
+-- past the text the elements become zero
+past_text : (t : IntType) (m i : ℕ) (r : Reference) (s : State) → ((j : ℕ) → i ≤ j → j < i + m → NoRow (tree_at s.store (into r j))) → characters t m i [] r s ≡ zeros m i r s
+past_text t zero i r s h = refl
+past_text t (suc m) i r s h =
+    let s2 : State = stored (into r i) (pos 0) s in
+    past_text t m (suc i) r s2 later ∙ ap (λ store. zeros m (suc i) r (record s { store = store })) (zero_there s.store (into r i) (h i (omega arith) (omega arith)))
+  where
+    later : (j : ℕ) → suc i ≤ j → j < suc i + m → NoRow (tree_at (stored (into r i) (pos 0) s).store (into r j))
+    later j le lt = let P : Option Tree → Type 0 = λ o. NoRow o in subst P (sym (later_stays s.store r i j (pos 0) (omega (arith, le)))) (h j (omega (arith, le)) (omega (arith, lt)))
 
 pub spells_rest : (fr : Frame) (t : IntType) (text : List ℕ) (x n i : ℕ) (o o2 : Option Known) → length text ≡ 0 → RowClears fr x n i o o2 → RowSpells fr t text x n i o o2
-spells_rest fr t [] x n i o o2 z h = record { is = λ m r s e row c. let P : State → Type 0 = λ s. Reaches fr o2 s in subst P (sym (past_text t m i r s)) (h.is m r s e row c) }
+spells_rest fr t [] x n i o o2 z h = record { is = λ m r s e row c. let P : State → Type 0 = λ s. Reaches fr o2 s in subst P (sym (past_text t m i r s (λ j le lt. element_there fr x n j o r s (omega (arith, e, lt)) row c))) (h.is m r s e row c) }
 spells_rest fr t (a ∷ text) x n i o o2 z h = absurd (cc z)
 
 pub spells_more : (fr : Frame) (t : IntType) (text more : List ℕ) (a x n i : ℕ) (o : Option Known) (sub j k : Interval) (o1 o2 : Option Known) → text ≡ a ∷ more → i < n → sub ≡ just (pos i) → j ≡ just (pos a) → Converts t j k → Writes fr o x (Some sub) k o1 →

@@ -19,7 +19,7 @@ pub record ElementBegins (fr : Frame) (a : Initialiser) (x n i : ℕ) (o o2 : Op
 
 -- the elements from number i on become zero
 pub record RowClears (fr : Frame) (x n i : ℕ) (o o2 : Option Known) : Type 0 where
-  pub is : (m : ℕ) (r : Reference) (s : State) → i + m ≡ n → IsRow fr x n r → Reaches fr o s → Reaches fr o2 (zeros m i [] r s)
+  pub is : (m : ℕ) (r : Reference) (s : State) → i + m ≡ n → IsRow fr x n r → Reaches fr o s → Reaches fr o2 (zeros m i r s)
 
 -- the elements from number i on get these first values
 pub record RowBegins (fr : Frame) (all : Initialisers) (x n i : ℕ) (o o2 : Option Known) : Type 0 where
