@@ -9,7 +9,7 @@ use Rattle.typing_spec.specs.Types.{ObjectType, elements_in}
 use Rattle.typing_spec.specs.Operators.{operated, sign_of}
 use Rattle.typing_spec.specs.Program as typed
 use Rattle.typing_spec.specs.Program.{Callee, Value, Arguments, Initialisers, Statement, Statements, Program}
-use Rattle.csem.specs.Store.{Reference, into, length_of, tree_at, value_at, put, filled}
+use Rattle.csem.specs.Store.{Reference, into, length_of, tree_at, value_at, set_zeros}
 use Rattle.csem.specs.Machine.{State, Run, Goes, Stops, then_do, choose, computed_at, value_or_undefined, subscripted, read, write, stored}
 use Rattle.csem.specs.Expressions.{Passed, Number, Referred, call_value, step_operation, step_value}
 use Rattle.csem.specs.Statements.{Flow, Normal, Broken, Continued, Returned, zeros, characters, text_or_none, after_switch}
@@ -172,13 +172,13 @@ characters_outside t zero i text r s = refl
 characters_outside t (suc k) i [] r s = characters_outside t k (suc i) [] r (stored (into r i) (pos 0) s)
 characters_outside t (suc k) i (c ∷ text) r s = characters_outside t k (suc i) text r (stored (into r i) (converted t (pos c)) s)
 
-zeros_outside : (k i : ℕ) (lengths : List ℕ) (r : Reference) (s : State) → outside_of (zeros k i lengths r s) ≡ outside_of s
-zeros_outside zero i lengths r s = refl
-zeros_outside (suc k) i lengths r s = zeros_outside k (suc i) lengths r (record s { store = put s.store (into r i) (filled (Some (pos 0)) lengths) })
+zeros_outside : (k i : ℕ) (r : Reference) (s : State) → outside_of (zeros k i r s) ≡ outside_of s
+zeros_outside zero i r s = refl
+zeros_outside (suc k) i r s = zeros_outside k (suc i) r (record s { store = set_zeros s.store (into r i) })
 
 calm_late : (p : Program) (what : Late) (s : State) → Calm true (outside_of s) (came_late p what s)
 calm_late p (puts_text t count n r) s = characters_outside t count 0 (text_or_none (slice_get p.literals n)) r s
-calm_late p (puts_zeros count i lengths r) s = zeros_outside count i lengths r s
+calm_late p (puts_zeros count i r) s = zeros_outside count i r s
 calm_late p (enters_body objects body) s = refl
 
 calm_counted : (p : Program) (n : ℕ) (what : Late) (s : State) → Calm true (outside_of s) (counted p n what s)
@@ -186,7 +186,7 @@ calm_counted p zero what s = calm_late p what s
 calm_counted p (suc k) what s = refl
 
 calm_listed : (p : Program) (all : Initialisers) (t : IntType) (k i : ℕ) (lengths : List ℕ) (r : Reference) (s : State) → Calm true (outside_of s) (listed p all t k i lengths r s)
-calm_listed p typed.no_initialisers t k i lengths r s = calm_counted p (k * elements_in lengths) (puts_zeros k i lengths r) s
+calm_listed p typed.no_initialisers t k i lengths r s = calm_counted p (k * elements_in lengths) (puts_zeros k i r) s
 calm_listed p (typed.and_initialiser x more) t k i lengths r s = refl
 
 -- ---- frames

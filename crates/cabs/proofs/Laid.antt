@@ -1,33 +1,33 @@
 -- The objects before the run.
 use Rattle.std.proofs.Common.{◌≡◌, ℕ, ℤ, zero, suc, ◌+◌, ◌*◌, ◌<◌, ◌≤◌, ◌⊎◌, inl, inr, get_or, List, [], ◌∷◌, ◌++◌, length, map, drop, refl, sym, ap, ◌∙◌, arith, pos, drop-cons, Some}
-use Rattle.std.specs.Prelude.{min}
+use Rattle.std.specs.Prelude.{min, slice_get}
 use Rattle.std.proofs.lemmas.Bool.{cases_lt}
 use Rattle.csem.specs.Store as machine
 use Rattle.csem.specs.Store.{first_or_zero}
 use Rattle.typing_spec.specs.Types.{elements_in}
-use Rattle.interp_store.specs.Cells.{value_in, cell, rows, shaped}
+use Rattle.interp_store.specs.Cells.{rows, shaped}
 
 -- ---- one more cell
 
-pub cell_before : (cs : List ℤ) (c : ℤ) (k : ℕ) → k < length cs → cell (cs ++ c ∷ []) k ≡ cell cs k
+pub cell_before : (cs : List ℤ) (c : ℤ) (k : ℕ) → k < length cs → slice_get (cs ++ c ∷ []) k ≡ slice_get cs k
 cell_before [] c k h = absurd (omega arith)
 cell_before (d ∷ cs) c zero h = refl
 cell_before (d ∷ cs) c (suc k) h = cell_before cs c k (omega arith)
 
-pub cell_behind : (cs : List ℤ) (c : ℤ) → cell (cs ++ c ∷ []) (length cs) ≡ value_in c
+pub cell_behind : (cs : List ℤ) (c : ℤ) → slice_get (cs ++ c ∷ []) (length cs) ≡ Some c
 cell_behind [] c = refl
 cell_behind (d ∷ cs) c = cell_behind cs c
 
 -- that many values, and one more
-pub one_laid : (cs vs : List ℤ) (c v : ℤ) (k : ℕ) → length cs ≡ k → value_in c ≡ Some v → v ≡ first_or_zero (drop k vs) →
-    ((j : ℕ) → j < k → cell cs j ≡ Some (first_or_zero (drop j vs))) → (j : ℕ) → j < k + 1 → cell (cs ++ c ∷ []) j ≡ Some (first_or_zero (drop j vs))
-one_laid cs vs c v k size is e each j h = by_place (cases_lt j k)
+pub one_laid : (cs vs : List ℤ) (c : ℤ) (k : ℕ) → length cs ≡ k → c ≡ first_or_zero (drop k vs) →
+    ((j : ℕ) → j < k → slice_get cs j ≡ Some (first_or_zero (drop j vs))) → (j : ℕ) → j < k + 1 → slice_get (cs ++ c ∷ []) j ≡ Some (first_or_zero (drop j vs))
+one_laid cs vs c k size e each j h = by_place (cases_lt j k)
   where
-    by_place : (j < k) ⊎ (k ≤ j) → cell (cs ++ c ∷ []) j ≡ Some (first_or_zero (drop j vs))
+    by_place : (j < k) ⊎ (k ≤ j) → slice_get (cs ++ c ∷ []) j ≡ Some (first_or_zero (drop j vs))
     by_place (inl l) = cell_before cs c j (omega (arith, size, l)) ∙ each j l
     by_place (inr l) =
         let last : j ≡ k = omega (arith, h, l) in
-        ap (cell (cs ++ c ∷ [])) (last ∙ sym size) ∙ cell_behind cs c ∙ is ∙ ap Some (e ∙ ap (λ k. first_or_zero (drop k vs)) (sym last))
+        ap (slice_get (cs ++ c ∷ [])) (last ∙ sym size) ∙ cell_behind cs c ∙ ap Some (e ∙ ap (λ k. first_or_zero (drop k vs)) (sym last))
 
 pub size_behind : (cs : List ℤ) (c : ℤ) → length (cs ++ c ∷ []) ≡ length cs + 1
 size_behind [] c = refl
@@ -47,26 +47,26 @@ drop_further (suc n) j (v ∷ vs) = let more : suc n + j ≡ suc (n + j) = omega
 
 module _ (cs : List ℤ) where
   rows_laid : (n size : ℕ) (part : ℕ → machine.Tree) (object : List ℤ → machine.Tree) (k : ℕ) (vs : List ℤ) →
-      ((k : ℕ) (vs : List ℤ) → ((j : ℕ) → j < size → cell cs (k + j) ≡ Some (first_or_zero (drop j vs))) → part k ≡ object vs) →
-      ((j : ℕ) → j < n * size → cell cs (k + j) ≡ Some (first_or_zero (drop j vs))) → rows n size part k ≡ machine.row_of n size object vs
+      ((k : ℕ) (vs : List ℤ) → ((j : ℕ) → j < size → slice_get cs (k + j) ≡ Some (first_or_zero (drop j vs))) → part k ≡ object vs) →
+      ((j : ℕ) → j < n * size → slice_get cs (k + j) ≡ Some (first_or_zero (drop j vs))) → rows n size part k ≡ machine.row_of n size object vs
   rows_laid zero size part object k vs inner each = refl
   rows_laid (suc n) size part object k vs inner each =
       let whole : suc n * size ≡ size + n * size = grind arith in
       let on : (j : ℕ) → k + size + j ≡ k + (size + j) = λ j. omega arith in
       ap (λ t. machine.and_part t (rows n size part (k + size))) (inner k vs (λ j h. each j (omega (arith, whole, h))))
       ∙ ap (machine.and_part (object vs)) (rows_laid n size part object (k + size) (drop size vs) inner
-      (λ j h. ap (cell cs) (on j) ∙ each (size + j) (omega (arith, whole, h)) ∙ ap (λ vs. Some (first_or_zero vs)) (drop_further size j vs)))
+      (λ j h. ap (slice_get cs) (on j) ∙ each (size + j) (omega (arith, whole, h)) ∙ ap (λ vs. Some (first_or_zero vs)) (drop_further size j vs)))
 
-  pub object_laid : (ls : List ℕ) (k : ℕ) (vs : List ℤ) → ((j : ℕ) → j < elements_in ls → cell cs (k + j) ≡ Some (first_or_zero (drop j vs))) → shaped ls cs k ≡ machine.laid_out ls vs
+  pub object_laid : (ls : List ℕ) (k : ℕ) (vs : List ℤ) → ((j : ℕ) → j < elements_in ls → slice_get cs (k + j) ≡ Some (first_or_zero (drop j vs))) → shaped ls (slice_get cs) k ≡ machine.laid_out ls vs
   object_laid [] k vs each =
       let here : k + 0 ≡ k = omega arith in
-      ap machine.Element (sym (ap (cell cs) here) ∙ each 0 (omega arith))
-  object_laid (n ∷ ls) k vs each = ap machine.Array (rows_laid n (elements_in ls) (shaped ls cs) (machine.laid_out ls) k vs (λ k vs each. object_laid ls k vs each) each)
+      ap machine.Element (sym (ap (slice_get cs) here) ∙ each 0 (omega arith))
+  object_laid (n ∷ ls) k vs each = ap machine.Array (rows_laid n (elements_in ls) (shaped ls (slice_get cs)) (machine.laid_out ls) k vs (λ k vs each. object_laid ls k vs each) each)
 
-pub laid_whole : (ls : List ℕ) (cs vs : List ℤ) (n : ℕ) → n ≡ elements_in ls → ((j : ℕ) → j < n → cell cs j ≡ Some (first_or_zero (drop j vs))) → shaped ls cs 0 ≡ machine.laid_out ls vs
+pub laid_whole : (ls : List ℕ) (cs vs : List ℤ) (n : ℕ) → n ≡ elements_in ls → ((j : ℕ) → j < n → slice_get cs j ≡ Some (first_or_zero (drop j vs))) → shaped ls (slice_get cs) 0 ≡ machine.laid_out ls vs
 laid_whole ls cs vs n size each =
     let on : (j : ℕ) → 0 + j ≡ j = λ j. omega arith in
-    object_laid cs ls 0 vs (λ j h. ap (cell cs) (on j) ∙ each j (omega (arith, size, h)))
+    object_laid cs ls 0 vs (λ j h. ap (slice_get cs) (on j) ∙ each j (omega (arith, size, h)))
 
 -- ---- how many elements, up to a number
 
@@ -160,22 +160,26 @@ last_character cs text i whole h all = sym (nothing_behind cs) ∙ ap (λ l. cs 
     nothing_left (c ∷ text) zero h = absurd (omega (arith, h))
     nothing_left (c ∷ text) (suc i) h = nothing_left text i (omega (arith, h))
 
-cell_of_text : (text : List ℕ) (j : ℕ) → j < length text → cell (map pos text) j ≡ Some (pos (get_or text j 0))
+cell_of_text : (text : List ℕ) (j : ℕ) → j < length text → slice_get (map pos text) j ≡ Some (pos (get_or text j 0))
 cell_of_text [] j h = absurd (omega arith)
 cell_of_text (c ∷ text) zero h = refl
 cell_of_text (c ∷ text) (suc j) h = cell_of_text text j (omega arith)
 
-rows_of_text : (text : List ℕ) (cs : List ℤ) (k : ℕ) → ((j : ℕ) → j < length text → cell cs (k + j) ≡ Some (pos (get_or text j 0))) →
-    rows (length text) 1 (shaped [] cs) k ≡ machine.characters_of text
+rows_of_text : (text : List ℕ) (cs : List ℤ) (k : ℕ) → ((j : ℕ) → j < length text → slice_get cs (k + j) ≡ Some (pos (get_or text j 0))) →
+    rows (length text) 1 (shaped [] (slice_get cs)) k ≡ machine.characters_of text
 rows_of_text [] cs k each = refl
 rows_of_text (c ∷ text) cs k each =
     let here : k + 0 ≡ k = omega arith in
     let on : (j : ℕ) → k + 1 + j ≡ k + suc j = λ j. omega arith in
-    ap (λ v. machine.and_part (machine.Element v) (rows (length text) 1 (shaped [] cs) (k + 1))) (sym (ap (cell cs) here) ∙ each 0 (omega arith))
-    ∙ ap (machine.and_part (machine.Element (Some (pos c)))) (rows_of_text text cs (k + 1) (λ j h. ap (cell cs) (on j) ∙ each (suc j) (omega arith)))
+    ap (λ v. machine.and_part (machine.Element v) (rows (length text) 1 (shaped [] (slice_get cs)) (k + 1))) (sym (ap (slice_get cs) here) ∙ each 0 (omega arith))
+    ∙ ap (machine.and_part (machine.Element (Some (pos c)))) (rows_of_text text cs (k + 1) (λ j h. ap (slice_get cs) (on j) ∙ each (suc j) (omega arith)))
 
-pub literal_laid : (text : List ℕ) (n : ℕ) (cs : List ℤ) → n ≡ length text → cs ≡ map pos text → shaped (n ∷ []) cs 0 ≡ machine.literal_object text
-literal_laid text n cs size e =
+as_long : (text : List ℕ) → length (map pos text) ≡ length text
+as_long [] = refl
+as_long (c ∷ text) = ap suc (as_long text)
+
+pub literal_laid : (text : List ℕ) (cs : List ℤ) → cs ≡ map pos text → shaped (length cs ∷ []) (slice_get cs) 0 ≡ machine.literal_object text
+literal_laid text cs e =
     let on : (j : ℕ) → 0 + j ≡ j = λ j. omega arith in
-    ap (λ n. shaped (n ∷ []) cs 0) size ∙ ap (λ cs. shaped (length text ∷ []) cs 0) e
-    ∙ ap machine.Array (rows_of_text text (map pos text) 0 (λ j h. ap (cell (map pos text)) (on j) ∙ cell_of_text text j h))
+    ap (λ cs. shaped (length cs ∷ []) (slice_get cs) 0) e ∙ ap (λ n. shaped (n ∷ []) (slice_get (map pos text)) 0) (as_long text)
+    ∙ ap machine.Array (rows_of_text text (map pos text) 0 (λ j h. ap (slice_get (map pos text)) (on j) ∙ cell_of_text text j h))

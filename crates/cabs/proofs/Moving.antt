@@ -50,7 +50,7 @@ seeks objects v (Some c ∷ labels) n default all s = tt
 module _ (p : Program) where
   late : (what : on.Late) (s : State) → Moves (came_late p what s)
   late (on.puts_text t count n r) s = tt
-  late (on.puts_zeros count i lengths r) s = tt
+  late (on.puts_zeros count i r) s = tt
   late (on.enters_body objects body) s = tt
 
   counts : (k : ℕ) (what : on.Late) (s : State) → Moves (counted p k what s)
@@ -101,7 +101,7 @@ module _ (p : Program) where
   statements objects (typed.return_value t e) s = tt
 
   lists : (all : typed.Initialisers) (t : IntType) (k i : ℕ) (lengths : List ℕ) (r : Reference) (s : State) → Moves (listed p all t k i lengths r s)
-  lists typed.no_initialisers t k i lengths r s = counts (k * elements_in lengths) (on.puts_zeros k i lengths r) s
+  lists typed.no_initialisers t k i lengths r s = counts (k * elements_in lengths) (on.puts_zeros k i r) s
   lists (typed.and_initialiser x more) t k i lengths r s = tt
 
   initialisers : (i : typed.Initialiser) (t : IntType) (lengths : List ℕ) (r : Reference) (s : State) → Moves (entered_initialiser p i t lengths r s)

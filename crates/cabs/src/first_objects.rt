@@ -1,15 +1,14 @@
 //! The objects before the run: string literals, then those with static storage.
 
-ghost use Rattle.std.specs.Prelude.{◌≡◌, ◌<◌, ◌-◌, ◌^◌, ◌++◌, ◌∷◌, [], ℕ, Some, IfErr, IfOk, OnOk, drop, length, map, min, pos};
+ghost use Rattle.std.specs.Prelude.{◌≡◌, ◌<◌, ◌-◌, ◌^◌, ◌++◌, ◌∷◌, [], ℕ, Some, IfErr, IfOk, OnOk, drop, length, map, min, pos, slice_get};
 ghost use Rattle.typing_spec.specs.Types.{elements_in};
-ghost use Rattle.interp_store.specs.Cells.{cell};
 ghost use Rattle.typed_ast.specs.View.{program_of, static_of};
 ghost use Rattle.csem.specs.Store as machine;
 ghost use Rattle.interp_store.specs.View.{store_of, tree_of};
 ghost use Rattle.interp_store.specs.declared.stop.Stop.TheVariants.{Memory};
 
 use interp_store::stop::Stop;
-use interp_store::{Store, Tree, number_for};
+use interp_store::{Store, Tree};
 use std::alloc::{AllocError, Global};
 use typed_ast::{Program, Static};
 
@@ -38,14 +37,8 @@ fn literal_cells(alloc: Global, text: &[u8]) -> Result<Vec<i64>, AllocError>
 fn literal_object(alloc: Global, text: &[u8]) -> Result<Tree, AllocError>
     ensures { IfOk result (λ t. tree_of t ≡ machine.literal_object text.now) }
 {
-    let Ok(n) = u32::try_from(text.len()) else {
-        return Err(AllocError);
-    };
     match literal_cells(alloc, text) {
-        Ok(cells) => match Tree::array(alloc, &[n], cells) {
-            Ok(object) => Ok(object),
-            Err(e) => Err(e),
-        },
+        Ok(cells) => Tree::row(alloc, cells),
         Err(e) => Err(e),
     }
 }
@@ -85,7 +78,7 @@ fn element_count(lengths: &[u32]) -> usize
 ///
 /// Errors: memory ran out.
 fn laid_cells(alloc: Global, count: usize, values: &[i64]) -> Result<Vec<i64>, Stop>
-    ensures ok { IfOk result (λ cells. (k : ℕ) → k < count → cell cells.items k ≡ Some (machine.first_or_zero (drop k values.now))) }
+    ensures ok { IfOk result (λ cells. (k : ℕ) → k < count → slice_get cells.items k ≡ Some (machine.first_or_zero (drop k values.now))) }
     ensures size { IfOk result (λ cells. length cells.items ≡ count) }
     ensures err { IfErr result (λ e. e ≡ Memory) }
 {
@@ -94,10 +87,7 @@ fn laid_cells(alloc: Global, count: usize, values: &[i64]) -> Result<Vec<i64>, S
         Err(_) => return Err(Stop::Memory),
     };
     for k in 0..count {
-        let Some(number) = number_for(Some(value_or_zero(values, k))) else {
-            return Err(Stop::Memory);
-        };
-        match cells.push(number) {
+        match cells.push(value_or_zero(values, k)) {
             Ok(()) => {}
             Err(_) => return Err(Stop::Memory),
         }

@@ -89,7 +89,7 @@ impl Following {
 
     /// An element is about to be written.
     fn writing(&mut self, scene: &Scene, element: &Reference) {
-        if element.object < self.names.literals {
+        if element.is_before(self.names.literals) {
             self.keep_element(scene, element);
         }
     }

@@ -54,7 +54,7 @@ impl ProgramNames {
             }
         }
         Designation {
-            name: self.whole(function, scene.base, r.object),
+            name: self.whole(function, scene.base, r.object()),
             skipped: 0,
         }
     }
@@ -71,7 +71,10 @@ impl ProgramNames {
     }
 
     /// The name of an object of the run, where those of the present call have the numbers from `base` on.
-    fn whole(&self, function: usize, base: usize, object: usize) -> &str {
+    fn whole(&self, function: usize, base: usize, object: Option<usize>) -> &str {
+        let Some(object) = object else {
+            return "";
+        };
         let Some(behind) = object.checked_sub(self.literals) else {
             return "";
         };
@@ -95,7 +98,7 @@ impl ProgramNames {
         r: &Reference,
     ) -> Result<String, AllocError> {
         let found = self.designated(function, scene, r);
-        let mut text = shown_name(alloc, found.name, r.object)?;
+        let mut text = shown_name(alloc, found.name, r.object())?;
         let subscripts = r.path.subscripts();
         for subscript in subscripts.get(found.skipped..).unwrap_or_default() {
             let subscript = *subscript;
@@ -105,16 +108,24 @@ impl ProgramNames {
     }
 }
 
-/// A name, or the number of the object where there is none.
-fn shown_name(alloc: Global, name: &str, object: usize) -> Result<String, AllocError> {
-    if name.is_empty() {
-        format!(in alloc; "object {object}")
-    } else {
-        String::from_str(alloc, name)
+/// A name, or, where it is empty, `object` and the number of the object.
+///
+/// Errors: memory ran out.
+pub fn shown_name(
+    alloc: Global,
+    name: &str,
+    object: Option<usize>,
+) -> Result<String, AllocError> {
+    if !name.is_empty() {
+        return String::from_str(alloc, name);
+    }
+    match object {
+        Some(object) => format!(in alloc; "object {object}"),
+        None => String::from_str(alloc, "object"),
     }
 }
 
 /// Whether a reference begins with another one.
 fn is_part(r: &Reference, whole: &Reference) -> bool {
-    r.object == whole.object && r.path.subscripts().starts_with(whole.path.subscripts())
+    r.object() == whole.object() && r.path.subscripts().starts_with(whole.path.subscripts())
 }

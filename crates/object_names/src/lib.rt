@@ -7,6 +7,6 @@ mod designations;
 mod names_of;
 mod naming;
 
-pub use designations::Designation;
+pub use designations::{Designation, shown_name};
 pub use names_of::names_of_set;
 pub use naming::{FunctionNames, ObjectName, ProgramNames, program_names};

@@ -8,7 +8,7 @@ use crate::wording::{TraceForm, begun, entered, further, got, left, put, set};
 use interp_store::Reference;
 use interp_store::frames::{Flow, FlowFrame, Found, Passed};
 use interp_store::scene::Scene;
-use object_names::ProgramNames;
+use object_names::{ProgramNames, shown_name};
 use srcset::{Names, Pos, write_text};
 use std::alloc::{AllocError, Global};
 use std::io::Write;
@@ -183,8 +183,7 @@ impl<'a, W: Write + Drop> Trace<'a, W> {
         let subscripts = element.path.subscripts();
         let path = subscripts.get(found.skipped..).unwrap_or_default();
         if found.name.is_empty() {
-            let number = element.object;
-            let name = format!(in self.alloc; "object {number}")?;
+            let name = shown_name(self.alloc, "", element.object())?;
             return set(self.alloc, self.form, name.as_str(), path, value);
         }
         set(self.alloc, self.form, found.name, path, value)
