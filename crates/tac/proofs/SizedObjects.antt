@@ -1,5 +1,5 @@
 -- Counts of the elements of objects that are sized fit instructions.
-use Rattle.std.proofs.Common.{◌≡◌, ℕ, zero, suc, pos, ◌*◌, ◌<◌, ◌≤◌, ◌-◌, ◌^◌, min, List, [], ◌∷◌, Bool, true, nat_lt, nat_le, Option, Some, ap, sym, ◌∙◌, subst, arith}
+use Rattle.std.proofs.Common.{◌≡◌, ℕ, zero, suc, pos, ◌+◌, ◌*◌, ◌<◌, ◌≤◌, ◌-◌, ◌^◌, min, List, [], ◌∷◌, true, nat_lt, nat_le, Some, ap, subst, arith}
 use Rattle.std.specs.Prelude.{slice_get}
 use Rattle.std.specs.List.{list_all}
 use Rattle.std.proofs.lemmas.Bool.Decides.{nat_tests}
@@ -63,23 +63,26 @@ rows_few [] some h = h
 rows_few (zero ∷ l) some h = absurd (omega (arith, some))
 rows_few (suc n ∷ l) some h = let e = times_less 1 (suc n) (elements_in l) (omega arith) in omega (arith, h, e)
 
-pub whole_few : (l : List ℕ) → elements_in l < 2 ^ 32 → first_length l * elements_in (inner_lengths l) < 2 ^ 32
-whole_few [] h = omega arith
-whole_few (n ∷ l) h = h
-
--- what is left of the elements
-pub left_few : (left count row elements : ℕ) → row ≡ min elements (2 ^ 64 - 1) → left ≤ count → count * elements < 2 ^ 32 → left * row < 2 ^ 32
-left_few left count row elements e le h =
-    let few = times_less left count elements le in
-    let less = times_more left row elements (omega (arith, e)) in
-    omega (arith, few, less, h)
-  where
-    times_more : (n a b : ℕ) → a ≤ b → n * a ≤ n * b
-    times_more zero a b h = omega arith
-    times_more (suc n) a b h = let e = times_more n a b h in omega (arith, e, h)
+pub whole_few : (n : ℕ) (l : List ℕ) → n + elements_in l < 2 ^ 32 → n + first_length l * elements_in (inner_lengths l) < 2 ^ 32
+whole_few n [] h = omega (arith, h)
+whole_few n (k ∷ l) h = h
 
 pub row_is : (row elements : ℕ) → row ≡ min elements (2 ^ 64 - 1) → elements < 2 ^ 32 → row ≡ elements
 row_is row elements e h = omega (arith, e, h)
+
+-- of k rows from number n on: the first, those after it, and their elements
+pub row_inside : (n k e : ℕ) → 1 ≤ k → n + k * e < 2 ^ 32 → n + e < 2 ^ 32
+row_inside n zero e some h = absurd (omega (arith, some))
+row_inside n (suc k) e some h = let sum : suc k * e ≡ e + k * e = grind arith in omega (arith, h, sum)
+
+pub rows_inside : (n n2 k k2 row e : ℕ) → k ≡ suc k2 → n2 ≡ n + row → row ≡ e → n + k * e < 2 ^ 32 → n2 + k2 * e < 2 ^ 32
+rows_inside n n2 k k2 row e ek en er h =
+    let sum : suc k2 * e ≡ e + k2 * e = grind arith in
+    let l = subst (λ j. n + j * e < 2 ^ 32) ek h in
+    omega (arith, l, sum, en, er)
+
+pub rows_few_left : (n k row e : ℕ) → row ≡ e → n + k * e < 2 ^ 32 → k * row < 2 ^ 32
+rows_few_left n k row e er h = let same = ap (λ r. k * r) er in omega (arith, h, same)
 
 -- ---- objects of a list
 
