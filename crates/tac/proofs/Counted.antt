@@ -1,13 +1,12 @@
 -- Numbers of elements as far as a word counts.
-use Rattle.std.proofs.Common.{◌≡◌, ℕ, zero, suc, ◌+◌, ◌*◌, ◌-◌, ◌<◌, ◌≤◌, true, false, min, nat_lt, List, [], ◌∷◌, length, map, drop, get_or, ◌⊎◌, refl, ap, sym, ◌∙◌, arith}
+use Rattle.std.proofs.Common.{◌≡◌, ℕ, zero, suc, ◌+◌, ◌*◌, ◌-◌, ◌<◌, ◌≤◌, true, false, min, nat_lt, List, ◌∷◌, length, map, drop, get_or, refl, ap, sym, ◌∙◌, arith}
 use Rattle.std.proofs.lemmas.Nat.{mul-le}
 use Rattle.std.proofs.lemmas.List.{drop_more}
-use Rattle.typing_spec.specs.Types.{elements_in}
 use Rattle.typing_spec.specs.Program as typed
 use Rattle.typing_spec.specs.Program.{Initialiser, Initialisers}
 use Rattle.lower_ops.specs.layer.Parts.{plus}
 use Rattle.tac.specs.inside.FirstSizes.{clears_size, fills_size, fill_all_size}
-use Rattle.tac.proofs.Filled.{plus_assoc, ends_list, ends_size}
+use Rattle.tac.proofs.Filled.{plus_assoc}
 
 -- ---- products up to a limit M
 
@@ -62,9 +61,3 @@ module _ (texts : List (List ℕ)) (lengths : List ℕ) where
       ∙ plus_assoc old (fills_size texts (g x) lengths) tail
       ∙ ap (λ j. plus old (fill_all_size texts (typed.and_initialiser (g x) (of (map g (drop (i + 1) xs)))) j lengths)) (sym ek)
       ∙ ap (λ r. plus old (fill_all_size texts r k lengths)) (sym here) ∙ h
-
-  pub all_counted : {X : Type 0} (g : X → Initialiser) (of : List Initialiser → Initialisers) → of [] ≡ typed.no_initialisers
-      → (xs : List X) (i : ℕ) (all old rest result k : ℕ) → (length xs ≤ i) ⊎ (k ≡ 0)
-      → plus old (fill_all_size texts (of (map g (drop i xs))) k lengths) ≡ all → rest ≡ clears_size (k * elements_in lengths) → result ≡ plus old rest → result ≡ all
-  all_counted g of none xs i all old rest result k ends h r e =
-      e ∙ ap (λ s. plus old s) (r ∙ sym (ends_size texts (of (map g (drop i xs))) k lengths (ends_list g of none xs i k ends))) ∙ h
