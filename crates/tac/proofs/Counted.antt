@@ -1,8 +1,7 @@
 -- Numbers of elements as far as a word counts.
-use Rattle.std.proofs.Common.{◌≡◌, ℕ, zero, suc, ◌+◌, ◌*◌, ◌-◌, ◌<◌, ◌≤◌, true, false, min, nat_lt, List, [], ◌∷◌, length, map, drop, get_or, refl, ap, sym, ◌∙◌, arith}
+use Rattle.std.proofs.Common.{◌≡◌, ℕ, zero, suc, ◌+◌, ◌*◌, ◌-◌, ◌<◌, ◌≤◌, true, false, min, nat_lt, List, ◌∷◌, length, map, drop, get_or, refl, ap, sym, ◌∙◌, arith}
 use Rattle.std.proofs.lemmas.Nat.{mul-le}
-use Rattle.std.proofs.lemmas.List.{drop_more, drop_all}
-use Rattle.typing_spec.specs.Types.{elements_in}
+use Rattle.std.proofs.lemmas.List.{drop_more}
 use Rattle.typing_spec.specs.Program as typed
 use Rattle.typing_spec.specs.Program.{Initialiser, Initialisers}
 use Rattle.lower_ops.specs.layer.Parts.{plus}
@@ -52,19 +51,13 @@ module _ (texts : List (List ℕ)) (lengths : List ℕ) where
   pub next_counted : {X : Type 0} (g : X → Initialiser) (of : List Initialiser → Initialisers)
       → ((i : Initialiser) (is : List Initialiser) → of (i ∷ is) ≡ typed.and_initialiser i (of is))
       → (xs : List X) (i : ℕ) (x : X) → i < length xs → x ≡ get_or xs i x → (all old more next k k2 : ℕ)
-      → plus old (fill_all_size texts (of (map g (drop i xs))) k lengths) ≡ all → more ≡ fills_size texts (g x) lengths → next ≡ plus old more → k2 ≡ k - 1
+      → plus old (fill_all_size texts (of (map g (drop i xs))) k lengths) ≡ all → more ≡ fills_size texts (g x) lengths → next ≡ plus old more → k ≡ suc k2
       → plus next (fill_all_size texts (of (map g (drop (i + 1) xs))) k2 lengths) ≡ all
   next_counted g of step xs i x lt e all old more next k k2 h m n ek =
       let here : of (map g (drop i xs)) ≡ typed.and_initialiser (g x) (of (map g (drop (i + 1) xs))) =
       ap (λ zs. of (map g zs)) (drop_more xs i x lt) ∙ step (g (get_or xs i x)) (map g (drop (i + 1) xs)) ∙ ap (λ v. typed.and_initialiser (g v) (of (map g (drop (i + 1) xs)))) (sym e) in
-      let tail = fill_all_size texts (of (map g (drop (i + 1) xs))) (k - 1) lengths in
-      ap (λ s. plus s (fill_all_size texts (of (map g (drop (i + 1) xs))) k2 lengths)) (n ∙ ap (λ s. plus old s) m)
-      ∙ ap (λ j. plus (plus old (fills_size texts (g x) lengths)) (fill_all_size texts (of (map g (drop (i + 1) xs))) j lengths)) ek
-      ∙ plus_assoc old (fills_size texts (g x) lengths) tail ∙ ap (λ r. plus old (fill_all_size texts r k lengths)) (sym here) ∙ h
-
-  pub all_counted : {X : Type 0} (g : X → Initialiser) (of : List Initialiser → Initialisers) → of [] ≡ typed.no_initialisers
-      → (xs : List X) (i : ℕ) → length xs ≤ i → (all old rest result k : ℕ)
-      → plus old (fill_all_size texts (of (map g (drop i xs))) k lengths) ≡ all → rest ≡ clears_size (k * elements_in lengths) → result ≡ plus old rest → result ≡ all
-  all_counted g of none xs i le all old rest result k h r e =
-      let here : of (map g (drop i xs)) ≡ typed.no_initialisers = ap (λ zs. of (map g zs)) (drop_all i xs le) ∙ none in
-      e ∙ ap (λ s. plus old s) r ∙ ap (λ s. plus old (fill_all_size texts s k lengths)) (sym here) ∙ h
+      let tail = fill_all_size texts (of (map g (drop (i + 1) xs))) k2 lengths in
+      ap (λ s. plus s tail) (n ∙ ap (λ s. plus old s) m)
+      ∙ plus_assoc old (fills_size texts (g x) lengths) tail
+      ∙ ap (λ j. plus old (fill_all_size texts (typed.and_initialiser (g x) (of (map g (drop (i + 1) xs)))) j lengths)) (sym ek)
+      ∙ ap (λ r. plus old (fill_all_size texts r k lengths)) (sym here) ∙ h

@@ -1,5 +1,5 @@
 -- The code of a function names few temporaries and slots.
-use Rattle.std.proofs.Common.{ℕ, zero, suc, ◌+◌, ◌*◌, ◌-◌, ◌<◌, ◌≤◌, List, [], ◌∷◌, length, min, Option, Some, None, Bool, true, false, ◌||◌, ℤ, inl, inr, arith}
+use Rattle.std.proofs.Common.{ℕ, zero, suc, ◌+◌, ◌*◌, ◌<◌, ◌≤◌, List, [], ◌∷◌, length, min, Option, Some, None, Bool, true, false, ◌||◌, ℤ, inl, inr, arith}
 use Rattle.std.specs.Prelude.{slice_get, nat_lt}
 use Rattle.std.proofs.lemmas.Option.{slice_get_within}
 use Rattle.ctypes.specs.declared.types.IntType.{IntType}
@@ -107,9 +107,10 @@ module _ (w : List Instruction) (short : length w < 4611686018427387904) (p : ty
     fill_all : (all : Initialisers) (t : IntType) (k : ℕ) (lengths : List ℕ) (n i a b : ℕ) → a ≤ length w → FillAll w p.literals (size_of_place p f) all t k lengths n i a b
         → Names w a b
     fill_all typed.no_initialisers t k lengths n i a b l s = clears t n i (k * elements_in lengths) a b s
-    fill_all (typed.and_initialiser x more) t k lengths n i a b l s =
+    fill_all (typed.and_initialiser x more) t zero lengths n i a b l s = none w a b s
+    fill_all (typed.and_initialiser x more) t (suc k) lengths n i a b l s =
         let this = fills x t lengths n i a s.0 l s.1 in
-        join w this (fill_all more t (k - 1) lengths n (i + elements_in lengths) s.0 b (this.stays l) s.2)
+        join w this (fill_all more t k lengths n (i + elements_in lengths) s.0 b (this.stays l) s.2)
 
   object : (t : IntType) (lengths : List ℕ) (x : Initialiser) (n a b : ℕ) → a ≤ length w → InitialisesObject w p f t lengths x n a b → Names w a b
   object t [] x n a b l s = word x n a b l s

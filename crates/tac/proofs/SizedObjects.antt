@@ -1,5 +1,5 @@
 -- Counts of the elements of objects that are sized fit instructions.
-use Rattle.std.proofs.Common.{◌≡◌, ℕ, zero, suc, pos, ◌*◌, ◌<◌, ◌≤◌, ◌-◌, ◌^◌, min, List, [], ◌∷◌, Bool, true, nat_lt, nat_le, Option, Some, ap, sym, ◌∙◌, subst, arith}
+use Rattle.std.proofs.Common.{◌≡◌, ℕ, zero, suc, pos, ◌+◌, ◌*◌, ◌<◌, ◌≤◌, ◌-◌, ◌^◌, min, List, [], ◌∷◌, true, nat_lt, nat_le, Some, subst, arith}
 use Rattle.std.specs.Prelude.{slice_get}
 use Rattle.std.specs.List.{list_all}
 use Rattle.std.proofs.lemmas.Bool.Decides.{nat_tests}
@@ -8,7 +8,6 @@ use Rattle.ctypes.specs.declared.types.IntType.TheVariants as ty
 use Rattle.ctypes.specs.Types.{bytes_of}
 use Rattle.typing_spec.specs.Types.{ObjectType, elements_in, size_of_object}
 use Rattle.typing_spec.specs.Expressions.{object_limit}
-use Rattle.csem.specs.Statements.{first_length, inner_lengths}
 use Rattle.lower_wf.specs.Asked.{is_sized, parameter_is_sized, function_is_sized, types_are_sized}
 use Rattle.lower_correct.proofs.Words.{left_true, right_true}
 use Rattle.lower_bounds.proofs.Lists.{same_some}
@@ -46,40 +45,15 @@ has_few t h =
 
 -- ---- rows
 
-times_less : (n m k : ℕ) → n ≤ m → n * k ≤ m * k
-times_less n m zero h = grind arith
-times_less n m (suc k) h = let e = times_less n m k h in grind arith
-
-pub rows_some : (l : List ℕ) → 0 < elements_in l → 0 < elements_in (inner_lengths l)
-rows_some [] h = h
-rows_some (n ∷ l) h = by_row (elements_in l) h
-  where
-    by_row : (e : ℕ) → 0 < n * e → 0 < e
-    by_row zero h = absurd (let z : n * 0 ≡ 0 = grind arith in omega (arith, h, z))
-    by_row (suc e) h = omega arith
-
-pub rows_few : (l : List ℕ) → 0 < elements_in l → elements_in l < 2 ^ 32 → elements_in (inner_lengths l) < 2 ^ 32
-rows_few [] some h = h
-rows_few (zero ∷ l) some h = absurd (omega (arith, some))
-rows_few (suc n ∷ l) some h = let e = times_less 1 (suc n) (elements_in l) (omega arith) in omega (arith, h, e)
-
-pub whole_few : (l : List ℕ) → elements_in l < 2 ^ 32 → first_length l * elements_in (inner_lengths l) < 2 ^ 32
-whole_few [] h = omega arith
-whole_few (n ∷ l) h = h
-
--- what is left of the elements
-pub left_few : (left count row elements : ℕ) → row ≡ min elements (2 ^ 64 - 1) → left ≤ count → count * elements < 2 ^ 32 → left * row < 2 ^ 32
-left_few left count row elements e le h =
-    let few = times_less left count elements le in
-    let less = times_more left row elements (omega (arith, e)) in
-    omega (arith, few, less, h)
-  where
-    times_more : (n a b : ℕ) → a ≤ b → n * a ≤ n * b
-    times_more zero a b h = omega arith
-    times_more (suc n) a b h = let e = times_more n a b h in omega (arith, e, h)
-
 pub row_is : (row elements : ℕ) → row ≡ min elements (2 ^ 64 - 1) → elements < 2 ^ 32 → row ≡ elements
 row_is row elements e h = omega (arith, e, h)
+
+-- where k rows from number n on fit, those after the first fit
+pub rows_inside : (n n2 k k2 row e : ℕ) → k ≡ suc k2 → n2 ≡ n + row → row ≡ e → n + k * e < 2 ^ 32 → n2 + k2 * e < 2 ^ 32
+rows_inside n n2 k k2 row e ek en er h =
+    let sum : suc k2 * e ≡ e + k2 * e = grind arith in
+    let l = subst (λ j. n + j * e < 2 ^ 32) ek h in
+    omega (arith, l, sum, en, er)
 
 -- ---- objects of a list
 

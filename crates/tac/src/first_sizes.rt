@@ -125,8 +125,11 @@ fn fill_all_size(literals: &[Vec<u8>], all: &[Initialiser], count: u32, lengths:
     let mut size = 0;
     let mut left = count;
     for initialiser in all {
+        if left == 0 {
+            break;
+        }
         size = plus(size, fills_size(literals, initialiser, lengths));
-        left = left.saturating_sub(1);
+        left -= 1;
     }
     plus(size, rest_size(left, lengths))
 }

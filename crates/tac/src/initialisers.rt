@@ -1,6 +1,6 @@
 //! The code of initialisers (6.7.9).
 
-ghost use Rattle.std.specs.Prelude.{◌≡◌, ◌<◌, ◌+◌, ◌*◌, ◌^◌, true, map, Some, slice_get, IfOk, OnOk};
+ghost use Rattle.std.specs.Prelude.{◌≡◌, ◌<◌, ◌+◌, ◌*◌, ◌^◌, true, map, Some, slice_get, OnOk};
 ghost use Rattle.typed_ast.specs.View.{value_of, object_type_of, initialiser_of, initialisers_of};
 ghost use Rattle.typing_spec.specs.Types.{elements_in};
 ghost use Rattle.lower_wf.specs.Asked.{is_sized};
@@ -95,20 +95,21 @@ fn put_set(
 }
 
 /// `count` elements ahead.
-fn ahead_of(start: Start, count: usize) -> Result<Start, AllocError>
-    ensures { IfOk result (λ s. (s.element ≡ start.element) × (s.array ≡ start.array) × (s.number ≡ start.number + count)) }
+fn ahead_of(start: Start, count: usize) -> Start
+    requires { start.number + count < 2 ^ 64 }
+    ensures element { result.element ≡ start.element }
+    ensures array { result.array ≡ start.array }
+    ensures number { result.number ≡ start.number + count }
 {
-    match start.number.checked_add(count) {
-        Some(number) => Ok(Start {
-            element: start.element,
-            array: start.array,
-            number,
-        }),
-        None => Err(AllocError),
+    Start {
+        element: start.element,
+        array: start.array,
+        number: start.number + count,
     }
 }
 
-/// `count` elements or rows of these lengths; those that the list omits become zero (6.7.9p17, p21).
+/// `count` elements or rows of these lengths; those that the list omits become zero (6.7.9p17, p21). Initialisers past the last one
+/// have no code.
 #[cycle(fills)]
 fn put_fill_all(
     scope: &Scope<'_>,
@@ -120,16 +121,19 @@ fn put_fill_all(
 ) -> Result<(), AllocError>
     requires some { 0 < elements_in lengths.now }
     requires row { elements_in lengths.now < 2 ^ 32 }
-    requires whole { count * elements_in lengths.now < 2 ^ 32 }
+    requires whole { start.number + count * elements_in lengths.now < 2 ^ 32 }
     ensures { OnOk result (WroteFillAll (program_in scope.now) (function_in scope.now) (initialisers_of (map initialiser_of all.now)) count lengths.now start code.old.list.items code.new.list.items) }
 {
     let row = elements_counted(lengths);
     let mut next = start;
     let mut left = count;
     for initialiser in all {
+        if left == 0 {
+            break;
+        }
         put_fills(scope, code, initialiser, lengths, next)?;
-        next = ahead_of(next, row)?;
-        left = left.saturating_sub(1);
+        next = ahead_of(next, row);
+        left -= 1;
     }
     let rest = (left as usize) * row;
     put_clears(code, next, rest)?;
@@ -146,7 +150,7 @@ fn put_fills(
     start: Start,
 ) -> Result<(), AllocError>
     requires some { 0 < elements_in lengths.now }
-    requires small { elements_in lengths.now < 2 ^ 32 }
+    requires small { start.number + elements_in lengths.now < 2 ^ 32 }
     ensures { OnOk result (WroteFills (program_in scope.now) (function_in scope.now) (initialiser_of initialiser.now) lengths.now start code.old.list.items code.new.list.items) }
 {
     let count = first_length(lengths);

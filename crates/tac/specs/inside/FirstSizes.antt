@@ -1,5 +1,5 @@
 -- How many instructions the code of an initialiser has.
-use Rattle.std.specs.Prelude.{ℕ, zero, suc, ◌*◌, ◌-◌, min, nat_lt, Bool, true, false, ◌||◌, List, [], ◌∷◌, length, Option, Some, None, slice_get}
+use Rattle.std.specs.Prelude.{ℕ, zero, suc, ◌*◌, min, nat_lt, Bool, true, false, ◌||◌, List, [], ◌∷◌, length, Option, Some, None, slice_get}
 use Rattle.ctypes.specs.declared.types.IntType.{IntType}
 use Rattle.typing_spec.specs.Types.{ObjectType, elements_in}
 use Rattle.typing_spec.specs.Program as typed
@@ -66,7 +66,8 @@ module _ (texts : List (List ℕ)) where
 
     pub fill_all_size : Initialisers → ℕ → List ℕ → ℕ
     fill_all_size typed.no_initialisers k lengths = clears_size (k * elements_in lengths)
-    fill_all_size (typed.and_initialiser x more) k lengths = plus (fills_size x lengths) (fill_all_size more (k - 1) lengths)
+    fill_all_size (typed.and_initialiser x more) zero lengths = 0
+    fill_all_size (typed.and_initialiser x more) (suc k) lengths = plus (fills_size x lengths) (fill_all_size more k lengths)
 
   -- ---- objects
 

@@ -1,4 +1,4 @@
-use Rattle.std.proofs.Common.{nat_lt, refl, ◌∙◌}
+use Rattle.std.proofs.Common.{nat_lt, refl}
 use Rattle.tac.proofs.Stretches.{copies_wrote}
 use Rattle.tac.proofs.elements.put_copies.Goals as goal
 

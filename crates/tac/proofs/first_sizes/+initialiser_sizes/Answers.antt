@@ -1,4 +1,4 @@
-use Rattle.std.proofs.Common.{map, refl}
+use Rattle.std.proofs.Common.{◌-◌, map, refl, arith}
 use Rattle.typed_ast.specs.View.{initialiser_of, initialisers_of}
 use Rattle.tac.specs.inside.FirstSizes.{fill_all_size}
 use Rattle.tac.proofs.Filled.{all_counts}
@@ -14,5 +14,5 @@ fill_all_size-loop-initialiser-preserved t c =
     next_counted (map (λ text. text.items) c.args.literals.now) c.args.lengths.now initialiser_of initialisers_of (λ i is. refl) c.args.all.now
     c.loop-initialiser.initialiser-index c.initialiser-item.result c.loop-initialiser-test.true c.initialiser-item.is
     (fill_all_size (map (λ text. text.items) c.args.literals.now) (initialisers_of (map initialiser_of c.args.all.now)) c.args.count c.args.lengths.now)
-    c.loop-initialiser.size c.fills_size.result c.plus-size.result c.loop-initialiser.left c.saturating_sub-left.result c.loop-initialiser.invariant
-    c.fills_size.ensures c.plus-size.ensures c.saturating_sub-left.ensures
+    c.loop-initialiser.size c.fills_size.result c.plus-size.result c.loop-initialiser.left (c.loop-initialiser.left - 1) c.loop-initialiser.invariant
+    c.fills_size.ensures c.plus-size.ensures (omega (arith, c.if-left-eq0.false))

@@ -1,17 +1,18 @@
-use Rattle.std.proofs.Common.{◌*◌, map, length, slice_get, refl, ap, ◌∙◌, arith}
+use Rattle.std.proofs.Common.{◌≡◌, suc, ◌-◌, ◌*◌, ◌≤◌, ◌⊎◌, inl, inr, map, length, slice_get, refl, ap, ◌∙◌, arith}
 use Rattle.csem.specs.Statements.{text_or_none}
 use Rattle.typed_ast.specs.View.{initialiser_of, initialisers_of}
 use Rattle.lower_ops.proofs.Parts.{two}
 use Rattle.tac.specs.inside.Scopes.{program_in, function_in}
 use Rattle.tac.proofs.HeldStatements.{sees_one, sees_text, sees_inbraces, sees_list}
 use Rattle.typing_spec.specs.Types.{elements_in}
-use Rattle.tac.proofs.SizedObjects.{row_is}
+use Rattle.tac.proofs.SizedObjects.{row_is, rows_inside}
 use Rattle.tac.proofs.Filled.{none_filled, next_filled, all_filled}
 use Rattle.tac.proofs.initialisers.+fills.Goals as goal
+use Rattle.tac.proofs.initialisers.+fills.Goals.{put_fill_all-else-loop-initialiser-test, put_fill_all-then-loop-initialiser-test+then-left-eq0}
 
 pub put_fill_all-loop-initialiser-init : goal.put_fill_all-loop-initialiser-init
 put_fill_all-loop-initialiser-init t c = record {
-  few = omega arith;
+  inside = c.requires.whole;
   filled = none_filled (program_in c.args.scope.now) (function_in c.args.scope.now) (initialisers_of (map initialiser_of c.args.all.now)) c.args.count c.args.lengths.now c.args.start
       c.args.code.now.list.items c.args.code.now.short;
 }
@@ -19,21 +20,28 @@ put_fill_all-loop-initialiser-init t c = record {
 pub put_fill_all-loop-initialiser-preserved : goal.put_fill_all-loop-initialiser-preserved
 put_fill_all-loop-initialiser-preserved t c =
     let row = row_is c.elements_counted-row.result (elements_in c.args.lengths.now) c.elements_counted-row.ensures c.requires.row in
+    let less : c.loop-initialiser.left ≡ suc (c.loop-initialiser.left - 1) = omega (arith, c.if-left-eq0.false) in
     record {
-      few = omega (arith, c.loop-initialiser.invariant.few, c.saturating_sub-left.ensures);
+      inside = rows_inside c.loop-initialiser.next.number c.ahead_of-next.result.number c.loop-initialiser.left (c.loop-initialiser.left - 1) c.elements_counted-row.result
+          (elements_in c.args.lengths.now) less c.ahead_of-next.ensures.number row c.loop-initialiser.invariant.inside;
       filled = next_filled (program_in c.args.scope.now) (function_in c.args.scope.now) (initialisers_of (map initialiser_of c.args.all.now)) c.args.count c.args.lengths.now c.args.start
           initialiser_of initialisers_of (λ i is. refl) c.args.all.now c.loop-initialiser.initialiser-index c.initialiser-item.result c.loop-initialiser-test.true c.initialiser-item.is
-          c.loop-initialiser.left c.saturating_sub-left.result c.elements_counted-row.result c.loop-initialiser.next _ c.loop-initialiser.invariant.filled c.in_ok-put_fills.ensures row
-          c.saturating_sub-left.ensures c.in_ok-next.ensures.0 c.in_ok-next.ensures.1 c.in_ok-next.ensures.2;
+          c.loop-initialiser.left (c.loop-initialiser.left - 1) c.elements_counted-row.result c.loop-initialiser.next _ c.loop-initialiser.invariant.filled c.in_ok-put_fills.ensures row
+          less c.ahead_of-next.ensures.element c.ahead_of-next.ensures.array c.ahead_of-next.ensures.number;
     }
 
 pub put_fill_all-returns : goal.put_fill_all-returns
 put_fill_all-returns t c =
+    let l = c.loop-initialiser in
     let row = row_is c.elements_counted-row.result (elements_in c.args.lengths.now) c.elements_counted-row.ensures c.requires.row in
+    let ends : (length c.args.all.now ≤ l.initialiser-index) ⊎ (l.left ≡ 0) =
+    elim c.loop-initialiser-test.branch [
+      | put_fill_all-else-loop-initialiser-test w ↦ inl (omega (arith, w.loop-initialiser-test.false, l.auto.initialiser-index-end))
+      | put_fill_all-then-loop-initialiser-test+then-left-eq0 w ↦ inr w.if-left-eq0.true
+    ] in
     all_filled (program_in c.args.scope.now) (function_in c.args.scope.now) (initialisers_of (map initialiser_of c.args.all.now)) c.args.count c.args.lengths.now c.args.start
-    initialiser_of initialisers_of refl c.args.all.now c.loop-initialiser.initialiser-index (omega (arith, c.loop-initialiser-test.false, c.loop-initialiser.auto.initialiser-index-end))
-    c.loop-initialiser.left (c.loop-initialiser.left * c.elements_counted-row.result) c.loop-initialiser.next c.loop-initialiser.invariant.filled (ap (λ n. c.loop-initialiser.left * n) row)
-    c.in_ok-put_clears.ensures
+    initialiser_of initialisers_of refl c.args.all.now l.initialiser-index l.left (l.left * c.elements_counted-row.result) l.next ends l.invariant.filled
+    (ap (λ n. l.left * n) row) c.in_ok-put_clears.ensures
 
 pub put_fills-returns-in_ok-put_set-in-One : goal.put_fills-returns-in_ok-put_set-in-One
 put_fills-returns-in_ok-put_set-in-One t c =
