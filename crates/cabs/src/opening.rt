@@ -299,8 +299,8 @@ fn begin_late<'p>(
             let node = Node::Ticking(more, Late::PutsText(ty, count, n, r));
             enter_other(machine, clock, limit, node)
         }
-        Late::PutsZeros(count, i, lengths, r) => {
-            let node = Node::Ticking(more, Late::PutsZeros(count, i, lengths, r));
+        Late::PutsZeros(count, i, r) => {
+            let node = Node::Ticking(more, Late::PutsZeros(count, i, r));
             enter_other(machine, clock, limit, node)
         }
     }
@@ -324,6 +324,9 @@ fn go_on<'p>(
         Node::Value(e) => descend(machine, clock, limit, e),
         Node::Statement(objects, a) => open(machine, clock, limit, objects, a),
         Node::Ticking(more, late) => begin_late(machine, clock, limit, more, late),
+        Node::TickingLong(digits, late) => {
+            enter_other(machine, clock, limit, Node::TickingLong(digits, late))
+        }
         Node::Place(a) => enter_other(machine, clock, limit, Node::Place(a)),
         Node::Initialiser(i, ty, lengths, r) => {
             let node = Node::Initialiser(i, ty, lengths, r);

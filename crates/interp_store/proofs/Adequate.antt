@@ -77,9 +77,9 @@ plain_all_renewed : (objects : List ObjectType) (x n : ℕ) → Plain (all_renew
 plain_all_renewed objects x zero = plain_self
 plain_all_renewed objects x (suc n) = plain_chain (renewed objects x) (all_renewed objects (suc x) n) (plain_renewed objects x) (plain_all_renewed objects (suc x) n)
 
-plain_zeros : (k i : ℕ) (lengths : List ℕ) (r : Reference) → Plain (zeros k i lengths r)
-plain_zeros zero i lengths r = plain_self
-plain_zeros (suc k) i lengths r = plain_chain _ (zeros k (suc i) lengths r) (record { same = λ s. refl }) (plain_zeros k (suc i) lengths r)
+plain_zeros : (k i : ℕ) (r : Reference) → Plain (zeros k i r)
+plain_zeros zero i r = plain_self
+plain_zeros (suc k) i r = plain_chain _ (zeros k (suc i) r) (record { same = λ s. refl }) (plain_zeros k (suc i) r)
 
 plain_characters : (t : IntType) (k i : ℕ) (text : List ℕ) (r : Reference) → Plain (characters t k i text r)
 plain_characters t zero i text r = plain_self
@@ -241,7 +241,7 @@ module _ (d : ℕ) where
   alike_label_for v (Some c ∷ labels) n o = alike_tick _ _ (alike_choose (same_value c v) _ _ _ _ (alike_stay (Some n)) (alike_label_for v labels (suc n) o))
 
   alike_clear : (k i : ℕ) (lengths : List ℕ) (r : Reference) → Alike d (clear k i lengths r) (clear k i lengths r)
-  alike_clear k i lengths r = alike_then (ticks (k * elements_in lengths)) (ticks (k * elements_in lengths)) _ _ (alike_ticks (k * elements_in lengths)) (λ u. alike_change tt (zeros k i lengths r) (plain_zeros k i lengths r))
+  alike_clear k i lengths r = alike_then (ticks (k * elements_in lengths)) (ticks (k * elements_in lengths)) _ _ (alike_ticks (k * elements_in lengths)) (λ u. alike_change tt (zeros k i r) (plain_zeros k i r))
 
   alike_own : {A : Type 0} (x : ℕ) (f f' : Reference → State → Run A) → ((r : Reference) → Alike d (f r) (f' r)) → Alike d (λ s. f (own x s) s) (λ s. f' (own x s) s)
   alike_own x f f' h = record { same = λ s lt. (h (own x s)).same s lt; falls = λ s. (h (own x s)).falls s }

@@ -1,5 +1,8 @@
 pub mod Trees
 pub mod Shapes
+pub mod Capped
+pub mod Cells
+pub mod Grids
 pub mod Resumes
 pub mod Adequate
 pub mod Scenes

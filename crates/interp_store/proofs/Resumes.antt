@@ -154,7 +154,7 @@ module _ (p : Program) (call : Calling) where
 
   late_resumes : (what : Late) (s : State) → late p call what s ≡ resumed p call (came_late p what s)
   late_resumes (puts_text t count n r) s = refl
-  late_resumes (puts_zeros count i lengths r) s = refl
+  late_resumes (puts_zeros count i r) s = refl
   late_resumes (enters_body objects body) s = refl
 
   counted_resumes : (k : ℕ) (what : Late) (s : State) → then_do (ticks k s) (λ u s. late p call what s) ≡ resumed p call (counted p k what s)
@@ -163,7 +163,7 @@ module _ (p : Program) (call : Calling) where
 
   listed_resumes : (all : Initialisers) (t : IntType) (k i : ℕ) (lengths : List ℕ) (r : Reference) (s : State) →
       given done (initialise_all p call all t k i lengths r s) ≡ resumed p call (listed p all t k i lengths r s)
-  listed_resumes typed.no_initialisers t k i lengths r s = given_inside done (ticks (k * elements_in lengths) s) _ ∙ counted_resumes (k * elements_in lengths) (puts_zeros k i lengths r) s
+  listed_resumes typed.no_initialisers t k i lengths r s = given_inside done (ticks (k * elements_in lengths) s) _ ∙ counted_resumes (k * elements_in lengths) (puts_zeros k i r) s
   listed_resumes (typed.and_initialiser x more) t k i lengths r s =
       given_then done done (initialise p call x t lengths (into r i) s) _ (after p call (on.next_part more t k i lengths r)) (λ u s. refl)
 

@@ -1,8 +1,7 @@
 -- The results of the operations on the objects of a run.
-use Rattle.std.proofs.Common.{◌≡◌, ℕ, zero, suc, ◌<◌, ◌≤◌, List, [], ◌∷◌, map, get_or, Some, None, arith, ℤ, pos, length, refl, sym, ap, subst, ◌∙◌, false}
+use Rattle.std.proofs.Common.{◌≡◌, ℕ, zero, suc, ◌+◌, ◌<◌, ◌≤◌, List, [], ◌∷◌, map, get_or, Some, None, arith, ℤ, pos, length, refl, sym, ap, subst, ◌∙◌, false}
 use Rattle.std.specs.Prelude.{nat_lt, Result, Ok, Err, slice_get, option_map}
 use Rattle.std.proofs.lemmas.Option.{slice_get-map}
-use Rattle.std.proofs.lemmas.Bool.{le-ltb}
 use Rattle.std.proofs.lemmas.List.{length-map}
 use Rattle.srcset.specs.declared.refusal.Pos.{Pos}
 use Rattle.typed_ast.specs.declared.units.Program.{Program}
@@ -18,6 +17,7 @@ use Rattle.interp_store.specs.declared.frames.Compound.{Compound}
 use Rattle.interp_store.specs.declared.frames.Stepping.{Stepping}
 use Rattle.ctypes.specs.declared.operators.Undef.TheVariants.{U7}
 use Rattle.csem.specs.Store.{Reference, Store, Tree, Element, filled, put}
+use Rattle.csem.proofs.InPlace.{nothing_is_put}
 use Rattle.csem.specs.Statements.{new_object, own, renewed}
 use Rattle.csem.specs.Machine.{State, Run, Goes, undefined, then_do, choose, stored, read, write, computed_at}
 use Rattle.interp_store.specs.declared.stop.Stop.{Stop}
@@ -37,10 +37,10 @@ got_any (y ∷ xs) (suc i) x h e = got_any xs i x (omega arith) e
 literals_are : (p : Program) → length (program_of p).literals ≡ length p.literals.items
 literals_are p = length-map p.literals.items (λ text. text.items)
 
-pub writes : (p : Program) (at : Pos) (r : Reference) (v w : ℤ) (s t : State) (n : ℕ) → n ≡ length p.literals.items → n ≤ r.object → w ≡ v → t ≡ stored r v s →
+pub writes : (p : Program) (at : Pos) (r : Reference) (v w : ℤ) (s t : State) (n : ℕ) → n ≡ length p.literals.items → nat_lt r.object n ≡ false → w ≡ v → t ≡ stored r v s →
     write (program_of p) at r v s ≡ Goes w t
 writes p at r v w s t n e h same new =
-    let test : nat_lt r.object (length (program_of p).literals) ≡ false = ap (nat_lt r.object) (literals_are p ∙ sym e) ∙ le-ltb r.object n h in
+    let test : nat_lt r.object (length (program_of p).literals) ≡ false = ap (nat_lt r.object) (literals_are p ∙ sym e) ∙ h in
     let goes : Run ℤ = undefined U7 at s in
     ap (λ b. choose b goes (Goes v (stored r v s))) test ∙ ap (λ v2. Goes v2 (stored r v s)) (sym same) ∙ ap (Goes w) (sym new)
 
@@ -75,6 +75,11 @@ pub renews : (s : State) (objects : List type.ObjectType) (n : ℕ) (store : Sto
 renews s objects n store r t a b c =
     let with : Store → State = λ x. record s { store = x } in
     ap with (a ∙ ap (λ r. put s.store r t) b ∙ ap (put s.store (own n s)) c)
+
+pub renews_nothing : (s : State) (objects : List type.ObjectType) (n : ℕ) → length s.store ≤ s.base + n → s ≡ renewed objects n s
+renews_nothing s objects n h =
+    let with : Store → State = λ x. record s { store = x } in
+    ap with (sym (nothing_is_put s.store (own n s) (new_object (slice_get objects n)) (beyond_any s.store (s.base + n) h)))
 
 -- ---- assignments that read their element
 

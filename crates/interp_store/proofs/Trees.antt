@@ -1,5 +1,5 @@
 -- The live objects, and the model that represents them.
-use Rattle.std.proofs.Common.{◌≡◌, ℕ, ℤ, zero, suc, ◌+◌, ◌<◌, ◌≤◌, List, [], ◌∷◌, length, map, take, get_or, replicate, Option, Some, None, refl, sym, ap, subst, ◌∙◌, arith}
+use Rattle.std.proofs.Common.{◌≡◌, ℕ, ℤ, zero, suc, ◌<◌, ◌≤◌, List, [], ◌∷◌, length, map, take, get_or, Option, Some, None, refl, sym, ap, subst, ◌∙◌, arith}
 use Rattle.std.specs.Prelude.{slice_get, slice_set, option_map, Result, Ok, Err, IfOk, OnOk}
 use Rattle.interp_store.specs.declared.element_tree.Tree.{Tree}
 use Rattle.interp_store.specs.declared.element_tree.Tree.TheVariants.{Element}
@@ -59,6 +59,17 @@ pub object_put : {A E : Type 0} (r : Result A E) (ts : List Tree) (i : ℕ) (now
 object_put (Ok x) ts i now new path p tree u h e a b put =
     object_put_in ts i now new path tree (got ts i now h e) (put ∙ ap (λ p. machine.put_at p u (tree_of now)) a ∙ ap (λ u. machine.put_at path u (tree_of now)) b)
 object_put (Err x) ts i now new path p tree u h e a b put = tt
+
+-- that is changed in a part
+pub object_changed : {A E : Type 0} (change other : Option machine.Tree → machine.Tree) (r : Result A E) (ts : List Tree) (i n : ℕ) (now new : Tree) (path p : List ℕ) → ((o : Option machine.Tree) → other o ≡ change o) →
+    n ≡ i → n < length ts → now ≡ get_or ts n now → p ≡ path → OnOk r (tree_of new ≡ machine.put_at p (other (at_path (Some (tree_of now)) p)) (tree_of now)) →
+    OnOk r (map tree_of (slice_set ts n new) ≡ machine.put_in (map tree_of ts) i path (change (at_path (slice_get (map tree_of ts) i) path)))
+object_changed change other (Err x) ts i n now new path p same at h e a put = tt
+object_changed change other (Ok x) ts i n now new path p same at h e a put =
+    let part : other (at_path (Some (tree_of now)) p) ≡ change (at_path (slice_get (map tree_of ts) n) path) =
+    same (at_path (Some (tree_of now)) p) ∙ ap (λ p. change (at_path (Some (tree_of now)) p)) a ∙ ap change (some_object ts n now path h e) in
+    object_put {E = ℕ} (Ok x) ts n now new path p _ _ h e a part put
+    ∙ ap (λ i. machine.put_in (map tree_of ts) i path (change (at_path (slice_get (map tree_of ts) i) path))) at
 
 -- ---- an object that is an element
 

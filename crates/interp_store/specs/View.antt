@@ -1,5 +1,5 @@
 -- The store of the abstract machine that the code's values hold, apart from vectors.
-use Rattle.std.specs.Prelude.{ℕ, List, [], map}
+use Rattle.std.specs.Prelude.{ℕ, ◌+◌, List, [], map}
 use Rattle.interp_store.specs.declared.grid.Grid.{Grid}
 use Rattle.interp_store.specs.declared.element_tree.Tree.{Tree}
 use Rattle.interp_store.specs.declared.element_tree.Tree.TheVariants.{Element, Array}
@@ -8,11 +8,11 @@ use Rattle.interp_store.specs.declared.path.Path.TheVariants.{Whole, One, Two, M
 use Rattle.interp_store.specs.declared.reference.Reference.{Reference}
 use Rattle.interp_store.specs.declared.store.Store.{Store}
 use Rattle.csem.specs.Store as machine
-use Rattle.interp_store.specs.Cells.{shaped}
+use Rattle.interp_store.specs.Cells.{cell, shaped}
 
 -- an array by its cells
 abbrev pub grid_of : Grid → machine.Tree
-grid_of grid = shaped grid.lengths.items grid.cells.items 0
+grid_of grid = shaped grid.lengths.items (cell grid.cells.items grid.unset.items) 0
 
 abbrev pub tree_of : Tree → machine.Tree
 tree_of (Element v) = machine.Element v
@@ -25,7 +25,7 @@ path_of (Two subscripts) = subscripts
 path_of (More subscripts) = subscripts.items
 
 abbrev pub reference_of : Reference → machine.Reference
-reference_of r = record { object = r.object; path = path_of r.path }
+reference_of r = record { object = r.first + r.offset; path = path_of r.path }
 
 abbrev pub store_of : Store → machine.Store
 store_of s = map tree_of s.objects.items

@@ -1,7 +1,7 @@
 //! Objects as their elements.
 
-ghost use Rattle.std.specs.Prelude.{◌≡◌, Some, IfOk, IfSome, OnOk};
-ghost use Rattle.csem.specs.Store.{at_path, put_at, length_of, value_of, filled};
+ghost use Rattle.std.specs.Prelude.{◌≡◌, ◌∷◌, [], Some, IfOk, IfSome, OnOk, length, slice_get};
+ghost use Rattle.csem.specs.Store.{at_path, put_at, length_of, value_of, with_value, with_zeros, filled};
 ghost use Rattle.csem.specs.Store as machine;
 ghost use Rattle.interp_store.specs.Cells.{shaped};
 ghost use Rattle.interp_store.specs.View.{tree_of};
@@ -51,11 +51,25 @@ impl Tree {
         }
     }
 
+    /// The whole object, if it is an element, becomes `v`.
+    ///
+    /// Errors: memory ran out.
+    #[inline(always)]
+    pub fn set_whole(&mut self, v: i64) -> Result<(), AllocError>
+        ensures { OnOk result (tree_of self.new ≡ with_value v (Some (tree_of self.old))) }
+    {
+        match self {
+            Tree::Array(grid) => return grid.set(&[], v),
+            Tree::Element(value) => *value = Some(v),
+        }
+        Ok(())
+    }
+
     /// The element at these subscripts, if there is one, becomes `v`.
     ///
-    /// Errors: memory ran out; or an array is there, or `v` is the least number, neither of which is of a typed program.
+    /// Errors: memory ran out.
     pub fn set(&mut self, path: &[usize], v: i64) -> Result<(), AllocError>
-        ensures { OnOk result (tree_of self.new ≡ put_at path.now (machine.Element (Some v)) (tree_of self.old)) }
+        ensures { OnOk result (tree_of self.new ≡ put_at path.now (with_value v (at_path (Some (tree_of self.old)) path.now)) (tree_of self.old)) }
     {
         match self {
             Tree::Array(grid) => return grid.set(path, v),
@@ -67,23 +81,19 @@ impl Tree {
         Ok(())
     }
 
-    /// Each element of the part at these subscripts, which has these lengths, becomes `v`.
+    /// Each element of the part at these subscripts, if there is one, becomes zero.
     ///
-    /// Errors: memory ran out; or the part there has other lengths, or `v` is the least number, neither of which is of a typed program.
-    pub fn fill(&mut self, path: &[usize], lengths: &[u32], v: i64) -> Result<(), AllocError>
-        ensures { OnOk result (tree_of self.new ≡ put_at path.now (filled (Some v) lengths.now) (tree_of self.old)) }
+    /// Errors: memory ran out.
+    pub fn zero(&mut self, path: &[usize]) -> Result<(), AllocError>
+        ensures { OnOk result (tree_of self.new ≡ put_at path.now (with_zeros (at_path (Some (tree_of self.old)) path.now)) (tree_of self.old)) }
     {
         match self {
-            Tree::Array(grid) => return grid.fill(path, lengths, v),
+            Tree::Array(grid) => return grid.zero(path),
             Tree::Element(_) => {}
         }
-        if !path.is_empty() {
-            return Ok(());
+        if path.is_empty() {
+            *self = Tree::Element(Some(0));
         }
-        if !lengths.is_empty() {
-            return Err(AllocError);
-        }
-        *self = Tree::Element(Some(v));
         Ok(())
     }
 
@@ -99,19 +109,63 @@ impl Tree {
         Tree::array(alloc, lengths, Vec::new(alloc))
     }
 
-    /// An array of these lengths with these cells.
+    /// An array of these lengths with these values, the first ones of its elements.
     ///
     /// Errors: memory ran out.
     pub fn array(alloc: Global, lengths: &[u32], cells: Vec<i64>) -> Result<Tree, AllocError>
-        ensures { IfOk result (λ t. tree_of t ≡ shaped lengths.now cells.items 0) }
+        ensures { IfOk result (λ t. tree_of t ≡ shaped lengths.now (slice_get cells.items) 0) }
     {
-        let lengths = match Vec::from_slice(alloc, lengths) {
-            Ok(lengths) => lengths,
-            Err(e) => return Err(e),
-        };
-        match Box::new(alloc, Grid { lengths, cells }) {
-            Ok(grid) => Ok(Tree::Array(grid)),
-            Err(_) => Err(AllocError),
+        match widened(alloc, lengths) {
+            Ok(lengths) => of_cells(alloc, lengths, cells),
+            Err(e) => Err(e),
         }
+    }
+
+    /// An array of as many elements as there are values.
+    ///
+    /// Errors: memory ran out.
+    pub fn row(alloc: Global, cells: Vec<i64>) -> Result<Tree, AllocError>
+        ensures { IfOk result (λ t. tree_of t ≡ shaped (length cells.items ∷ []) (slice_get cells.items) 0) }
+    {
+        match Vec::from_slice(alloc, &[cells.len()]) {
+            Ok(lengths) => of_cells(alloc, lengths, cells),
+            Err(e) => Err(e),
+        }
+    }
+}
+
+/// These lengths as numbers of elements.
+///
+/// Errors: memory ran out.
+fn widened(alloc: Global, lengths: &[u32]) -> Result<Vec<usize>, AllocError>
+    ensures { IfOk result (λ all. all.items ≡ lengths.now) }
+{
+    let mut all = match Vec::with_capacity(alloc, lengths.len()) {
+        Ok(all) => all,
+        Err(e) => return Err(e),
+    };
+    for n in lengths {
+        match all.push(*n as usize) {
+            Ok(()) => {}
+            Err(_) => return Err(AllocError),
+        }
+    }
+    Ok(all)
+}
+
+/// An array of these lengths, each of whose cells has a value.
+///
+/// Errors: memory ran out.
+fn of_cells(alloc: Global, lengths: Vec<usize>, cells: Vec<i64>) -> Result<Tree, AllocError>
+    ensures { IfOk result (λ t. tree_of t ≡ shaped lengths.items (slice_get cells.items) 0) }
+{
+    let grid = Grid {
+        lengths,
+        cells,
+        unset: Vec::new(alloc),
+    };
+    match Box::new(alloc, grid) {
+        Ok(grid) => Ok(Tree::Array(grid)),
+        Err(_) => Err(AllocError),
     }
 }

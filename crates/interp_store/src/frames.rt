@@ -104,7 +104,7 @@ pub enum Late<'p> {
     /// A number of characters of a string literal are stored.
     PutsText(IntType, usize, usize, Reference),
     /// A number of elements or rows, from a given one on, become zero.
-    PutsZeros(usize, usize, &'p [u32], Reference),
+    PutsZeros(usize, usize, Reference),
     EntersBody(&'p [ObjectType], &'p Statement),
 }
 
@@ -116,7 +116,11 @@ pub enum Node<'p> {
     Statement(&'p [ObjectType], &'p Statement),
     Initialiser(&'p Initialiser, IntType, &'p [u32], Reference),
     Element(Reference, i64),
+    /// As many ticks follow this one.
     Ticking(usize, Late<'p>),
+    /// The same, by the digits of the number to the base 2^64, the lowest first: the elements of an array may be more than the
+    /// last number that memory has.
+    TickingLong(Vec<usize>, Late<'p>),
     SwitchBlock(i64, SwitchBlock<'p>),
     CaseTest(CaseTest<'p>),
 }

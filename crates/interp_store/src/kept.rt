@@ -1,8 +1,10 @@
 //! Frames as the stack stores them: those for most parts of an expression, for a turn of a loop or for a call, in 48 bytes, and
 //! the others in an allocation of their own. A loop is stored with the parts that it has: an optional part would take a word more each.
 
-ghost use Rattle.std.specs.Prelude.{◌≡◌, IfErr, IfOk, Some, map, option_map};
+ghost use Rattle.std.specs.Prelude.{◌≡◌, IfErr, IfOk, IfSome, Some, map, option_map};
 ghost use Rattle.typed_ast.specs.View.{object_type_of, statement_of, value_of};
+ghost use Rattle.csem.specs.Store.{whole};
+ghost use Rattle.interp_store.specs.View.{reference_of};
 ghost use Rattle.interp_store.specs.layer.Frames as on;
 ghost use Rattle.interp_store.specs.layer.Views.{control_frame, flow_frame, frame_of, initialiser_frame, kept_of, operand_frame, place_frame};
 ghost use Rattle.interp_store.specs.declared.frames.ControlFrame.TheVariants as controls;
@@ -114,16 +116,27 @@ fn keep_place<'p>(alloc: Global, frame: PlaceFrame<'p>) -> Result<Kept<'p>, Stop
     }
 }
 
+/// The number of the object that a reference is, if that is a whole one whose number memory has.
+#[inline(always)]
+fn whole_object(r: &Reference) -> Option<usize>
+    ensures { IfSome result (λ n. whole n ≡ reference_of r.now) }
+{
+    if r.path.is_whole() {
+        return r.object();
+    }
+    None
+}
+
 /// The subscript of the part at a reference.
 #[inline(always)]
 fn keep_subscript<'p>(alloc: Global, at: Pos, r: Reference) -> Result<Kept<'p>, Stop>
     ensures ok { IfOk result (λ kept. kept_of kept ≡ operand_frame (operands.IndexOf at r)) }
     ensures err { IfErr result (λ e. e ≡ Memory) }
 {
-    if r.path.is_whole() {
-        return Ok(Kept::IndexOf(at, r.object));
+    match whole_object(&r) {
+        Some(n) => Ok(Kept::IndexOf(at, n)),
+        None => apart(alloc, Frame::Operand(OperandFrame::IndexOf(at, r))),
     }
-    apart(alloc, Frame::Operand(OperandFrame::IndexOf(at, r)))
 }
 
 /// A store at a reference.
@@ -132,10 +145,10 @@ fn keep_store<'p>(alloc: Global, at: Pos, ty: IntType, r: Reference) -> Result<K
     ensures ok { IfOk result (λ kept. kept_of kept ≡ operand_frame (operands.Stores at ty r)) }
     ensures err { IfErr result (λ e. e ≡ Memory) }
 {
-    if r.path.is_whole() {
-        return Ok(Kept::Stores(at, ty, r.object));
+    match whole_object(&r) {
+        Some(n) => Ok(Kept::Stores(at, ty, n)),
+        None => apart(alloc, Frame::Operand(OperandFrame::Stores(at, ty, r))),
     }
-    apart(alloc, Frame::Operand(OperandFrame::Stores(at, ty, r)))
 }
 
 #[inline(always)]

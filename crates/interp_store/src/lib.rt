@@ -17,7 +17,7 @@ pub mod stop;
 mod store;
 
 pub use element_tree::Tree;
-pub use grid::{Grid, number_for};
+pub use grid::Grid;
 pub use path::Path;
 pub use reference::Reference;
 pub use store::Store;

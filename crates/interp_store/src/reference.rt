@@ -1,6 +1,6 @@
 //! References into the store.
 
-ghost use Rattle.std.specs.Prelude.{◌≡◌, IfErr, IfOk};
+ghost use Rattle.std.specs.Prelude.{◌≡◌, ◌+◌, ◌^◌, ◌≤◌, [], IfErr, IfNone, IfOk, IfSome, nat_lt};
 ghost use Rattle.interp_store.specs.declared.stop.Stop.TheVariants.{Memory};
 ghost use Rattle.csem.specs.Store.{whole, into};
 ghost use Rattle.interp_store.specs.View.{reference_of};
@@ -9,10 +9,12 @@ use crate::path::Path;
 use crate::stop::Stop;
 use std::alloc::{AllocError, Global};
 
-/// An object by its number, and a part of it. There are no addresses (6.5.2.1).
+/// The object `offset` numbers after object `first`, and a part of it. There are no addresses (6.5.2.1). The sum may be past the
+/// last number that memory has, and then there is no such object.
 #[derive(Drop)]
 pub struct Reference {
-    pub object: usize,
+    pub first: usize,
+    pub offset: usize,
     pub path: Path,
 }
 
@@ -21,9 +23,38 @@ impl Reference {
     pub fn whole(object: usize) -> Reference
         ensures { reference_of result ≡ whole object }
     {
+        Reference::after(object, 0)
+    }
+
+    /// The whole object that many numbers after one.
+    #[inline(always)]
+    pub fn after(first: usize, offset: usize) -> Reference
+        ensures { reference_of result ≡ whole (first + offset) }
+    {
         Reference {
-            object,
+            first,
+            offset,
             path: Path::Whole,
+        }
+    }
+
+    /// The number of the object, if memory has that number.
+    #[inline(always)]
+    pub fn object(&self) -> Option<usize>
+        ensures is { IfSome result (λ n. n ≡ (reference_of self.now).object) }
+        ensures none { IfNone result (2 ^ 64 ≤ (reference_of self.now).object) }
+    {
+        self.first.checked_add(self.offset)
+    }
+
+    /// Whether the object is one of the first `count` ones.
+    #[inline(always)]
+    pub fn is_before(&self, count: usize) -> bool
+        ensures { result ≡ nat_lt (reference_of self.now).object count }
+    {
+        match self.object() {
+            None => false,
+            Some(n) => n < count,
         }
     }
 
@@ -36,7 +67,8 @@ impl Reference {
     {
         match self.path.copied(alloc) {
             Ok(path) => Ok(Reference {
-                object: self.object,
+                first: self.first,
+                offset: self.offset,
                 path,
             }),
             Err(_) => Err(Stop::Memory),
@@ -51,7 +83,8 @@ impl Reference {
     {
         let path = self.path.into_part(alloc, i)?;
         Ok(Reference {
-            object: self.object,
+            first: self.first,
+            offset: self.offset,
             path,
         })
     }

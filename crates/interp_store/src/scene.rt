@@ -45,8 +45,8 @@ impl Scene {
     {
         match what {
             Storage::Literal(n) => Ok(Reference::whole(n)),
-            Storage::Static(n) => object_behind(program.literals.len(), n),
-            Storage::Automatic(n) => object_behind(self.base, n),
+            Storage::Static(n) => Ok(Reference::after(program.literals.len(), n)),
+            Storage::Automatic(n) => Ok(Reference::after(self.base, n)),
             Storage::Parameter(n) => match self.arrays.get(n) {
                 None => Ok(Reference::whole(0)),
                 Some(array) => array.copied(alloc),
@@ -55,14 +55,11 @@ impl Scene {
     }
 
     /// Object `n` of the present call.
-    ///
-    /// Errors: memory ran out.
     #[inline(always)]
-    pub fn own(&self, n: usize) -> Result<Reference, Stop>
-        ensures ok { (o : Outside) → IfOk result (λ r. reference_of r ≡ statements.own n (state_in self.now o)) }
-        ensures err { IfErr result (λ e. e ≡ Memory) }
+    pub fn own(&self, n: usize) -> Reference
+        ensures { (o : Outside) → reference_of result ≡ statements.own n (state_in self.now o) }
     {
-        object_behind(self.base, n)
+        Reference::after(self.base, n)
     }
 
     /// The number of an element or row of the array at `r`, if the subscript is one of it.
@@ -116,9 +113,9 @@ impl Scene {
         }
     }
 
-    /// The element at `r` becomes `v`.
+    /// The element at `r`, if there is one, becomes `v`.
     ///
-    /// Errors: `Memory` where an array is there, or `v` is the least number, neither of which is of a typed program.
+    /// Errors: memory ran out.
     #[inline(always)]
     pub fn set(&mut self, r: &Reference, v: i64) -> Result<(), Stop>
         ensures ok { (o : Outside) → OnOk result (state_in self.new o ≡ stored (reference_of r.now) v (state_in self.old o)) }
@@ -145,7 +142,7 @@ impl Scene {
         ensures { (o : Outside) →
             Runs number (write (program_of program.now) at (reference_of r.now) (converted ty v) (state_in self.old o)) result (state_in self.new o) }
     {
-        if r.object < program.literals.len() {
+        if r.is_before(program.literals.len()) {
             return Err(Stop::Undefined(Undef::U7, at));
         }
         let v = convert(ty, v);
@@ -200,22 +197,21 @@ impl Scene {
         }
     }
 
-    /// Object `n` of the present call becomes indeterminate (6.2.4p6).
+    /// Object `n` of the present call, if there is one, becomes indeterminate (6.2.4p6).
     ///
     /// Errors: memory ran out.
     pub fn renew(&mut self, alloc: Global, objects: &[ObjectType], n: usize) -> Result<(), Stop>
         ensures ok { (o : Outside) → OnOk result (state_in self.new o ≡ statements.renewed (map object_type_of objects.now) n (state_in self.old o)) }
         ensures err { IfErr result (λ e. e ≡ Memory) }
     {
-        let r = match self.own(n) {
-            Ok(r) => r,
-            Err(stop) => return Err(stop),
+        let Some(number) = self.base.checked_add(n) else {
+            return Ok(());
         };
         let object = match new_object(alloc, objects, n) {
             Ok(object) => object,
             Err(stop) => return Err(stop),
         };
-        self.store.put(r.object, object);
+        self.store.put(number, object);
         Ok(())
     }
 }
@@ -231,17 +227,5 @@ fn new_object(alloc: Global, objects: &[ObjectType], n: usize) -> Result<Tree, S
             Ok(object) => Ok(object),
             Err(_) => Err(Stop::Memory),
         },
-    }
-}
-
-/// The object `n` numbers after `first`. One past the last number that memory has is out of memory.
-#[inline(always)]
-fn object_behind(first: usize, n: usize) -> Result<Reference, Stop>
-    ensures ok { IfOk result (λ r. reference_of r ≡ record { object = first + n; path = [] }) }
-    ensures err { IfErr result (λ e. e ≡ Memory) }
-{
-    match first.checked_add(n) {
-        Some(object) => Ok(Reference::whole(object)),
-        None => Err(Stop::Memory),
     }
 }

@@ -1,7 +1,7 @@
 //! The objects that live.
 
-ghost use Rattle.std.specs.Prelude.{◌≡◌, ◌++◌, ◌∷◌, [], OnOk, Some, take, length};
-ghost use Rattle.csem.specs.Store.{Element, filled, tree_at, value_at, length_of, put, whole};
+ghost use Rattle.std.specs.Prelude.{◌≡◌, ◌<◌, ◌≤◌, ◌++◌, ◌∷◌, [], IfNone, IfSome, OnOk, take, length};
+ghost use Rattle.csem.specs.Store.{tree_at, value_at, length_of, put, set_value, set_zeros, whole};
 ghost use Rattle.interp_store.specs.View.{tree_of, store_of, reference_of};
 
 use crate::element_tree::Tree;
@@ -32,14 +32,33 @@ impl Store {
         self.objects.len()
     }
 
+    /// The number of the object at a reference, if that lives.
+    #[inline(always)]
+    fn place(&self, r: &Reference) -> Option<usize>
+        ensures is { IfSome result (λ n. n ≡ (reference_of r.now).object) }
+        ensures lives { IfSome result (λ n. n < length self.now.objects.items) }
+        ensures none { IfNone result (length self.now.objects.items ≤ (reference_of r.now).object) }
+    {
+        match r.object() {
+            None => None,
+            Some(n) => {
+                if n < self.objects.len() {
+                    Some(n)
+                } else {
+                    None
+                }
+            }
+        }
+    }
+
     /// The value of the element at a reference, none where it is indeterminate.
     #[inline(always)]
     pub fn value(&self, r: &Reference) -> Option<i64>
         ensures { result ≡ value_at (store_of self.now) (reference_of r.now) }
     {
-        match self.objects.get(r.object) {
+        match self.place(r) {
             None => None,
-            Some(tree) => tree.value(r.path.subscripts()),
+            Some(n) => self.objects[n].value(r.path.subscripts()),
         }
     }
 
@@ -47,39 +66,38 @@ impl Store {
     pub fn length(&self, r: &Reference) -> usize
         ensures { result ≡ length_of (tree_at (store_of self.now) (reference_of r.now)) }
     {
-        match self.objects.get(r.object) {
+        match self.place(r) {
             None => 0,
-            Some(tree) => tree.len(r.path.subscripts()),
+            Some(n) => self.objects[n].len(r.path.subscripts()),
         }
     }
 
     /// The element at a reference, if there is one, becomes `v`.
     ///
-    /// Errors: an array is there, or `v` is the least number, neither of which is of a typed program.
+    /// Errors: memory ran out.
     #[inline(always)]
     pub fn set(&mut self, r: &Reference, v: i64) -> Result<(), AllocError>
-        ensures { OnOk result (store_of self.new ≡ put (store_of self.old) (reference_of r.now) (Element (Some v))) }
+        ensures { OnOk result (store_of self.new ≡ set_value (store_of self.old) (reference_of r.now) v) }
     {
-        if r.object >= self.objects.len() {
+        let Some(n) = self.place(r) else {
             return Ok(());
-        }
+        };
         if r.path.is_whole() {
-            let _old = mem::replace(&mut self.objects[r.object], Tree::Element(Some(v)));
-            return Ok(());
+            return self.objects[n].set_whole(v);
         }
-        self.objects[r.object].set(r.path.subscripts(), v)
+        self.objects[n].set(r.path.subscripts(), v)
     }
 
-    /// Each element of the part at a reference, which has these lengths, becomes `v`.
+    /// Each element of the part at a reference, if there is one, becomes zero.
     ///
-    /// Errors: the part there has other lengths, or `v` is the least number, neither of which is of a typed program.
-    pub fn fill(&mut self, r: &Reference, lengths: &[u32], v: i64) -> Result<(), AllocError>
-        ensures { OnOk result (store_of self.new ≡ put (store_of self.old) (reference_of r.now) (filled (Some v) lengths.now)) }
+    /// Errors: memory ran out.
+    pub fn zero(&mut self, r: &Reference) -> Result<(), AllocError>
+        ensures { OnOk result (store_of self.new ≡ set_zeros (store_of self.old) (reference_of r.now)) }
     {
-        if r.object >= self.objects.len() {
+        let Some(n) = self.place(r) else {
             return Ok(());
-        }
-        self.objects[r.object].fill(r.path.subscripts(), lengths, v)
+        };
+        self.objects[n].zero(r.path.subscripts())
     }
 
     /// Another object takes the place of number `n`, if that lives.

@@ -22,7 +22,7 @@ pub data Found : Type 0 where
 -- the operation after a number of ticks is spent: characters of string literal n stored, elements made zero, a function's body entered
 pub data Late : Type 0 where
   puts_text : (t : IntType) (count n : ℕ) (r : Reference) → Late
-  puts_zeros : (count i : ℕ) (lengths : List ℕ) (r : Reference) → Late
+  puts_zeros : (count i : ℕ) (r : Reference) → Late
   enters_body : (objects : List ObjectType) (body : Statement) → Late
 
 -- a node, which takes the next tick; a statement has the objects of its function with it, and a switch the value that is looked for

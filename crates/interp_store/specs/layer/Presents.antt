@@ -46,7 +46,7 @@ module _ (p : Program) (call : Calling) where
 
   abbrev pub late : Late → State → Run Found
   late (puts_text t count n r) s = Goes initialised (characters t count 0 (text_or_none (slice_get p.literals n)) r s)
-  late (puts_zeros count i lengths r) s = Goes initialised (zeros count i lengths r s)
+  late (puts_zeros count i r) s = Goes initialised (zeros count i r s)
   late (enters_body objects body) s = given a_flow (execute p call objects body s)
 
   -- the arguments that are left, and the call

@@ -88,7 +88,7 @@ module _ (p : Program) where
 
   abbrev pub came_late : Late → State → Moved
   came_late (puts_text t count n r) s = goes initialised (characters t count 0 (text_or_none (slice_get p.literals n)) r s)
-  came_late (puts_zeros count i lengths r) s = goes initialised (zeros count i lengths r s)
+  came_late (puts_zeros count i r) s = goes initialised (zeros count i r s)
   came_late (enters_body objects body) s = moves [] (enters (on.statement objects body)) s
 
   abbrev pub counted : ℕ → Late → State → Moved
@@ -141,7 +141,7 @@ module _ (p : Program) where
   entered_statement objects (typed.return_value t e) s = waits (on.gives_back t) (on.value e) s
 
   abbrev pub listed : Initialisers → IntType → (k i : ℕ) → List ℕ → Reference → State → Moved
-  listed typed.no_initialisers t k i lengths r s = counted (k * elements_in lengths) (puts_zeros k i lengths r) s
+  listed typed.no_initialisers t k i lengths r s = counted (k * elements_in lengths) (puts_zeros k i r) s
   listed (typed.and_initialiser x more) t k i lengths r s = waits (on.next_part more t k i lengths r) (on.initialiser x t lengths (into r i)) s
 
   abbrev pub entered_initialiser : Initialiser → IntType → List ℕ → Reference → State → Moved

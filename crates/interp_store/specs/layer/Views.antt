@@ -34,6 +34,7 @@ use Rattle.interp_store.specs.declared.kept.Kept.{Kept}
 use Rattle.interp_store.specs.declared.kept.Kept.TheVariants as kept
 use Rattle.csem.specs.Store.{whole}
 use Rattle.interp_store.specs.View.{reference_of}
+use Rattle.interp_store.specs.layer.Digits.{number_of}
 use Rattle.interp_store.specs.layer.Frames as on
 
 abbrev pub flow_of : Flow → statements.Flow
@@ -54,7 +55,7 @@ passed_of (passed.Referred r) = meaning.Referred (reference_of r)
 
 abbrev pub late_of : Late → on.Late
 late_of (late.PutsText t count n r) = on.puts_text t count n (reference_of r)
-late_of (late.PutsZeros count i lengths r) = on.puts_zeros count i lengths.now (reference_of r)
+late_of (late.PutsZeros count i r) = on.puts_zeros count i (reference_of r)
 late_of (late.EntersBody objects body) = on.enters_body (map object_type_of objects.now) (statement_of body.now)
 
 abbrev pub node_of : Node → on.Node
@@ -64,6 +65,7 @@ node_of (node.Statement objects a) = on.statement (map object_type_of objects.no
 node_of (node.Initialiser i t lengths r) = on.initialiser (initialiser_of i.now) t lengths.now (reference_of r)
 node_of (node.Element r v) = on.element (reference_of r) v
 node_of (node.Ticking more what) = on.ticking more (late_of what)
+node_of (node.TickingLong digits what) = on.ticking (number_of digits.items) (late_of what)
 node_of (node.SwitchBlock v block) =
     on.switch_block (map object_type_of block.objects.now) v block.first block.count (statements_of (map statement_of block.all.now.items))
 node_of (node.CaseTest t) = on.case_test (map object_type_of t.objects.now) t.value t.case

@@ -1,6 +1,0 @@
-use Rattle.std.proofs.Common.{rules}
-use Rattle.interp_store.proofs.Shapes.{one_counted}
-use Rattle.interp_store.proofs.grid.count.Goals as goal
-
-pub loop-n-preserved : goal.loop-n-preserved
-loop-n-preserved c = one_counted c.args.lengths.now c.loop-n.n-index c.loop-n.product c.in-Some.next _ c.loop-n-test.true (search rules) c.loop-n.invariant
