@@ -3,3 +3,4 @@ pub mod Parts
 pub mod Operated
 pub mod Stored
 pub mod Rows
+mod Deep

@@ -1,12 +1,12 @@
 //! Objects that change, and calls.
 
-ghost use Rattle.std.specs.Prelude.{ℕ, ◌+◌, true, OnOk};
+ghost use Rattle.std.specs.Prelude.{ℕ, ◌+◌, ◌<◌, true, OnOk};
 ghost use Rattle.ctypes.specs.declared.types.IntType.{IntType};
 ghost use Rattle.tac_code.specs.declared.code.Operand.TheVariants as operands;
 ghost use Rattle.typed_ast.specs.View.{callee_of, moment_of};
 ghost use Rattle.lower_correct.specs.Code as relation;
 ghost use Rattle.lower_correct.specs.Values.{To};
-ghost use Rattle.lower_ops.specs.layer.Parts.{meant, shape_of, Wrote};
+ghost use Rattle.lower_ops.specs.layer.Parts.{IsNear, meant, shape_of, Wrote};
 ghost use Rattle.lower_ops.specs.layer.Parts as parts;
 ghost use Rattle.lower_ops.specs.layer.Emitted as emitted;
 ghost use Rattle.lower_ops.specs.layer.FormSizes as size;
@@ -14,7 +14,6 @@ ghost use Rattle.lower_ops.specs.layer.FormSizes as size;
 use crate::instructions::{convert_to, move_to};
 use crate::modes::Mode;
 use crate::operations::{put_end, put_operation};
-use crate::waiting::next;
 use crate::words::reading_of;
 use crate::writing::{Code, ahead, put};
 use ctypes::{BinOp, IntType};
@@ -71,12 +70,12 @@ fn put_step_aside(
     mode: Mode,
     temporary: usize,
 ) -> Result<(), AllocError>
+    requires { temporary < 4611686018427387904 }
     ensures { OnOk result (Wrote (λ w p q. relation.StepsAside w change.wide change.op change.ty change.of (meant mode) change.object temporary p q) (size.steps_aside_size change.wide change.op (shape_of (meant mode))) code.old.list.items code.new.list.items) }
 {
     let way = Target::Temporary(temporary);
     put(code, move_to(way, Operand::Object(change.object)))?;
-    let free = next(temporary)?;
-    put_step(code, change, free)?;
+    put_step(code, change, temporary + 1)?;
     put_end(code, mode, Operand::Temporary(temporary))?;
     Ok(())
 }
@@ -102,12 +101,13 @@ fn put_step_to(
     target: Target,
     temporary: usize,
 ) -> Result<(), AllocError>
+    requires room { temporary < 4611686018427387904 }
+    requires aim { IsNear (To target) }
     ensures { OnOk result (Wrote (λ w p q. relation.StepsAfter w change.wide change.op change.ty change.of (To target) change.object temporary p q) (size.steps_after_size change.wide change.op (shape_of (To target))) code.old.list.items code.new.list.items) }
 {
     match target {
         Target::Temporary(number) => {
-            let free = next(number)?;
-            put_step_behind(code, change, target, free)?;
+            put_step_behind(code, change, target, number + 1)?;
             Ok(())
         }
         Target::Kept(_) => {
@@ -127,6 +127,8 @@ fn put_step_after(
     mode: Mode,
     temporary: usize,
 ) -> Result<(), AllocError>
+    requires room { temporary < 4611686018427387904 }
+    requires aim { IsNear (meant mode) }
     ensures { OnOk result (Wrote (λ w p q. relation.StepsAfter w change.wide change.op change.ty change.of (meant mode) change.object temporary p q) (size.steps_after_size change.wide change.op (shape_of (meant mode))) code.old.list.items code.new.list.items) }
 {
     match mode {
@@ -153,6 +155,8 @@ pub fn put_stepped(
     mode: Mode,
     temporary: usize,
 ) -> Result<(), AllocError>
+    requires room { temporary < 4611686018427387904 }
+    requires aim { IsNear (meant mode) }
     ensures { OnOk result (Wrote (λ w p q. relation.StepsBy w (moment_of moment) change.wide change.op change.ty change.of (meant mode) change.object temporary p q) (size.steps_by_size (moment_of moment) change.wide change.op (shape_of (meant mode))) code.old.list.items code.new.list.items) }
 {
     match moment {

@@ -1,6 +1,6 @@
 //! Code for memory: parts of arrays, loads and stores (6.5.2.1, 6.5.16).
 
-ghost use Rattle.std.specs.Prelude.{◌≡◌, true, OnOk};
+ghost use Rattle.std.specs.Prelude.{◌≡◌, ◌<◌, true, OnOk};
 ghost use Rattle.typing_spec.specs.Program as typed;
 ghost use Rattle.typed_ast.specs.View.{moment_of};
 ghost use Rattle.lower_correct.specs.Code as relation;
@@ -15,7 +15,6 @@ use crate::instructions::{convert_to, move_to};
 use crate::modes::{Mode, target_of};
 use crate::operations::{put_end, put_follow, put_operation};
 use crate::spots::cuts;
-use crate::waiting::next;
 use crate::words::{is_wide, reading_of};
 use crate::writing::{Code, put};
 use ctypes::{BinOp, IntType};
@@ -221,11 +220,12 @@ fn put_altered_aside(
     mode: Mode,
     temporary: usize,
 ) -> Result<(), AllocError>
+    requires { temporary < 4611686018427387904 }
     ensures { OnOk result (Wrote (λ w p q. relation.AltersAside w change.op change.ty change.of change.spot (meant mode) temporary p q) (form.alters_aside_size change.op change.ty (shape_of (meant mode))) code.old.list.items code.new.list.items) }
 {
     let reading = reading_of(change.of);
     let old = Operand::Temporary(temporary);
-    let free = next(temporary)?;
+    let free = temporary + 1;
     let way = Target::Temporary(free);
     let one = Operand::Constant(1);
     put_operation(code, change.op, reading, way, old, one, free)?;
@@ -250,6 +250,7 @@ fn put_altered_after(
     mode: Mode,
     temporary: usize,
 ) -> Result<(), AllocError>
+    requires { temporary < 4611686018427387904 }
     ensures { OnOk result (Wrote (λ w p q. relation.AltersBy w typed.after change.op change.ty change.of change.spot (meant mode) temporary p q) (form.alters_after_size change.op change.ty (shape_of (meant mode))) code.old.list.items code.new.list.items) }
 {
     match mode {
@@ -276,6 +277,7 @@ pub fn put_altered_by(
     mode: Mode,
     temporary: usize,
 ) -> Result<(), AllocError>
+    requires { temporary < 4611686018427387904 }
     ensures { OnOk result (Wrote (λ w p q. relation.AltersBy w (moment_of moment) change.op change.ty change.of change.spot (meant mode) temporary p q) (form.alters_by_size (moment_of moment) change.op change.ty (shape_of (meant mode))) code.old.list.items code.new.list.items) }
 {
     match moment {

@@ -1,6 +1,6 @@
 //! The bytes of elements and rows (6.5.2.1, 6.5.3.4).
 
-ghost use Rattle.std.specs.Prelude.{◌≡◌, ◌∷◌, [], map, IfOk, Option, Some, None, slice_get};
+ghost use Rattle.std.specs.Prelude.{◌≡◌, ◌∷◌, [], map, Option, Some, None, slice_get};
 ghost use Rattle.ctypes.specs.declared.types.IntType.TheVariants as ty;
 ghost use Rattle.typing_spec.specs.Types.{elements_in, complete, unknown_size};
 ghost use Rattle.typing_spec.specs.Nodes as typed;
@@ -8,9 +8,7 @@ ghost use Rattle.typed_ast.specs.View.{place_of, storage_of, object_type_of, par
 ghost use Rattle.lower_ops.specs.layer.Rows as rows;
 
 use crate::scopes::Scope;
-use crate::waiting::next;
 use ctypes::{IntType, size_of};
-use std::alloc::AllocError;
 use typed_ast::{ObjectType, ParameterType, Place, Static, Storage};
 
 /// How many elements an array of these lengths has, as far as a word counts.
@@ -124,22 +122,21 @@ fn named_size(scope: &Scope<'_>, depth: usize, what: Storage) -> usize
     }
 }
 
-/// The bytes of a part that is `depth` elements deep in a place.
-fn deep_size(scope: &Scope<'_>, depth: usize, place: &Place) -> Result<usize, AllocError>
-    ensures { IfOk result (λ n. n ≡ rows.counted (rows.deep_size depth (typed.type_of_place (program_of scope.now.program.now) (function_of scope.now.function.now) (place_of place.now)))) }
+/// The bytes of a part that is `depth` elements deep in a place. No type has as many lengths as a word counts.
+fn deep_size(scope: &Scope<'_>, depth: usize, place: &Place) -> usize
+    ensures { result ≡ rows.counted (rows.deep_size depth (typed.type_of_place (program_of scope.now.program.now) (function_of scope.now.function.now) (place_of place.now))) }
 {
     match place {
-        Place::Named(_, what) => Ok(named_size(scope, depth, *what)),
-        Place::Element(_, array, _) => deep_size(scope, next(depth)?, array),
+        Place::Named(_, what) => named_size(scope, depth, *what),
+        Place::Element(_, array, _) => deep_size(scope, depth.saturating_add(1), array),
     }
 }
 
 // ---- whole sizes
 
 /// The bytes of the elements of an array.
-pub fn element_size(scope: &Scope<'_>, array: &Place) -> Result<usize, AllocError>
-    ensures { IfOk result (λ n. n ≡ rows.deep_size 1 (typed.type_of_place (program_of scope.now.program.now) (function_of scope.now.function.now) (place_of array.now))) }
+pub fn element_size(scope: &Scope<'_>, array: &Place) -> usize
+    ensures { result ≡ rows.deep_size 1 (typed.type_of_place (program_of scope.now.program.now) (function_of scope.now.function.now) (place_of array.now)) }
 {
-    let size = deep_size(scope, 1, array)?;
-    Ok(size)
+    deep_size(scope, 1, array)
 }

@@ -1,6 +1,6 @@
 //! Where the reference is that a place gives, and which temporaries and slots are free next to it.
 
-ghost use Rattle.std.specs.Prelude.{◌≡◌, IfOk};
+ghost use Rattle.std.specs.Prelude.{◌≡◌, ◌<◌};
 ghost use Rattle.typed_ast.specs.View.{place_of, storage_of};
 ghost use Rattle.srcset.specs.declared.refusal.Pos.{Pos};
 ghost use Rattle.typing_spec.specs.Program as typed;
@@ -11,7 +11,6 @@ ghost use Rattle.lower_ops.specs.layer.FormSizes as size;
 use crate::modes::{Mode, Shape};
 use crate::waiting::{free_slot, free_temporary, pending};
 use ctypes::IntType;
-use std::alloc::AllocError;
 use tac_code::{Operand, Place as Spot, Target};
 use typed_ast::{Place, Storage};
 
@@ -48,35 +47,37 @@ pub fn found(place: &Place, has_calls: bool, temporary: usize, slot: usize) -> S
 }
 
 /// The first free temporary after that of a reference.
-pub fn free_temporary_at(spot: Spot, temporary: usize) -> Result<usize, AllocError>
-    ensures { IfOk result (λ n. n ≡ places.free_temporary_at spot temporary) }
+pub fn free_temporary_at(spot: Spot, temporary: usize) -> usize
+    requires { temporary < 4611686018427387904 }
+    ensures { result ≡ places.free_temporary_at spot temporary }
 {
     match spot {
-        Spot::Literal(_) => Ok(temporary),
-        Spot::Static(_) => Ok(temporary),
-        Spot::Array(_) => Ok(temporary),
+        Spot::Literal(_) => temporary,
+        Spot::Static(_) => temporary,
+        Spot::Array(_) => temporary,
         Spot::Element {
             array: _,
             number: _,
             element: _,
-        } => Ok(temporary),
+        } => temporary,
         Spot::At(operand) => free_temporary(operand, temporary),
     }
 }
 
 /// The first free slot after that of a reference.
-pub fn free_slot_at(spot: Spot, slot: usize) -> Result<usize, AllocError>
-    ensures { IfOk result (λ n. n ≡ places.free_kept_at spot slot) }
+pub fn free_slot_at(spot: Spot, slot: usize) -> usize
+    requires { slot < 4611686018427387904 }
+    ensures { result ≡ places.free_kept_at spot slot }
 {
     match spot {
-        Spot::Literal(_) => Ok(slot),
-        Spot::Static(_) => Ok(slot),
-        Spot::Array(_) => Ok(slot),
+        Spot::Literal(_) => slot,
+        Spot::Static(_) => slot,
+        Spot::Array(_) => slot,
         Spot::Element {
             array: _,
             number: _,
             element: _,
-        } => Ok(slot),
+        } => slot,
         Spot::At(operand) => free_slot(operand, slot),
     }
 }

@@ -1,11 +1,10 @@
 //! Where a value is while others are evaluated, and which temporaries and slots are free next to it.
 
-ghost use Rattle.std.specs.Prelude.{◌≡◌, ◌+◌, ℕ, Bool, IfOk};
+ghost use Rattle.std.specs.Prelude.{◌≡◌, ◌<◌, ℕ, Bool};
 ghost use Rattle.lower_correct.specs.Values as values;
 ghost use Rattle.lower_ops.specs.layer.Parts.{is_written};
 
 use crate::words::word_of;
-use std::alloc::AllocError;
 use tac_code::Operand;
 
 /// A slot where the value has to survive a call, else a temporary.
@@ -50,38 +49,31 @@ pub fn constant_or(constant: Option<i64>, operand: Operand) -> Operand
     }
 }
 
-/// The next number. An error where it does not fit a word.
-pub fn next(number: usize) -> Result<usize, AllocError>
-    ensures { IfOk result (λ n. n ≡ number + 1) }
-{
-    match number.checked_add(1) {
-        Some(next) => Ok(next),
-        None => Err(AllocError),
-    }
-}
 
 /// The first free temporary after that of an operand.
-pub fn free_temporary(operand: Operand, temporary: usize) -> Result<usize, AllocError>
-    ensures { IfOk result (λ n. n ≡ values.free_temporary operand temporary) }
+pub fn free_temporary(operand: Operand, temporary: usize) -> usize
+    requires { temporary < 4611686018427387904 }
+    ensures { result ≡ values.free_temporary operand temporary }
 {
     match operand {
-        Operand::Temporary(_) => next(temporary),
-        Operand::Kept(_) => Ok(temporary),
-        Operand::Object(_) => Ok(temporary),
-        Operand::Parameter(_) => Ok(temporary),
-        Operand::Constant(_) => Ok(temporary),
+        Operand::Temporary(_) => temporary + 1,
+        Operand::Kept(_) => temporary,
+        Operand::Object(_) => temporary,
+        Operand::Parameter(_) => temporary,
+        Operand::Constant(_) => temporary,
     }
 }
 
 /// The first free slot after that of an operand.
-pub fn free_slot(operand: Operand, slot: usize) -> Result<usize, AllocError>
-    ensures { IfOk result (λ n. n ≡ values.free_kept operand slot) }
+pub fn free_slot(operand: Operand, slot: usize) -> usize
+    requires { slot < 4611686018427387904 }
+    ensures { result ≡ values.free_kept operand slot }
 {
     match operand {
-        Operand::Kept(_) => next(slot),
-        Operand::Temporary(_) => Ok(slot),
-        Operand::Object(_) => Ok(slot),
-        Operand::Parameter(_) => Ok(slot),
-        Operand::Constant(_) => Ok(slot),
+        Operand::Kept(_) => slot + 1,
+        Operand::Temporary(_) => slot,
+        Operand::Object(_) => slot,
+        Operand::Parameter(_) => slot,
+        Operand::Constant(_) => slot,
     }
 }

@@ -20,6 +20,14 @@ meant mode.Nowhere = Nowhere
 meant (mode.To g) = To g
 meant (mode.If sense to) = If sense to
 
+-- a temporary that the value goes to has a number after it
+abbrev pub IsNear : Mode → Type 0
+IsNear Nowhere = Unit {0}
+IsNear (To (target.Temporary j)) = j < 4611686018427387904
+IsNear (To (target.Kept j)) = Unit {0}
+IsNear (To (target.Object x)) = Unit {0}
+IsNear (If sense to) = Unit {0}
+
 -- the part of a mode that decides the number of instructions
 abbrev pub shape_of : Mode → Shape
 shape_of Nowhere = shape.Nowhere

@@ -8,4 +8,4 @@ pub returns : goal.returns
 returns c =
     let s = c.args.scope.now in
     let a = place_of c.args.array.now in
-    c.in_ok-size.ensures ∙ counted_row (type_of_place (program_of s.program.now) (function_of s.function.now) a) (s.rows a)
+    c.deep_size.ensures ∙ counted_row (type_of_place (program_of s.program.now) (function_of s.function.now) a) (s.rows a)
