@@ -28,7 +28,6 @@ OPEN = {
     ('interp_store/src/grid.rt', 'fill'),
     ('interp_store/src/grid.rt', 'set'),
     ('interp_store/src/scene.rt', 'object_behind'),
-    ('lower_ops/src/waiting.rt', 'next'),
     ('tac/src/initialisers.rt', 'ahead_of'),
 }
 
