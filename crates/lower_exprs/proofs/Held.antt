@@ -10,9 +10,10 @@ use Rattle.typed_ast.specs.declared.storage_places.Callee.{Callee}
 use Rattle.typed_ast.specs.declared.storage_places.Moment.{Moment}
 use Rattle.typed_ast.specs.declared.expressions.Place.{Place}
 use Rattle.typed_ast.specs.declared.expressions.Argument.{Argument}
+use Rattle.typed_ast.specs.declared.expressions.Argument as A
 use Rattle.typed_ast.specs.declared.expressions.Value.{Value, the_lemmas}
 use Rattle.typed_ast.specs.declared.expressions.Value as V
-use Rattle.typed_ast.specs.View.{value_of, place_of, callee_of, moment_of, argument_of, arguments_of}
+use Rattle.typed_ast.specs.View.{value_of, place_of, callee_of, moment_of, argument_of, arguments_of, number_given, array_given}
 use Rattle.typing_spec.specs.Program as typed
 
 constant_is : (u : IntType) (v : ℤ) → value_of (V.Constant u v) ≡ typed.constant u v
@@ -98,3 +99,17 @@ call_is at f result used arguments = search (rules, the_lemmas)
 
 pub sees_call : (x : Value) (at : Pos) (f : Callee) (result : Option IntType) (used : Bool) (arguments : Vec Argument Global) → x ≡ V.Call at f result used arguments → value_of x ≡ typed.call at (callee_of f) result used (arguments_of (map argument_of arguments.items))
 sees_call x at f result used arguments h = ap value_of h ∙ call_is at f result used arguments
+
+-- ---- an argument
+
+number_is : (u : IntType) (e : Value) → argument_of (A.Number u e) ≡ number_given u (value_of e)
+number_is u e = search (rules, the_lemmas)
+
+pub sees_number : (x : Argument) (u : IntType) (e : Value) → x ≡ A.Number u e → argument_of x ≡ number_given u (value_of e)
+sees_number x u e h = ap argument_of h ∙ number_is u e
+
+array_is : (a : Place) → argument_of (A.Array a) ≡ array_given (place_of a)
+array_is a = search (rules, the_lemmas)
+
+pub sees_array : (x : Argument) (a : Place) → x ≡ A.Array a → argument_of x ≡ array_given (place_of a)
+sees_array x a h = ap argument_of h ∙ array_is a

@@ -5,3 +5,4 @@ pub mod Expressions
 pub mod Located
 pub mod Passed
 pub mod Behind
+pub mod Room

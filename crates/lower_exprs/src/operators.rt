@@ -1,6 +1,6 @@
 //! The code of operators whose operands are expressions.
 
-ghost use Rattle.std.specs.Prelude.{◌≡◌, ℕ, Option, OnOk};
+ghost use Rattle.std.specs.Prelude.{◌≡◌, ◌≤◌, length, ℕ, Option, OnOk};
 ghost use Rattle.srcset.specs.declared.refusal.Pos.{Pos};
 ghost use Rattle.ctypes.specs.declared.types.IntType.{IntType};
 ghost use Rattle.ctypes.specs.declared.operators.BinOp.TheVariants as op;
@@ -13,7 +13,7 @@ ghost use Rattle.lower_correct.specs.Code as relation;
 ghost use Rattle.lower_correct.specs.Values as lowered;
 ghost use Rattle.lower_ops.specs.layer.Rows as rows;
 ghost use Rattle.lower_ops.specs.layer.FormSizes as form;
-ghost use Rattle.lower_ops.specs.layer.Parts.{meant, shape_of, Wrote};
+ghost use Rattle.lower_ops.specs.layer.Parts.{IsNear, meant, shape_of, Wrote};
 ghost use Rattle.lower_ops.specs.layer.Parts as parts;
 ghost use Rattle.lower_exprs.specs.layer.Sizes as size;
 ghost use Rattle.lower_exprs.specs.layer.Written as written;
@@ -46,6 +46,8 @@ fn put_minus(
     mode: Mode,
     free: Free,
 ) -> Result<(), AllocError>
+    requires temporary { free.temporary ≤ length code.old.list.items }
+    requires slot { free.slot ≤ length code.old.list.items }
     ensures { OnOk result ((at : Pos) → WroteValue (rows.sizes_in scope.now) (typed.unary at prefix.Minus ty (value_of e.now)) (meant mode) free.temporary free.slot code.old.list.items code.new.list.items) }
 {
     put(code, Instruction::Nothing)?;
@@ -73,6 +75,8 @@ fn put_complement(
     mode: Mode,
     free: Free,
 ) -> Result<(), AllocError>
+    requires temporary { free.temporary ≤ length code.old.list.items }
+    requires slot { free.slot ≤ length code.old.list.items }
     ensures { OnOk result ((at : Pos) → WroteValue (rows.sizes_in scope.now) (typed.unary at prefix.Complement ty (value_of e.now)) (meant mode) free.temporary free.slot code.old.list.items code.new.list.items) }
 {
     put(code, Instruction::Nothing)?;
@@ -99,6 +103,8 @@ fn put_is_zero(
     mode: Mode,
     free: Free,
 ) -> Result<(), AllocError>
+    requires temporary { free.temporary ≤ length code.old.list.items }
+    requires slot { free.slot ≤ length code.old.list.items }
     ensures { OnOk result (Wrote (λ w p q. (p1 p2 : ℕ) × relation.One w instruction.Nothing p p1 × relation.Into w (rows.sizes_in scope.now) (value_of e.now) (lowered.mode_of (lowered.operand_of (value_of e.now) free.temporary free.slot)) free.temporary free.slot p1 p2
         × relation.IsZero w (meant mode) (lowered.operand_of (value_of e.now) free.temporary free.slot) free.temporary p2 q)
         (parts.plus 1 (parts.plus (size.value_size (value_of e.now) (size.rest_shape (value_of e.now))) (form.then_size op.Equal (shape_of (meant mode))))) code.old.list.items code.new.list.items) }
@@ -126,6 +132,8 @@ fn put_not(
     mode: Mode,
     free: Free,
 ) -> Result<(), AllocError>
+    requires temporary { free.temporary ≤ length code.old.list.items }
+    requires slot { free.slot ≤ length code.old.list.items }
     ensures { OnOk result ((at : Pos) → (u : IntType) → WroteValue (rows.sizes_in scope.now) (typed.unary at prefix.Not u (value_of e.now)) (meant mode) free.temporary free.slot code.old.list.items code.new.list.items) }
 {
     match mode {
@@ -153,6 +161,9 @@ fn put_plus(
     mode: Mode,
     free: Free,
 ) -> Result<(), AllocError>
+    requires temporary { free.temporary ≤ length code.old.list.items }
+    requires slot { free.slot ≤ length code.old.list.items }
+    requires aim { IsNear (meant mode) }
     ensures { OnOk result ((at : Pos) → (u : IntType) → WroteValue (rows.sizes_in scope.now) (typed.unary at prefix.Plus u (value_of e.now)) (meant mode) free.temporary free.slot code.old.list.items code.new.list.items) }
 {
     put(code, Instruction::Nothing)?;
@@ -170,6 +181,9 @@ pub(crate) fn put_unary(
     mode: Mode,
     free: Free,
 ) -> Result<(), AllocError>
+    requires temporary { free.temporary ≤ length code.old.list.items }
+    requires slot { free.slot ≤ length code.old.list.items }
+    requires aim { IsNear (meant mode) }
     ensures { OnOk result ((at : Pos) → WroteValue (rows.sizes_in scope.now) (typed.unary at op ty (value_of e.now)) (meant mode) free.temporary free.slot code.old.list.items code.new.list.items) }
 {
     match op {
@@ -203,12 +217,14 @@ pub(crate) fn put_binary(
     mode: Mode,
     free: Free,
 ) -> Result<(), AllocError>
+    requires temporary { free.temporary ≤ length code.old.list.items }
+    requires slot { free.slot ≤ length code.old.list.items }
     ensures { OnOk result ((at : Pos) → WroteValue (rows.sizes_in scope.now) (typed.binary at op ty (value_of a.now) (value_of b.now)) (meant mode) free.temporary free.slot code.old.list.items code.new.list.items) }
 {
     let left = waits_for(a, b, free.temporary, free.slot);
     put(code, Instruction::Nothing)?;
     put_value(scope, code, a, mode_of(left), free)?;
-    let less = beside(left, free)?;
+    let less = beside(left, free);
     let right = put_rested(scope, code, b, less)?;
     let reading = reading_of(ty);
     put_operated(code, op, reading, mode, left, right, free.temporary)?;
@@ -232,6 +248,8 @@ fn put_both_jump(
     to: usize,
     free: Free,
 ) -> Result<(), AllocError>
+    requires temporary { free.temporary ≤ length code.old.list.items }
+    requires slot { free.slot ≤ length code.old.list.items }
     ensures { OnOk result (WroteValue (rows.sizes_in scope.now) (typed.both_true (value_of a.now) (value_of b.now)) (lowered.If sense to) free.temporary free.slot code.old.list.items code.new.list.items) }
 {
     let left = value_size(a, Shape::Jump);
@@ -253,6 +271,8 @@ fn put_one_jump(
     to: usize,
     free: Free,
 ) -> Result<(), AllocError>
+    requires temporary { free.temporary ≤ length code.old.list.items }
+    requires slot { free.slot ≤ length code.old.list.items }
     ensures { OnOk result (WroteValue (rows.sizes_in scope.now) (typed.one_true (value_of a.now) (value_of b.now)) (lowered.If sense to) free.temporary free.slot code.old.list.items code.new.list.items) }
 {
     let left = value_size(a, Shape::Jump);
@@ -274,6 +294,8 @@ fn put_both_number(
     target: Target,
     free: Free,
 ) -> Result<(), AllocError>
+    requires temporary { free.temporary ≤ length code.old.list.items }
+    requires slot { free.slot ≤ length code.old.list.items }
     ensures { OnOk result (Wrote (λ w p q. written.BothNumber w (rows.sizes_in scope.now) (value_of a.now) (value_of b.now) target free.temporary free.slot p q) (written.truth_size (value_of a.now) (value_of b.now)) code.old.list.items code.new.list.items) }
 {
     let left = value_size(a, Shape::Jump);
@@ -295,6 +317,8 @@ fn put_one_number(
     target: Target,
     free: Free,
 ) -> Result<(), AllocError>
+    requires temporary { free.temporary ≤ length code.old.list.items }
+    requires slot { free.slot ≤ length code.old.list.items }
     ensures { OnOk result (Wrote (λ w p q. written.OneNumber w (rows.sizes_in scope.now) (value_of a.now) (value_of b.now) target free.temporary free.slot p q) (written.truth_size (value_of a.now) (value_of b.now)) code.old.list.items code.new.list.items) }
 {
     let left = value_size(a, Shape::Jump);
@@ -317,6 +341,8 @@ pub(crate) fn put_both(
     mode: Mode,
     free: Free,
 ) -> Result<(), AllocError>
+    requires temporary { free.temporary ≤ length code.old.list.items }
+    requires slot { free.slot ≤ length code.old.list.items }
     ensures { OnOk result (WroteValue (rows.sizes_in scope.now) (typed.both_true (value_of a.now) (value_of b.now)) (meant mode) free.temporary free.slot code.old.list.items code.new.list.items) }
 {
     match mode {
@@ -344,6 +370,8 @@ pub(crate) fn put_one(
     mode: Mode,
     free: Free,
 ) -> Result<(), AllocError>
+    requires temporary { free.temporary ≤ length code.old.list.items }
+    requires slot { free.slot ≤ length code.old.list.items }
     ensures { OnOk result (WroteValue (rows.sizes_in scope.now) (typed.one_true (value_of a.now) (value_of b.now)) (meant mode) free.temporary free.slot code.old.list.items code.new.list.items) }
 {
     match mode {
@@ -372,6 +400,9 @@ pub(crate) fn put_chosen(
     mode: Mode,
     free: Free,
 ) -> Result<(), AllocError>
+    requires temporary { free.temporary ≤ length code.old.list.items }
+    requires slot { free.slot ≤ length code.old.list.items }
+    requires aim { IsNear (meant mode) }
     ensures { OnOk result ((u : Option IntType) → WroteValue (rows.sizes_in scope.now) (typed.chosen u (value_of c.now) (value_of a.now) (value_of b.now)) (meant mode) free.temporary free.slot code.old.list.items code.new.list.items) }
 {
     let test = value_size(c, Shape::Jump);

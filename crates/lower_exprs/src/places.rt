@@ -1,6 +1,6 @@
 //! The code of expressions that read and change places.
 
-ghost use Rattle.std.specs.Prelude.{◌≡◌, OnOk, IfOk};
+ghost use Rattle.std.specs.Prelude.{◌≡◌, ◌<◌, ◌≤◌, length, OnOk};
 ghost use Rattle.srcset.specs.declared.refusal.Pos.{Pos};
 ghost use Rattle.ctypes.specs.declared.types.IntType.{IntType};
 ghost use Rattle.typing_spec.specs.Program as typed;
@@ -8,7 +8,7 @@ ghost use Rattle.typed_ast.specs.View.{value_of, place_of, moment_of};
 ghost use Rattle.lower_correct.specs.Values as lowered;
 ghost use Rattle.lower_correct.specs.Places as placed;
 ghost use Rattle.lower_ops.specs.layer.Rows as rows;
-ghost use Rattle.lower_ops.specs.layer.Parts.{meant};
+ghost use Rattle.lower_ops.specs.layer.Parts.{IsNear, meant};
 ghost use Rattle.lower_exprs.specs.layer.Written.{WroteFinds, WroteValue};
 ghost use Rattle.lower_exprs.specs.layer.Written as written;
 
@@ -44,21 +44,29 @@ pub struct Free {
 }
 
 /// The free temporaries and slots next to a value that waits.
-pub(crate) fn beside(operand: Operand, free: Free) -> Result<Free, AllocError>
-    ensures { IfOk result (λ f. (f.temporary ≡ lowered.free_temporary operand free.temporary) × (f.slot ≡ lowered.free_kept operand free.slot)) }
+pub(crate) fn beside(operand: Operand, free: Free) -> Free
+    requires temporary { free.temporary < 4611686018427387904 }
+    requires slot { free.slot < 4611686018427387904 }
+    ensures temporary { result.temporary ≡ lowered.free_temporary operand free.temporary }
+    ensures slot { result.slot ≡ lowered.free_kept operand free.slot }
 {
-    let temporary = free_temporary(operand, free.temporary)?;
-    let slot = free_slot(operand, free.slot)?;
-    Ok(Free { temporary, slot })
+    Free {
+        temporary: free_temporary(operand, free.temporary),
+        slot: free_slot(operand, free.slot),
+    }
 }
 
 /// The free temporaries and slots next to a reference that waits.
-fn beside_spot(spot: Spot, free: Free) -> Result<Free, AllocError>
-    ensures { IfOk result (λ f. (f.temporary ≡ placed.free_temporary_at spot free.temporary) × (f.slot ≡ placed.free_kept_at spot free.slot)) }
+fn beside_spot(spot: Spot, free: Free) -> Free
+    requires temporary { free.temporary < 4611686018427387904 }
+    requires slot { free.slot < 4611686018427387904 }
+    ensures temporary { result.temporary ≡ placed.free_temporary_at spot free.temporary }
+    ensures slot { result.slot ≡ placed.free_kept_at spot free.slot }
 {
-    let temporary = free_temporary_at(spot, free.temporary)?;
-    let slot = free_slot_at(spot, free.slot)?;
-    Ok(Free { temporary, slot })
+    Free {
+        temporary: free_temporary_at(spot, free.temporary),
+        slot: free_slot_at(spot, free.slot),
+    }
 }
 
 // ---- places
@@ -72,16 +80,18 @@ fn put_element(
     waits: bool,
     free: Free,
 ) -> Result<(), AllocError>
+    requires temporary { free.temporary ≤ length code.old.list.items }
+    requires slot { free.slot ≤ length code.old.list.items }
     ensures { OnOk result ((at : Pos) → WroteFinds (rows.sizes_in scope.now) (typed.element at (place_of array.now) (value_of index.now)) waits free.temporary free.slot code.old.list.items code.new.list.items) }
 {
-    let size = element_size(scope, array)?;
+    let size = element_size(scope, array);
     let calls = has_calls(index);
     let spot = found(array, calls, free.temporary, free.slot);
     put(code, Instruction::Nothing)?;
     put_found(scope, code, array, calls, free)?;
-    let less = beside_spot(spot, free)?;
+    let less = beside_spot(spot, free);
     let operand = put_rested(scope, code, index, less)?;
-    let temporary = free_temporary(operand, less.temporary)?;
+    let temporary = free_temporary(operand, less.temporary);
     let target = target_for(waits, free.temporary, free.slot);
     put_part(code, spot, target, operand, size, temporary)?;
     Ok(())
@@ -96,6 +106,8 @@ pub(crate) fn put_found(
     waits: bool,
     free: Free,
 ) -> Result<(), AllocError>
+    requires temporary { free.temporary ≤ length code.old.list.items }
+    requires slot { free.slot ≤ length code.old.list.items }
     ensures { OnOk result (WroteFinds (rows.sizes_in scope.now) (place_of place.now) waits free.temporary free.slot code.old.list.items code.new.list.items) }
 {
     match place {
@@ -129,6 +141,8 @@ fn put_read_memory(
     mode: Mode,
     free: Free,
 ) -> Result<(), AllocError>
+    requires temporary { free.temporary ≤ length code.old.list.items }
+    requires slot { free.slot ≤ length code.old.list.items }
     ensures { OnOk result (written.WroteReadMemory (rows.sizes_in scope.now) ty (place_of place.now) (meant mode) free.temporary free.slot code.old.list.items code.new.list.items) }
 {
     let spot = found(place, false, free.temporary, free.slot);
@@ -146,6 +160,8 @@ pub(crate) fn put_read(
     mode: Mode,
     free: Free,
 ) -> Result<(), AllocError>
+    requires temporary { free.temporary ≤ length code.old.list.items }
+    requires slot { free.slot ≤ length code.old.list.items }
     ensures { OnOk result (WroteValue (rows.sizes_in scope.now) (typed.read ty (place_of place.now)) (meant mode) free.temporary free.slot code.old.list.items code.new.list.items) }
 {
     match object_of(place) {
@@ -172,6 +188,8 @@ fn put_assigned_object(
     mode: Mode,
     free: Free,
 ) -> Result<(), AllocError>
+    requires temporary { free.temporary ≤ length code.old.list.items }
+    requires slot { free.slot ≤ length code.old.list.items }
     ensures { OnOk result (written.WroteAssignedObject (rows.sizes_in scope.now) ty object (value_of e.now) (meant mode) free.temporary free.slot code.old.list.items code.new.list.items) }
 {
     put(code, Instruction::Nothing)?;
@@ -191,13 +209,15 @@ fn put_assigned_memory(
     mode: Mode,
     free: Free,
 ) -> Result<(), AllocError>
+    requires temporary { free.temporary ≤ length code.old.list.items }
+    requires slot { free.slot ≤ length code.old.list.items }
     ensures { OnOk result (written.WroteAssignedMemory (rows.sizes_in scope.now) ty (place_of place.now) (value_of e.now) (meant mode) free.temporary free.slot code.old.list.items code.new.list.items) }
 {
     let calls = has_calls(e);
     let spot = found(place, calls, free.temporary, free.slot);
     put(code, Instruction::Nothing)?;
     put_found(scope, code, place, calls, free)?;
-    let less = beside_spot(spot, free)?;
+    let less = beside_spot(spot, free);
     let operand = put_rested(scope, code, e, less)?;
     let kept = either(cuts(ty, mode), keeps(ty, e));
     put_stored(code, kept, ty, operand, spot, mode, less.temporary)?;
@@ -214,6 +234,8 @@ pub(crate) fn put_assigned(
     mode: Mode,
     free: Free,
 ) -> Result<(), AllocError>
+    requires temporary { free.temporary ≤ length code.old.list.items }
+    requires slot { free.slot ≤ length code.old.list.items }
     ensures { OnOk result ((at : Pos) → WroteValue (rows.sizes_in scope.now) (typed.assigned at ty (place_of place.now) (value_of e.now)) (meant mode) free.temporary free.slot code.old.list.items code.new.list.items) }
 {
     match object_of(place) {
@@ -239,6 +261,8 @@ fn put_compound_object(
     mode: Mode,
     free: Free,
 ) -> Result<(), AllocError>
+    requires temporary { free.temporary ≤ length code.old.list.items }
+    requires slot { free.slot ≤ length code.old.list.items }
     ensures { OnOk result (written.WroteCompoundObject (rows.sizes_in scope.now) change.wide change.op change.ty change.of change.object (value_of e.now) (meant mode) free.temporary free.slot code.old.list.items code.new.list.items) }
 {
     put(code, Instruction::Nothing)?;
@@ -261,15 +285,17 @@ fn put_compound_memory(
     mode: Mode,
     free: Free,
 ) -> Result<(), AllocError>
+    requires temporary { free.temporary ≤ length code.old.list.items }
+    requires slot { free.slot ≤ length code.old.list.items }
     ensures { OnOk result (written.WroteCompoundMemory (rows.sizes_in scope.now) op ty of (place_of place.now) (value_of e.now) (meant mode) free.temporary free.slot code.old.list.items code.new.list.items) }
 {
     let calls = has_calls(e);
     let spot = found(place, calls, free.temporary, free.slot);
     put(code, Instruction::Nothing)?;
     put_found(scope, code, place, calls, free)?;
-    let less = beside_spot(spot, free)?;
+    let less = beside_spot(spot, free);
     let operand = put_rested(scope, code, e, less)?;
-    let temporary = free_temporary(operand, less.temporary)?;
+    let temporary = free_temporary(operand, less.temporary);
     put_loaded(code, ty, spot, temporary)?;
     let change = Alteration { op, ty, of, spot };
     put_altered(code, change, operand, mode, temporary)?;
@@ -288,6 +314,8 @@ pub(crate) fn put_compound(
     mode: Mode,
     free: Free,
 ) -> Result<(), AllocError>
+    requires temporary { free.temporary ≤ length code.old.list.items }
+    requires slot { free.slot ≤ length code.old.list.items }
     ensures { OnOk result ((at : Pos) → WroteValue (rows.sizes_in scope.now) (typed.compound at op ty of (place_of place.now) (value_of e.now)) (meant mode) free.temporary free.slot code.old.list.items code.new.list.items) }
 {
     match object_of(place) {
@@ -319,6 +347,8 @@ fn put_step_object(
     mode: Mode,
     temporary: usize,
 ) -> Result<(), AllocError>
+    requires room { temporary < 4611686018427387904 }
+    requires aim { IsNear (meant mode) }
     ensures { OnOk result (written.WroteStepObject (moment_of moment) change.wide change.op change.ty change.of change.object (meant mode) temporary code.old.list.items code.new.list.items) }
 {
     put(code, Instruction::Nothing)?;
@@ -339,12 +369,14 @@ fn put_step_memory(
     mode: Mode,
     free: Free,
 ) -> Result<(), AllocError>
+    requires temporary { free.temporary ≤ length code.old.list.items }
+    requires slot { free.slot ≤ length code.old.list.items }
     ensures { OnOk result (written.WroteStepMemory (rows.sizes_in scope.now) (moment_of moment) op ty of (place_of place.now) (meant mode) free.temporary free.slot code.old.list.items code.new.list.items) }
 {
     let spot = found(place, false, free.temporary, free.slot);
     put(code, Instruction::Nothing)?;
     put_found(scope, code, place, false, free)?;
-    let temporary = free_temporary_at(spot, free.temporary)?;
+    let temporary = free_temporary_at(spot, free.temporary);
     put_loaded(code, ty, spot, temporary)?;
     let change = Alteration { op, ty, of, spot };
     put_altered_by(code, moment, change, mode, temporary)?;
@@ -363,6 +395,9 @@ pub(crate) fn put_step(
     mode: Mode,
     free: Free,
 ) -> Result<(), AllocError>
+    requires temporary { free.temporary ≤ length code.old.list.items }
+    requires slot { free.slot ≤ length code.old.list.items }
+    requires aim { IsNear (meant mode) }
     ensures { OnOk result ((at : Pos) → WroteValue (rows.sizes_in scope.now) (typed.stepped at (moment_of moment) op ty of (place_of place.now)) (meant mode) free.temporary free.slot code.old.list.items code.new.list.items) }
 {
     let operation = step_operation(op);

@@ -1,6 +1,6 @@
 //! The code of expressions.
 
-ghost use Rattle.std.specs.Prelude.{◌≡◌, ◌+◌, map, drop, ℕ, Bool, Option, OnOk, IfOk};
+ghost use Rattle.std.specs.Prelude.{◌≡◌, ◌≤◌, ◌+◌, length, map, drop, ℕ, Bool, Option, OnOk, IfOk};
 ghost use Rattle.srcset.specs.declared.refusal.Pos.{Pos};
 ghost use Rattle.ctypes.specs.declared.types.IntType.{IntType};
 ghost use Rattle.typing_spec.specs.Program as typed;
@@ -10,7 +10,7 @@ ghost use Rattle.lower_correct.specs.Values as lowered;
 ghost use Rattle.lower_correct.specs.Places as placed;
 ghost use Rattle.lower_ops.specs.layer.Rows as rows;
 ghost use Rattle.lower_ops.specs.layer.FormSizes as form;
-ghost use Rattle.lower_ops.specs.layer.Parts.{meant, shape_of, Wrote};
+ghost use Rattle.lower_ops.specs.layer.Parts.{IsNear, meant, shape_of, Wrote};
 ghost use Rattle.lower_exprs.specs.layer.Sizes as size;
 ghost use Rattle.lower_exprs.specs.layer.Written.{WroteFinds, WroteValue, WrotePasses};
 ghost use Rattle.lower_exprs.specs.inside.Waiting.{Waits, Fetches, AllWait, AllFetched};
@@ -28,7 +28,7 @@ use lower_ops::modes::{Mode, mode_of, target_of};
 use lower_ops::operations::{put_constant, put_end, put_follow};
 use lower_ops::scopes::Scope;
 use lower_ops::spots::{found, free_slot_at};
-use lower_ops::waiting::{free_slot, next};
+use lower_ops::waiting::free_slot;
 use lower_ops::writing::{Code, put};
 use std::alloc::AllocError;
 use tac_code::{Instruction, Operand, Target};
@@ -42,6 +42,8 @@ pub fn put_rested(
     e: &Value,
     free: Free,
 ) -> Result<Operand, AllocError>
+    requires temporary { free.temporary ≤ length code.old.list.items }
+    requires slot { free.slot ≤ length code.old.list.items }
     ensures { IfOk result (λ o. (o ≡ lowered.operand_of (value_of e.now) free.temporary free.slot)
         × Wrote (λ w p q. relation.Into w (rows.sizes_in scope.now) (value_of e.now) (lowered.mode_of (lowered.operand_of (value_of e.now) free.temporary free.slot)) free.temporary free.slot p q) (size.value_size (value_of e.now) (size.rest_shape (value_of e.now))) code.old.list.items code.new.list.items) }
 {
@@ -60,6 +62,9 @@ pub fn put_converted(
     target: Target,
     free: Free,
 ) -> Result<(), AllocError>
+    requires temporary { free.temporary ≤ length code.old.list.items }
+    requires slot { free.slot ≤ length code.old.list.items }
+    requires aim { IsNear (lowered.To target) }
     ensures { OnOk result (Wrote (λ w p q. relation.Converts w (lowered.keeps ty (value_of e.now)) (λ n a b. relation.Into w (rows.sizes_in scope.now) (value_of e.now) n free.temporary free.slot a b) ty (lowered.operand_of (value_of e.now) free.temporary free.slot) target p q)
         (form.converts_size (lowered.keeps ty (value_of e.now)) (size.value_size (value_of e.now)) (size.rest_shape (value_of e.now)) (shape_of (lowered.To target))) code.old.list.items code.new.list.items) }
 {
@@ -82,6 +87,9 @@ fn put_cast(
     mode: Mode,
     free: Free,
 ) -> Result<(), AllocError>
+    requires temporary { free.temporary ≤ length code.old.list.items }
+    requires slot { free.slot ≤ length code.old.list.items }
+    requires aim { IsNear (meant mode) }
     ensures { OnOk result (Wrote (λ w p q. relation.Casts w (lowered.keeps ty (value_of e.now)) (λ n a b. relation.Into w (rows.sizes_in scope.now) (value_of e.now) n free.temporary free.slot a b) ty (lowered.operand_of (value_of e.now) free.temporary free.slot) (meant mode) free.temporary p q)
         (form.casts_size (lowered.keeps ty (value_of e.now)) (size.value_size (value_of e.now)) (size.rest_shape (value_of e.now)) (shape_of (meant mode))) code.old.list.items code.new.list.items) }
 {
@@ -108,6 +116,9 @@ fn put_sequence(
     mode: Mode,
     free: Free,
 ) -> Result<(), AllocError>
+    requires temporary { free.temporary ≤ length code.old.list.items }
+    requires slot { free.slot ≤ length code.old.list.items }
+    requires aim { IsNear (meant mode) }
     ensures { OnOk result (WroteValue (rows.sizes_in scope.now) (typed.sequence (value_of a.now) (value_of b.now)) (meant mode) free.temporary free.slot code.old.list.items code.new.list.items) }
 {
     put(code, Instruction::Nothing)?;
@@ -124,6 +135,8 @@ fn put_discarded(
     mode: Mode,
     free: Free,
 ) -> Result<(), AllocError>
+    requires temporary { free.temporary ≤ length code.old.list.items }
+    requires slot { free.slot ≤ length code.old.list.items }
     ensures { OnOk result (WroteValue (rows.sizes_in scope.now) (typed.discarded (value_of e.now)) (meant mode) free.temporary free.slot code.old.list.items code.new.list.items) }
 {
     put(code, Instruction::Nothing)?;
@@ -141,6 +154,9 @@ fn put_cast_node(
     mode: Mode,
     free: Free,
 ) -> Result<(), AllocError>
+    requires temporary { free.temporary ≤ length code.old.list.items }
+    requires slot { free.slot ≤ length code.old.list.items }
+    requires aim { IsNear (meant mode) }
     ensures { OnOk result (WroteValue (rows.sizes_in scope.now) (typed.cast ty (value_of e.now)) (meant mode) free.temporary free.slot code.old.list.items code.new.list.items) }
 {
     put(code, Instruction::Nothing)?;
@@ -159,15 +175,17 @@ fn put_waiting_number(
     ends: Ends,
     free: Free,
 ) -> Result<Free, AllocError>
-    requires { AreEnds ends more.now }
+    requires ends { AreEnds ends more.now }
+    requires temporary { free.temporary ≤ length code.old.list.items }
+    requires slot { free.slot ≤ length code.old.list.items }
     ensures { IfOk result (λ less. (less.temporary ≡ free.temporary + 1)
         × (less.slot ≡ lowered.free_kept (lowered.waits_in (value_of e.now) (lowered.arguments_write (arguments_of (map argument_of more.now))) (lowered.arguments_call (arguments_of (map argument_of more.now))) free.temporary free.slot) free.slot)
         × WroteValue (rows.sizes_in scope.now) (value_of e.now) (lowered.mode_of (lowered.waits_in (value_of e.now) (lowered.arguments_write (arguments_of (map argument_of more.now))) (lowered.arguments_call (arguments_of (map argument_of more.now))) free.temporary free.slot)) free.temporary free.slot code.old.list.items code.new.list.items) }
 {
     let operand = waits_for_arguments(e, more, ends, free.temporary, free.slot);
     put_value(scope, code, e, mode_of(operand), free)?;
-    let temporary = next(free.temporary)?;
-    let slot = free_slot(operand, free.slot)?;
+    let temporary = free.temporary + 1;
+    let slot = free_slot(operand, free.slot);
     Ok(Free { temporary, slot })
 }
 
@@ -201,7 +219,9 @@ fn put_waiting_array(
     ends: Ends,
     free: Free,
 ) -> Result<Free, AllocError>
-    requires { AreEnds ends more.now }
+    requires ends { AreEnds ends more.now }
+    requires temporary { free.temporary ≤ length code.old.list.items }
+    requires slot { free.slot ≤ length code.old.list.items }
     ensures { IfOk result (λ less. (less.temporary ≡ free.temporary + 1)
         × (less.slot ≡ placed.free_kept_at (placed.found (place_of array.now) (lowered.arguments_call (arguments_of (map argument_of more.now))) free.temporary free.slot) free.slot)
         × WroteFinds (rows.sizes_in scope.now) (place_of array.now) (lowered.arguments_call (arguments_of (map argument_of more.now))) free.temporary free.slot code.old.list.items code.new.list.items) }
@@ -209,8 +229,8 @@ fn put_waiting_array(
     let calls = ends.call();
     let spot = found(array, calls, free.temporary, free.slot);
     put_found(scope, code, array, calls, free)?;
-    let temporary = next(free.temporary)?;
-    let slot = free_slot_at(spot, free.slot)?;
+    let temporary = free.temporary + 1;
+    let slot = free_slot_at(spot, free.slot);
     Ok(Free { temporary, slot })
 }
 
@@ -242,7 +262,9 @@ fn put_waiting(
     ends: Ends,
     free: Free,
 ) -> Result<Free, AllocError>
-    requires { AreEnds ends more.now }
+    requires ends { AreEnds ends more.now }
+    requires temporary { free.temporary ≤ length code.old.list.items }
+    requires slot { free.slot ≤ length code.old.list.items }
     ensures { IfOk result (λ less. Waits (rows.sizes_in scope.now) (argument_of argument.now) (arguments_of (map argument_of more.now)) free less code.old.list.items code.new.list.items) }
 {
     match argument {
@@ -288,6 +310,8 @@ fn put_all_waiting(
     arguments: &[Argument],
     first: Free,
 ) -> Result<Vec<Free>, AllocError>
+    requires temporary { first.temporary ≤ length code.old.list.items }
+    requires slot { first.slot ≤ length code.old.list.items }
     ensures { IfOk result (λ frees. AllWait (rows.sizes_in scope.now) (map argument_of arguments.now) frees.items first code.old.list.items code.new.list.items) }
 {
     let mut frees = Vec::new(*code.list.allocator());
@@ -341,6 +365,8 @@ fn put_passes(
     arguments: &[Argument],
     free: Free,
 ) -> Result<(), AllocError>
+    requires temporary { free.temporary ≤ length code.old.list.items }
+    requires slot { free.slot ≤ length code.old.list.items }
     ensures { OnOk result (WrotePasses (rows.sizes_in scope.now) (arguments_of (map argument_of arguments.now)) free.temporary free.slot code.old.list.items code.new.list.items) }
 {
     let frees = put_all_waiting(scope, code, arguments, free)?;
@@ -357,6 +383,8 @@ fn put_call_node(
     mode: Mode,
     free: Free,
 ) -> Result<(), AllocError>
+    requires temporary { free.temporary ≤ length code.old.list.items }
+    requires slot { free.slot ≤ length code.old.list.items }
     ensures { OnOk result ((at : Pos) → (u : Option IntType) → (used : Bool) → WroteValue (rows.sizes_in scope.now) (typed.call at (callee_of callee) u used (arguments_of (map argument_of arguments.now))) (meant mode) free.temporary free.slot code.old.list.items code.new.list.items) }
 {
     let first = Free {
@@ -378,6 +406,9 @@ pub fn put_value(
     mode: Mode,
     free: Free,
 ) -> Result<(), AllocError>
+    requires temporary { free.temporary ≤ length code.old.list.items }
+    requires slot { free.slot ≤ length code.old.list.items }
+    requires aim { IsNear (meant mode) }
     ensures { OnOk result (WroteValue (rows.sizes_in scope.now) (value_of e.now) (meant mode) free.temporary free.slot code.old.list.items code.new.list.items) }
 {
     match e {

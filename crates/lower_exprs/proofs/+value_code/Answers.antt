@@ -1,4 +1,4 @@
-use Rattle.std.proofs.Common.{◌≡◌, ◌||◌, ◌∷◌, drop, arith, ap, map, sym, subst, length, rules, to_z, of_z, w64, false, ◌∙◌}
+use Rattle.std.proofs.Common.{◌≡◌, refl, ◌||◌, ◌∷◌, drop, arith, ap, map, sym, subst, length, rules, to_z, of_z, w64, false, ◌∙◌}
 use Rattle.std.proofs.Math.Facts.{to_z-of_z}
 use Rattle.typing_spec.specs.Program as typed
 use Rattle.typed_ast.specs.View.{value_of, place_of, arguments_of, argument_of, moment_of}
@@ -12,7 +12,9 @@ use Rattle.lower_ops.specs.layer.Rows.{sizes_in}
 use Rattle.lower_exprs.specs.layer.Sizes.{value_size}
 use Rattle.lower_exprs.specs.inside.Ends.{AreEnds}
 use Rattle.lower_exprs.specs.layer.Written.{WroteFinds, WroteValue}
-use Rattle.lower_exprs.proofs.Held.{sees_constant, sees_read, sees_assigned, sees_compound, sees_stepped, sees_unary, sees_binary, sees_bothtrue, sees_onetrue, sees_chosen, sees_sequence, sees_cast, sees_discarded, sees_call}
+use Rattle.lower_exprs.proofs.Nodes.{nodes, place_nodes, argument_nodes, given_nodes}
+use Rattle.lower_exprs.proofs.Room.{temporary_within, kept_within, temporary_within_at, kept_within_at, near_mode, temporary_goes, slot_goes}
+use Rattle.lower_exprs.proofs.Held.{sees_number, sees_array, sees_constant, sees_read, sees_assigned, sees_compound, sees_stepped, sees_unary, sees_binary, sees_bothtrue, sees_onetrue, sees_chosen, sees_sequence, sees_cast, sees_discarded, sees_call}
 use Rattle.lower_ops.proofs.Held.{sees_named, sees_element}
 use Rattle.lower_ops.proofs.Parts.{two, three, four, five}
 use Rattle.lower_ops.proofs.Operated.{one_as}
@@ -50,8 +52,8 @@ values::put_cast-returns-in_ok-put_follow t c =
 
 pub places::put_element-returns : goal.places::put_element-returns
 places::put_element-returns t c = λ at. element_wrote (sizes_in c.args.scope.now) (place_of c.args.array.now) (value_of c.args.index.now) c.has_calls-calls.result c.args.free.temporary c.args.free.slot
-    c.in_ok-less.less.temporary c.in_ok-less.less.slot c.found-spot.result c.in_ok-operand.operand c.has_calls-calls.ensures c.found-spot.ensures c.in_ok-less.ensures.0 c.in_ok-less.ensures.1 c.in_ok-operand.ensures.0
-    at c.args.waits c.target_for-target.result c.in_ok-size.size c.in_ok-temporary.temporary c.in_ok-temporary.ensures c.target_for-target.ensures c.in_ok-size.ensures
+    c.beside_spot-less.result.temporary c.beside_spot-less.result.slot c.found-spot.result c.in_ok-operand.operand c.has_calls-calls.ensures c.found-spot.ensures c.beside_spot-less.ensures.temporary c.beside_spot-less.ensures.slot c.in_ok-operand.ensures.0
+    at c.args.waits c.target_for-target.result c.element_size-size.result c.free_temporary-temporary.result c.free_temporary-temporary.ensures c.target_for-target.ensures c.element_size-size.ensures
     c.in_ok-put.ensures c.in_ok-put_found.ensures c.in_ok-operand.ensures.1 c.in_ok-put_part.ensures
 
 pub places::put_found-returns-in_ok-put-in-Named : goal.places::put_found-returns-in_ok-put-in-Named
@@ -74,7 +76,7 @@ pub places::put_assigned_memory-returns : goal.places::put_assigned_memory-retur
 places::put_assigned_memory-returns t c =
     let e = c.either-kept.ensures ∙ ap (λ b. b || c.keeps.result) c.cuts.ensures ∙ ap (λ b. cuts c.args.ty (meant c.args.mode) || b) c.keeps.ensures in
     assigned_there (sizes_in c.args.scope.now) (place_of c.args.place.now) (value_of c.args.e.now) c.has_calls-calls.result c.args.free.temporary c.args.free.slot
-    c.in_ok-less.less.temporary c.in_ok-less.less.slot c.found-spot.result c.in_ok-operand.operand c.has_calls-calls.ensures c.found-spot.ensures c.in_ok-less.ensures.0 c.in_ok-less.ensures.1 c.in_ok-operand.ensures.0
+    c.beside_spot-less.result.temporary c.beside_spot-less.result.slot c.found-spot.result c.in_ok-operand.operand c.has_calls-calls.ensures c.found-spot.ensures c.beside_spot-less.ensures.temporary c.beside_spot-less.ensures.slot c.in_ok-operand.ensures.0
     c.args.ty (meant c.args.mode) c.either-kept.result e c.in_ok-put.ensures c.in_ok-put_found.ensures c.in_ok-operand.ensures.1 c.in_ok-put_stored.ensures
 
 pub places::put_compound_object-returns : goal.places::put_compound_object-returns
@@ -83,22 +85,22 @@ places::put_compound_object-returns t c = five c.in_ok-put.ensures c.in_ok-put-2
 pub places::put_compound_memory-returns : goal.places::put_compound_memory-returns
 places::put_compound_memory-returns t c =
     compound_there (sizes_in c.args.scope.now) (place_of c.args.place.now) (value_of c.args.e.now) c.has_calls-calls.result c.args.free.temporary c.args.free.slot
-    c.in_ok-less.less.temporary c.in_ok-less.less.slot c.found-spot.result c.in_ok-operand.operand c.has_calls-calls.ensures c.found-spot.ensures c.in_ok-less.ensures.0 c.in_ok-less.ensures.1 c.in_ok-operand.ensures.0
-    c.args.op c.args.ty c.args.of (meant c.args.mode) c.in_ok-temporary.temporary c.in_ok-temporary.ensures
+    c.beside_spot-less.result.temporary c.beside_spot-less.result.slot c.found-spot.result c.in_ok-operand.operand c.has_calls-calls.ensures c.found-spot.ensures c.beside_spot-less.ensures.temporary c.beside_spot-less.ensures.slot c.in_ok-operand.ensures.0
+    c.args.op c.args.ty c.args.of (meant c.args.mode) c.free_temporary-temporary.result c.free_temporary-temporary.ensures
     c.in_ok-put.ensures c.in_ok-put_found.ensures c.in_ok-operand.ensures.1 c.in_ok-put_loaded.ensures c.in_ok-put_altered.ensures
 
 pub places::put_step_memory-returns : goal.places::put_step_memory-returns
-places::put_step_memory-returns t c = step_there (sizes_in c.args.scope.now) (moment_of c.args.moment) c.args.op c.args.ty c.args.of (place_of c.args.place.now) (meant c.args.mode) c.args.free.temporary c.args.free.slot c.in_ok-temporary.temporary c.found-spot.result
-    c.found-spot.ensures c.in_ok-temporary.ensures c.in_ok-put.ensures c.in_ok-put_found.ensures c.in_ok-put_loaded.ensures c.in_ok-put_altered_by.ensures
+places::put_step_memory-returns t c = step_there (sizes_in c.args.scope.now) (moment_of c.args.moment) c.args.op c.args.ty c.args.of (place_of c.args.place.now) (meant c.args.mode) c.args.free.temporary c.args.free.slot c.free_temporary_at-temporary.result c.found-spot.result
+    c.found-spot.ensures c.free_temporary_at-temporary.ensures c.in_ok-put.ensures c.in_ok-put_found.ensures c.in_ok-put_loaded.ensures c.in_ok-put_altered_by.ensures
 
 pub values::put_waiting_array-returns : goal.values::put_waiting_array-returns
 values::put_waiting_array-returns t c =
     let n = arguments_of (map argument_of c.args.more.now) in
-    let ec : c.call-calls.result ≡ lowered.arguments_call n = c.call-calls.ensures c.args.more.now c.requires in
+    let ec : c.call-calls.result ≡ lowered.arguments_call n = c.call-calls.ensures c.args.more.now c.requires.ends in
     let ea : c.found-spot.result ≡ placed.found (place_of c.args.array.now) (lowered.arguments_call n) c.args.free.temporary c.args.free.slot
     = c.found-spot.ensures ∙ ap (λ b. placed.found (place_of c.args.array.now) b c.args.free.temporary c.args.free.slot) ec in (
-      c.in_ok-temporary.ensures,
-      c.in_ok-slot.ensures ∙ ap (λ a. placed.free_kept_at a c.args.free.slot) ea,
+      refl,
+      c.free_slot_at-slot.ensures ∙ ap (λ a. placed.free_kept_at a c.args.free.slot) ea,
       subst (λ b. WroteFinds (sizes_in c.args.scope.now) (place_of c.args.array.now) b c.args.free.temporary c.args.free.slot c.args.code.now.list.items c.put_found.new.code.list.items) ec c.in_ok-put_found.ensures,
     )
 
@@ -161,7 +163,7 @@ operators::put_unary-returns-in_ok-put_not-in-Not t c = λ at. rw c.in-Not.is (c
 
 pub operators::put_binary-returns : goal.operators::put_binary-returns
 operators::put_binary-returns t c = λ at. binary_wrote (sizes_in c.args.scope.now) at c.args.op c.args.ty (value_of c.args.a.now) (value_of c.args.b.now) (meant c.args.mode) (meant c.mode_of.result) c.args.free.temporary c.args.free.slot
-    c.in_ok-less.less.temporary c.in_ok-less.less.slot c.waits_for-left.result c.in_ok-right.right c.reading_of-reading.result c.waits_for-left.ensures c.mode_of.ensures c.in_ok-less.ensures.0 c.in_ok-less.ensures.1
+    c.beside-less.result.temporary c.beside-less.result.slot c.waits_for-left.result c.in_ok-right.right c.reading_of-reading.result c.waits_for-left.ensures c.mode_of.ensures c.beside-less.ensures.temporary c.beside-less.ensures.slot
     c.in_ok-right.ensures.0 c.reading_of-reading.ensures c.in_ok-put.ensures c.in_ok-put_value.ensures c.in_ok-right.ensures.1 c.in_ok-put_operated.ensures
 
 pub operators::put_both_jump-returns : goal.operators::put_both_jump-returns
@@ -243,8 +245,8 @@ values::put_cast_node-returns t c = two c.in_ok-put.ensures c.in_ok-put_cast.ens
 pub values::put_waiting_number-returns : goal.values::put_waiting_number-returns
 values::put_waiting_number-returns t c =
     let eo = c.waits_for_arguments-operand.ensures in (
-      c.in_ok-temporary.ensures,
-      c.in_ok-slot.ensures ∙ ap (λ o. lowered.free_kept o c.args.free.slot) eo,
+      refl,
+      c.free_slot-slot.ensures ∙ ap (λ o. lowered.free_kept o c.args.free.slot) eo,
       subst (λ m. WroteValue (sizes_in c.args.scope.now) (value_of c.args.e.now) m c.args.free.temporary c.args.free.slot c.args.code.now.list.items c.put_value.new.code.list.items) (c.mode_of.ensures ∙ ap lowered.mode_of eo) c.in_ok-put_value.ensures,
     )
 
@@ -326,7 +328,7 @@ pub values::put_passes-returns : goal.values::put_passes-returns
 values::put_passes-returns t c = passes_of (sizes_in c.args.scope.now) (map argument_of c.args.arguments.now) c.in_ok-frees.frees.items c.args.free _ _ _ c.in_ok-frees.ensures c.in_ok-put_all_fetched.ensures
 
 pub values::put_all_waiting-loop-argument-init : goal.values::put_all_waiting-loop-argument-init
-values::put_all_waiting-loop-argument-init t c = record { so_far = λ fs end x. rw c.new-frees.ensures.items x; fewer = omega arith; ends = c.of-ends.ensures }
+values::put_all_waiting-loop-argument-init t c = record { so_far = λ fs end x. rw c.new-frees.ensures.items x; fewer = omega arith; ends = c.of-ends.ensures; temporary = c.requires.temporary; slot = c.requires.slot }
 
 pub values::put_all_waiting-loop-argument-preserved : goal.values::put_all_waiting-loop-argument-preserved
 values::put_all_waiting-loop-argument-preserved t c =
@@ -336,6 +338,8 @@ values::put_all_waiting-loop-argument-preserved t c =
       so_far = waits_behind (sizes_in c.args.scope.now) c.in-Some.argument.now c.in-Some.more.now l.rest.now l.free _ l.frees.items _ _ _ _ _ _ rest l.invariant.so_far c.in_ok-push.ensures.items c.in_ok-free.ensures;
       fewer = omega (arith, nodes_left c.in-Some.argument.now c.in-Some.more.now l.rest.now _ rest l.invariant.fewer);
       ends = subst (AreEnds c.behind-ends.result) (ap (drop 1) rest) (c.behind-ends.ensures l.rest.now l.invariant.ends);
+      temporary = temporary_goes (sizes_in c.args.scope.now) (argument_of c.in-Some.argument.now) (arguments_of (map argument_of c.in-Some.more.now)) l.free c.in_ok-free.free l.code.list.items c.put_waiting.new.code.list.items c.in_ok-free.ensures l.invariant.temporary;
+      slot = slot_goes (sizes_in c.args.scope.now) (argument_of c.in-Some.argument.now) (arguments_of (map argument_of c.in-Some.more.now)) l.free c.in_ok-free.free l.code.list.items c.put_waiting.new.code.list.items c.in_ok-free.ensures l.invariant.slot;
     }
 
 pub values::put_all_waiting-returns : goal.values::put_all_waiting-returns
@@ -348,4 +352,319 @@ values::put_all_waiting-put_waiting-requires t c =
     let l = c.loop-argument in
     let rest : l.rest.now ≡ c.in-Some.argument.now ∷ c.in-Some.more.now = search rules in
     let h = nodes_left c.in-Some.argument.now c.in-Some.more.now l.rest.now _ rest l.invariant.fewer in
-    (omega (arith, h, c.decreases), subst (AreEnds c.behind-ends.result) (ap (drop 1) rest) (c.behind-ends.ensures l.rest.now l.invariant.ends))
+    (omega (arith, h, c.decreases), (subst (AreEnds c.behind-ends.result) (ap (drop 1) rest) (c.behind-ends.ensures l.rest.now l.invariant.ends), (l.invariant.temporary, l.invariant.slot)))
+
+-- ---- the temporaries and slots that are free have room
+
+pub operators::put_minus-put_rested-requires : goal.operators::put_minus-put_rested-requires
+operators::put_minus-put_rested-requires t c = (omega (arith, c.decreases), (omega (arith, c.requires.temporary, c.in_ok-put.ensures.grows), omega (arith, c.requires.slot, c.in_ok-put.ensures.grows)))
+
+pub operators::put_complement-put_rested-requires : goal.operators::put_complement-put_rested-requires
+operators::put_complement-put_rested-requires t c = (omega (arith, c.decreases), (omega (arith, c.requires.temporary, c.in_ok-put.ensures.grows), omega (arith, c.requires.slot, c.in_ok-put.ensures.grows)))
+
+pub operators::put_is_zero-put_rested-requires : goal.operators::put_is_zero-put_rested-requires
+operators::put_is_zero-put_rested-requires t c = (omega (arith, c.decreases), (omega (arith, c.requires.temporary, c.in_ok-put.ensures.grows), omega (arith, c.requires.slot, c.in_ok-put.ensures.grows)))
+
+pub operators::put_not-put_is_zero-requires : goal.operators::put_not-put_is_zero-requires
+operators::put_not-put_is_zero-requires t c = (omega (arith, c.decreases), (c.requires.temporary, c.requires.slot))
+
+pub operators::put_not-put_is_zero-requires-in-To : goal.operators::put_not-put_is_zero-requires-in-To
+operators::put_not-put_is_zero-requires-in-To t c = (omega (arith, c.decreases), (c.requires.temporary, c.requires.slot))
+
+pub operators::put_not-put_value-requires : goal.operators::put_not-put_value-requires
+operators::put_not-put_value-requires t c = (omega (arith, c.decreases), (omega (arith, c.requires.temporary, c.in_ok-put-in-If.ensures.grows), (omega (arith, c.requires.slot, c.in_ok-put-in-If.ensures.grows), tt)))
+
+pub operators::put_plus-put_value-requires : goal.operators::put_plus-put_value-requires
+operators::put_plus-put_value-requires t c = (omega (arith, c.decreases), (omega (arith, c.requires.temporary, c.in_ok-put.ensures.grows), (omega (arith, c.requires.slot, c.in_ok-put.ensures.grows), c.requires.aim)))
+
+pub operators::put_unary-put_plus-requires : goal.operators::put_unary-put_plus-requires
+operators::put_unary-put_plus-requires t c = (omega (arith, c.decreases), (c.requires.temporary, (c.requires.slot, c.requires.aim)))
+
+pub operators::put_unary-put_minus-requires : goal.operators::put_unary-put_minus-requires
+operators::put_unary-put_minus-requires t c = (omega (arith, c.decreases), (c.requires.temporary, c.requires.slot))
+
+pub operators::put_unary-put_complement-requires : goal.operators::put_unary-put_complement-requires
+operators::put_unary-put_complement-requires t c = (omega (arith, c.decreases), (c.requires.temporary, c.requires.slot))
+
+pub operators::put_unary-put_not-requires : goal.operators::put_unary-put_not-requires
+operators::put_unary-put_not-requires t c = (omega (arith, c.decreases), (c.requires.temporary, c.requires.slot))
+
+pub operators::put_binary-put_value-requires : goal.operators::put_binary-put_value-requires
+operators::put_binary-put_value-requires t c = (omega (arith, c.decreases), (omega (arith, c.requires.temporary, c.in_ok-put.ensures.grows), (omega (arith, c.requires.slot, c.in_ok-put.ensures.grows), near_mode (value_of c.args.a.now) (lowered.writes (value_of c.args.b.now)) (lowered.calls (value_of c.args.b.now)) c.args.free.temporary c.args.free.slot c.waits_for-left.result (meant c.mode_of.result) c.waits_for-left.ensures c.mode_of.ensures (omega (arith, c.requires.temporary, c.args.code.now.short)))))
+
+pub operators::put_binary-beside-less-requires-clause-temporary : goal.operators::put_binary-beside-less-requires-clause-temporary
+operators::put_binary-beside-less-requires-clause-temporary t c = omega (arith, c.requires.temporary, c.args.code.now.short)
+
+pub operators::put_binary-beside-less-requires-clause-slot : goal.operators::put_binary-beside-less-requires-clause-slot
+operators::put_binary-beside-less-requires-clause-slot t c = omega (arith, c.requires.slot, c.args.code.now.short)
+
+pub operators::put_binary-put_rested-requires : goal.operators::put_binary-put_rested-requires
+operators::put_binary-put_rested-requires t c = (omega (arith, c.decreases), (omega (arith, c.requires.temporary, c.beside-less.ensures.temporary, temporary_within c.waits_for-left.result c.args.free.temporary, c.in_ok-put.ensures.grows, c.in_ok-put_value.ensures.grows), omega (arith, c.requires.slot, c.beside-less.ensures.slot, kept_within c.waits_for-left.result c.args.free.slot, c.in_ok-put.ensures.grows, c.in_ok-put_value.ensures.grows)))
+
+pub operators::put_both_jump-put_value-requires : goal.operators::put_both_jump-put_value-requires
+operators::put_both_jump-put_value-requires t c = (omega (arith, c.decreases), (omega (arith, c.requires.temporary, c.in_ok-put.ensures.grows), (omega (arith, c.requires.slot, c.in_ok-put.ensures.grows), tt)))
+
+pub operators::put_both_jump-put_value-requires-2 : goal.operators::put_both_jump-put_value-requires-2
+operators::put_both_jump-put_value-requires-2 t c = (omega (arith, c.decreases), (omega (arith, c.requires.temporary, c.in_ok-put.ensures.grows, c.in_ok-put_value.ensures.grows), (omega (arith, c.requires.slot, c.in_ok-put.ensures.grows, c.in_ok-put_value.ensures.grows), tt)))
+
+pub operators::put_one_jump-put_value-requires : goal.operators::put_one_jump-put_value-requires
+operators::put_one_jump-put_value-requires t c = (omega (arith, c.decreases), (omega (arith, c.requires.temporary, c.in_ok-put.ensures.grows), (omega (arith, c.requires.slot, c.in_ok-put.ensures.grows), tt)))
+
+pub operators::put_one_jump-put_value-requires-2 : goal.operators::put_one_jump-put_value-requires-2
+operators::put_one_jump-put_value-requires-2 t c = (omega (arith, c.decreases), (omega (arith, c.requires.temporary, c.in_ok-put.ensures.grows, c.in_ok-put_value.ensures.grows), (omega (arith, c.requires.slot, c.in_ok-put.ensures.grows, c.in_ok-put_value.ensures.grows), tt)))
+
+pub operators::put_both_number-put_value-requires : goal.operators::put_both_number-put_value-requires
+operators::put_both_number-put_value-requires t c = (omega (arith, c.decreases), (omega (arith, c.requires.temporary, c.in_ok-put.ensures.grows), (omega (arith, c.requires.slot, c.in_ok-put.ensures.grows), tt)))
+
+pub operators::put_both_number-put_value-requires-2 : goal.operators::put_both_number-put_value-requires-2
+operators::put_both_number-put_value-requires-2 t c = (omega (arith, c.decreases), (omega (arith, c.requires.temporary, c.in_ok-put.ensures.grows, c.in_ok-put_value.ensures.grows), (omega (arith, c.requires.slot, c.in_ok-put.ensures.grows, c.in_ok-put_value.ensures.grows), tt)))
+
+pub operators::put_one_number-put_value-requires : goal.operators::put_one_number-put_value-requires
+operators::put_one_number-put_value-requires t c = (omega (arith, c.decreases), (omega (arith, c.requires.temporary, c.in_ok-put.ensures.grows), (omega (arith, c.requires.slot, c.in_ok-put.ensures.grows), tt)))
+
+pub operators::put_one_number-put_value-requires-2 : goal.operators::put_one_number-put_value-requires-2
+operators::put_one_number-put_value-requires-2 t c = (omega (arith, c.decreases), (omega (arith, c.requires.temporary, c.in_ok-put.ensures.grows, c.in_ok-put_value.ensures.grows), (omega (arith, c.requires.slot, c.in_ok-put.ensures.grows, c.in_ok-put_value.ensures.grows), tt)))
+
+pub operators::put_both-put_both_number-requires : goal.operators::put_both-put_both_number-requires
+operators::put_both-put_both_number-requires t c = (omega (arith, c.decreases), (c.requires.temporary, c.requires.slot))
+
+pub operators::put_both-put_both_number-requires-in-To : goal.operators::put_both-put_both_number-requires-in-To
+operators::put_both-put_both_number-requires-in-To t c = (omega (arith, c.decreases), (c.requires.temporary, c.requires.slot))
+
+pub operators::put_both-put_both_jump-requires : goal.operators::put_both-put_both_jump-requires
+operators::put_both-put_both_jump-requires t c = (omega (arith, c.decreases), (c.requires.temporary, c.requires.slot))
+
+pub operators::put_one-put_one_number-requires : goal.operators::put_one-put_one_number-requires
+operators::put_one-put_one_number-requires t c = (omega (arith, c.decreases), (c.requires.temporary, c.requires.slot))
+
+pub operators::put_one-put_one_number-requires-in-To : goal.operators::put_one-put_one_number-requires-in-To
+operators::put_one-put_one_number-requires-in-To t c = (omega (arith, c.decreases), (c.requires.temporary, c.requires.slot))
+
+pub operators::put_one-put_one_jump-requires : goal.operators::put_one-put_one_jump-requires
+operators::put_one-put_one_jump-requires t c = (omega (arith, c.decreases), (c.requires.temporary, c.requires.slot))
+
+pub operators::put_chosen-put_value-requires : goal.operators::put_chosen-put_value-requires
+operators::put_chosen-put_value-requires t c = (omega (arith, c.decreases), (omega (arith, c.requires.temporary, c.in_ok-put.ensures.grows), (omega (arith, c.requires.slot, c.in_ok-put.ensures.grows), tt)))
+
+pub operators::put_chosen-put_value-requires-2 : goal.operators::put_chosen-put_value-requires-2
+operators::put_chosen-put_value-requires-2 t c = (omega (arith, c.decreases), (omega (arith, c.requires.temporary, c.in_ok-put.ensures.grows, c.in_ok-put_value.ensures.grows), (omega (arith, c.requires.slot, c.in_ok-put.ensures.grows, c.in_ok-put_value.ensures.grows), c.requires.aim)))
+
+pub operators::put_chosen-put_value-requires-3 : goal.operators::put_chosen-put_value-requires-3
+operators::put_chosen-put_value-requires-3 t c = (omega (arith, c.decreases), (omega (arith, c.requires.temporary, c.in_ok-put.ensures.grows, c.in_ok-put_value.ensures.grows, c.in_ok-put_value-2.ensures.grows, c.in_ok-put-2.ensures.grows), (omega (arith, c.requires.slot, c.in_ok-put.ensures.grows, c.in_ok-put_value.ensures.grows, c.in_ok-put_value-2.ensures.grows, c.in_ok-put-2.ensures.grows), c.requires.aim)))
+
+pub places::put_element-put_found-requires : goal.places::put_element-put_found-requires
+places::put_element-put_found-requires t c = (omega (arith, c.decreases), (omega (arith, c.requires.temporary, c.in_ok-put.ensures.grows), omega (arith, c.requires.slot, c.in_ok-put.ensures.grows)))
+
+pub places::put_element-beside_spot-less-requires-clause-temporary : goal.places::put_element-beside_spot-less-requires-clause-temporary
+places::put_element-beside_spot-less-requires-clause-temporary t c = omega (arith, c.requires.temporary, c.args.code.now.short)
+
+pub places::put_element-beside_spot-less-requires-clause-slot : goal.places::put_element-beside_spot-less-requires-clause-slot
+places::put_element-beside_spot-less-requires-clause-slot t c = omega (arith, c.requires.slot, c.args.code.now.short)
+
+pub places::put_element-put_rested-requires : goal.places::put_element-put_rested-requires
+places::put_element-put_rested-requires t c = (omega (arith, c.decreases), (omega (arith, c.requires.temporary, c.beside_spot-less.ensures.temporary, temporary_within_at c.found-spot.result c.args.free.temporary, c.in_ok-put.ensures.grows, c.in_ok-put_found.ensures.grows), omega (arith, c.requires.slot, c.beside_spot-less.ensures.slot, kept_within_at c.found-spot.result c.args.free.slot, c.in_ok-put.ensures.grows, c.in_ok-put_found.ensures.grows)))
+
+pub places::put_element-free_temporary-temporary-requires : goal.places::put_element-free_temporary-temporary-requires
+places::put_element-free_temporary-temporary-requires t c = omega (arith, c.requires.temporary, c.beside_spot-less.ensures.temporary, temporary_within_at c.found-spot.result c.args.free.temporary, c.in_ok-put.ensures.grows, c.in_ok-put.ensures.short)
+
+pub places::put_found-put_element-requires : goal.places::put_found-put_element-requires
+places::put_found-put_element-requires t c =
+    let s = c.in-Element in
+    (omega (arith, c.decreases, ap place_nodes (sees_element c.args.place.now s.field-0 s.array s.index s.is), ap (λ p. place_nodes (place_of p)) c.deref.ensures, ap (λ e. nodes (value_of e)) c.deref-in-Element.ensures), (c.requires.temporary, c.requires.slot))
+
+pub places::put_read_memory-put_found-requires : goal.places::put_read_memory-put_found-requires
+places::put_read_memory-put_found-requires t c = (omega (arith, c.decreases), (c.requires.temporary, c.requires.slot))
+
+pub places::put_read-put_read_memory-requires : goal.places::put_read-put_read_memory-requires
+places::put_read-put_read_memory-requires t c = (omega (arith, c.decreases), (c.requires.temporary, c.requires.slot))
+
+pub places::put_assigned_object-put_converted-requires : goal.places::put_assigned_object-put_converted-requires
+places::put_assigned_object-put_converted-requires t c = (omega (arith, c.decreases), (omega (arith, c.requires.temporary, c.in_ok-put.ensures.grows, c.in_ok-put-2.ensures.grows), (omega (arith, c.requires.slot, c.in_ok-put.ensures.grows, c.in_ok-put-2.ensures.grows), tt)))
+
+pub places::put_assigned_memory-put_found-requires : goal.places::put_assigned_memory-put_found-requires
+places::put_assigned_memory-put_found-requires t c = (omega (arith, c.decreases), (omega (arith, c.requires.temporary, c.in_ok-put.ensures.grows), omega (arith, c.requires.slot, c.in_ok-put.ensures.grows)))
+
+pub places::put_assigned_memory-beside_spot-less-requires-clause-temporary : goal.places::put_assigned_memory-beside_spot-less-requires-clause-temporary
+places::put_assigned_memory-beside_spot-less-requires-clause-temporary t c = omega (arith, c.requires.temporary, c.args.code.now.short)
+
+pub places::put_assigned_memory-beside_spot-less-requires-clause-slot : goal.places::put_assigned_memory-beside_spot-less-requires-clause-slot
+places::put_assigned_memory-beside_spot-less-requires-clause-slot t c = omega (arith, c.requires.slot, c.args.code.now.short)
+
+pub places::put_assigned_memory-put_rested-requires : goal.places::put_assigned_memory-put_rested-requires
+places::put_assigned_memory-put_rested-requires t c = (omega (arith, c.decreases), (omega (arith, c.requires.temporary, c.beside_spot-less.ensures.temporary, temporary_within_at c.found-spot.result c.args.free.temporary, c.in_ok-put.ensures.grows, c.in_ok-put_found.ensures.grows), omega (arith, c.requires.slot, c.beside_spot-less.ensures.slot, kept_within_at c.found-spot.result c.args.free.slot, c.in_ok-put.ensures.grows, c.in_ok-put_found.ensures.grows)))
+
+pub places::put_assigned-put_assigned_object-requires : goal.places::put_assigned-put_assigned_object-requires
+places::put_assigned-put_assigned_object-requires t c = (omega (arith, c.decreases), (c.requires.temporary, c.requires.slot))
+
+pub places::put_assigned-put_assigned_memory-requires : goal.places::put_assigned-put_assigned_memory-requires
+places::put_assigned-put_assigned_memory-requires t c = (omega (arith, c.decreases), (c.requires.temporary, c.requires.slot))
+
+pub places::put_compound_object-put_rested-requires : goal.places::put_compound_object-put_rested-requires
+places::put_compound_object-put_rested-requires t c = (omega (arith, c.decreases), (omega (arith, c.requires.temporary, c.in_ok-put.ensures.grows, c.in_ok-put-2.ensures.grows), omega (arith, c.requires.slot, c.in_ok-put.ensures.grows, c.in_ok-put-2.ensures.grows)))
+
+pub places::put_compound_memory-put_found-requires : goal.places::put_compound_memory-put_found-requires
+places::put_compound_memory-put_found-requires t c = (omega (arith, c.decreases), (omega (arith, c.requires.temporary, c.in_ok-put.ensures.grows), omega (arith, c.requires.slot, c.in_ok-put.ensures.grows)))
+
+pub places::put_compound_memory-beside_spot-less-requires-clause-temporary : goal.places::put_compound_memory-beside_spot-less-requires-clause-temporary
+places::put_compound_memory-beside_spot-less-requires-clause-temporary t c = omega (arith, c.requires.temporary, c.args.code.now.short)
+
+pub places::put_compound_memory-beside_spot-less-requires-clause-slot : goal.places::put_compound_memory-beside_spot-less-requires-clause-slot
+places::put_compound_memory-beside_spot-less-requires-clause-slot t c = omega (arith, c.requires.slot, c.args.code.now.short)
+
+pub places::put_compound_memory-put_rested-requires : goal.places::put_compound_memory-put_rested-requires
+places::put_compound_memory-put_rested-requires t c = (omega (arith, c.decreases), (omega (arith, c.requires.temporary, c.beside_spot-less.ensures.temporary, temporary_within_at c.found-spot.result c.args.free.temporary, c.in_ok-put.ensures.grows, c.in_ok-put_found.ensures.grows), omega (arith, c.requires.slot, c.beside_spot-less.ensures.slot, kept_within_at c.found-spot.result c.args.free.slot, c.in_ok-put.ensures.grows, c.in_ok-put_found.ensures.grows)))
+
+pub places::put_compound_memory-free_temporary-temporary-requires : goal.places::put_compound_memory-free_temporary-temporary-requires
+places::put_compound_memory-free_temporary-temporary-requires t c = omega (arith, c.requires.temporary, c.beside_spot-less.ensures.temporary, temporary_within_at c.found-spot.result c.args.free.temporary, c.in_ok-put.ensures.grows, c.in_ok-put.ensures.short)
+
+pub places::put_compound-put_compound_object-requires : goal.places::put_compound-put_compound_object-requires
+places::put_compound-put_compound_object-requires t c = (omega (arith, c.decreases), (c.requires.temporary, c.requires.slot))
+
+pub places::put_compound-put_compound_memory-requires : goal.places::put_compound-put_compound_memory-requires
+places::put_compound-put_compound_memory-requires t c = (omega (arith, c.decreases), (c.requires.temporary, c.requires.slot))
+
+pub places::put_step_memory-put_found-requires : goal.places::put_step_memory-put_found-requires
+places::put_step_memory-put_found-requires t c = (omega (arith, c.decreases), (omega (arith, c.requires.temporary, c.in_ok-put.ensures.grows), omega (arith, c.requires.slot, c.in_ok-put.ensures.grows)))
+
+pub places::put_step_memory-free_temporary_at-temporary-requires : goal.places::put_step_memory-free_temporary_at-temporary-requires
+places::put_step_memory-free_temporary_at-temporary-requires t c = omega (arith, c.requires.temporary, c.args.code.now.short)
+
+pub places::put_step_memory-put_altered_by-requires : goal.places::put_step_memory-put_altered_by-requires
+places::put_step_memory-put_altered_by-requires t c = omega (arith, c.requires.temporary, c.free_temporary_at-temporary.ensures, temporary_within_at c.found-spot.result c.args.free.temporary, c.in_ok-put.ensures.grows, c.in_ok-put.ensures.short)
+
+pub places::put_step-put_step_object-requires-clause-room : goal.places::put_step-put_step_object-requires-clause-room
+places::put_step-put_step_object-requires-clause-room t c = omega (arith, c.requires.temporary, c.args.code.now.short)
+
+pub places::put_step-put_step_object-requires-clause-aim : goal.places::put_step-put_step_object-requires-clause-aim
+places::put_step-put_step_object-requires-clause-aim t c = c.requires.aim
+
+pub places::put_step-put_step_memory-requires : goal.places::put_step-put_step_memory-requires
+places::put_step-put_step_memory-requires t c = (omega (arith, c.decreases), (c.requires.temporary, c.requires.slot))
+
+pub values::put_rested-put_value-requires : goal.values::put_rested-put_value-requires
+values::put_rested-put_value-requires t c = (omega (arith, c.decreases), (c.requires.temporary, (c.requires.slot, near_mode (value_of c.args.e.now) lowered.writes_none false c.args.free.temporary c.args.free.slot c.operand_of-operand.result (meant c.mode_of.result) c.operand_of-operand.ensures c.mode_of.ensures (omega (arith, c.requires.temporary, c.args.code.now.short)))))
+
+pub values::put_converted-put_value-requires : goal.values::put_converted-put_value-requires
+values::put_converted-put_value-requires t c = (omega (arith, c.decreases), (c.requires.temporary, (c.requires.slot, c.requires.aim)))
+
+pub values::put_converted-put_rested-requires : goal.values::put_converted-put_rested-requires
+values::put_converted-put_rested-requires t c = (omega (arith, c.decreases), (c.requires.temporary, c.requires.slot))
+
+pub values::put_cast-put_value-requires : goal.values::put_cast-put_value-requires
+values::put_cast-put_value-requires t c = (omega (arith, c.decreases), (c.requires.temporary, (c.requires.slot, c.requires.aim)))
+
+pub values::put_cast-put_rested-requires : goal.values::put_cast-put_rested-requires
+values::put_cast-put_rested-requires t c = (omega (arith, c.decreases), (c.requires.temporary, c.requires.slot))
+
+pub values::put_sequence-put_value-requires : goal.values::put_sequence-put_value-requires
+values::put_sequence-put_value-requires t c = (omega (arith, c.decreases), (omega (arith, c.requires.temporary, c.in_ok-put.ensures.grows), (omega (arith, c.requires.slot, c.in_ok-put.ensures.grows), tt)))
+
+pub values::put_sequence-put_value-requires-2 : goal.values::put_sequence-put_value-requires-2
+values::put_sequence-put_value-requires-2 t c = (omega (arith, c.decreases), (omega (arith, c.requires.temporary, c.in_ok-put.ensures.grows, c.in_ok-put_value.ensures.grows), (omega (arith, c.requires.slot, c.in_ok-put.ensures.grows, c.in_ok-put_value.ensures.grows), c.requires.aim)))
+
+pub values::put_discarded-put_value-requires : goal.values::put_discarded-put_value-requires
+values::put_discarded-put_value-requires t c = (omega (arith, c.decreases), (omega (arith, c.requires.temporary, c.in_ok-put.ensures.grows), (omega (arith, c.requires.slot, c.in_ok-put.ensures.grows), tt)))
+
+pub values::put_cast_node-put_cast-requires : goal.values::put_cast_node-put_cast-requires
+values::put_cast_node-put_cast-requires t c = (omega (arith, c.decreases), (omega (arith, c.requires.temporary, c.in_ok-put.ensures.grows), (omega (arith, c.requires.slot, c.in_ok-put.ensures.grows), c.requires.aim)))
+
+pub values::put_waiting_number-put_value-requires : goal.values::put_waiting_number-put_value-requires
+values::put_waiting_number-put_value-requires t c =
+    let n = arguments_of (map argument_of c.args.more.now) in
+    (omega (arith, c.decreases), (c.requires.temporary, (c.requires.slot, near_mode (value_of c.args.e.now) (lowered.arguments_write n) (lowered.arguments_call n) c.args.free.temporary c.args.free.slot c.waits_for_arguments-operand.result (meant c.mode_of.result) c.waits_for_arguments-operand.ensures c.mode_of.ensures (omega (arith, c.requires.temporary, c.args.code.now.short)))))
+
+pub values::put_waiting_number-overflow_add-temporary : goal.values::put_waiting_number-overflow_add-temporary
+values::put_waiting_number-overflow_add-temporary t c = omega (arith, c.requires.temporary, c.args.code.now.short)
+
+pub values::put_waiting_number-free_slot-slot-requires : goal.values::put_waiting_number-free_slot-slot-requires
+values::put_waiting_number-free_slot-slot-requires t c = omega (arith, c.requires.slot, c.args.code.now.short)
+
+pub values::put_waiting_array-put_found-requires : goal.values::put_waiting_array-put_found-requires
+values::put_waiting_array-put_found-requires t c = (omega (arith, c.decreases), (c.requires.temporary, c.requires.slot))
+
+pub values::put_waiting_array-overflow_add-temporary : goal.values::put_waiting_array-overflow_add-temporary
+values::put_waiting_array-overflow_add-temporary t c = omega (arith, c.requires.temporary, c.args.code.now.short)
+
+pub values::put_waiting_array-free_slot_at-slot-requires : goal.values::put_waiting_array-free_slot_at-slot-requires
+values::put_waiting_array-free_slot_at-slot-requires t c = omega (arith, c.requires.slot, c.args.code.now.short)
+
+pub values::put_waiting-put_waiting_number-requires : goal.values::put_waiting-put_waiting_number-requires
+values::put_waiting-put_waiting_number-requires t c =
+    let s = c.in-Number in
+    (omega (arith, c.decreases, ap given_nodes (sees_number c.args.argument.now s.field-0 s.e s.is)), (c.requires.ends, (c.requires.temporary, c.requires.slot)))
+
+pub values::put_waiting-put_waiting_array-requires : goal.values::put_waiting-put_waiting_array-requires
+values::put_waiting-put_waiting_array-requires t c =
+    let s = c.in-Array in
+    (omega (arith, c.decreases, ap given_nodes (sees_array c.args.argument.now s.array s.is)), (c.requires.ends, (c.requires.temporary, c.requires.slot)))
+
+pub values::put_passes-put_all_waiting-requires : goal.values::put_passes-put_all_waiting-requires
+values::put_passes-put_all_waiting-requires t c = (omega (arith, c.decreases), (c.requires.temporary, c.requires.slot))
+
+pub values::put_call_node-put_passes-requires : goal.values::put_call_node-put_passes-requires
+values::put_call_node-put_passes-requires t c = (omega (arith, c.decreases), (omega arith, omega (arith, c.requires.slot, c.in_ok-put.ensures.grows)))
+
+pub values::put_value-put_read-requires : goal.values::put_value-put_read-requires
+values::put_value-put_read-requires t c =
+    let s = c.in-Read in
+    (omega (arith, c.decreases, ap nodes (sees_read c.args.e.now s.ty s.place s.is), ap (λ p. place_nodes (place_of p)) c.deref.ensures), (c.requires.temporary, c.requires.slot))
+
+pub values::put_value-put_assigned-requires : goal.values::put_value-put_assigned-requires
+values::put_value-put_assigned-requires t c =
+    let s = c.in-Assigned in
+    (omega (arith, c.decreases, ap nodes (sees_assigned c.args.e.now s.field-0 s.ty s.place s.e s.is), ap (λ p. place_nodes (place_of p)) c.deref-in-Assigned.ensures, ap (λ e. nodes (value_of e)) c.deref-in-Assigned-2.ensures), (c.requires.temporary, c.requires.slot))
+
+pub values::put_value-put_compound-requires : goal.values::put_value-put_compound-requires
+values::put_value-put_compound-requires t c =
+    let s = c.in-Compound in
+    (omega (arith, c.decreases, ap nodes (sees_compound c.args.e.now s.field-0 s.op s.ty s.of s.place s.e s.is), ap (λ p. place_nodes (place_of p)) c.deref-in-Compound.ensures, ap (λ e. nodes (value_of e)) c.deref-in-Compound-2.ensures), (c.requires.temporary, c.requires.slot))
+
+pub values::put_value-put_step-requires : goal.values::put_value-put_step-requires
+values::put_value-put_step-requires t c =
+    let s = c.in-Stepped in
+    (omega (arith, c.decreases, ap nodes (sees_stepped c.args.e.now s.field-0 s.moment s.op s.ty s.of s.place s.is), ap (λ p. place_nodes (place_of p)) c.deref-in-Stepped.ensures), (c.requires.temporary, (c.requires.slot, c.requires.aim)))
+
+pub values::put_value-put_unary-requires : goal.values::put_value-put_unary-requires
+values::put_value-put_unary-requires t c =
+    let s = c.in-Unary in
+    (omega (arith, c.decreases, ap nodes (sees_unary c.args.e.now s.field-0 s.op s.ty s.e s.is), ap (λ e. nodes (value_of e)) c.deref-in-Unary.ensures), (c.requires.temporary, (c.requires.slot, c.requires.aim)))
+
+pub values::put_value-put_binary-requires : goal.values::put_value-put_binary-requires
+values::put_value-put_binary-requires t c =
+    let s = c.in-Binary in
+    (omega (arith, c.decreases, ap nodes (sees_binary c.args.e.now s.field-0 s.op s.ty s.a s.b s.is), ap (λ e. nodes (value_of e)) c.deref-in-Binary.ensures, ap (λ e. nodes (value_of e)) c.deref-in-Binary-2.ensures), (c.requires.temporary, c.requires.slot))
+
+pub values::put_value-put_both-requires : goal.values::put_value-put_both-requires
+values::put_value-put_both-requires t c =
+    let s = c.in-BothTrue in
+    (omega (arith, c.decreases, ap nodes (sees_bothtrue c.args.e.now s.a s.b s.is), ap (λ e. nodes (value_of e)) c.deref-in-BothTrue.ensures, ap (λ e. nodes (value_of e)) c.deref-in-BothTrue-2.ensures), (c.requires.temporary, c.requires.slot))
+
+pub values::put_value-put_one-requires : goal.values::put_value-put_one-requires
+values::put_value-put_one-requires t c =
+    let s = c.in-OneTrue in
+    (omega (arith, c.decreases, ap nodes (sees_onetrue c.args.e.now s.a s.b s.is), ap (λ e. nodes (value_of e)) c.deref-in-OneTrue.ensures, ap (λ e. nodes (value_of e)) c.deref-in-OneTrue-2.ensures), (c.requires.temporary, c.requires.slot))
+
+pub values::put_value-put_chosen-requires : goal.values::put_value-put_chosen-requires
+values::put_value-put_chosen-requires t c =
+    let s = c.in-Chosen in
+    (omega (arith, c.decreases, ap nodes (sees_chosen c.args.e.now s.field-0 s.c s.a s.b s.is), ap (λ e. nodes (value_of e)) c.deref-in-Chosen.ensures, ap (λ e. nodes (value_of e)) c.deref-in-Chosen-2.ensures, ap (λ e. nodes (value_of e)) c.deref-in-Chosen-3.ensures), (c.requires.temporary, (c.requires.slot, c.requires.aim)))
+
+pub values::put_value-put_sequence-requires : goal.values::put_value-put_sequence-requires
+values::put_value-put_sequence-requires t c =
+    let s = c.in-Sequence in
+    (omega (arith, c.decreases, ap nodes (sees_sequence c.args.e.now s.a s.b s.is), ap (λ e. nodes (value_of e)) c.deref-in-Sequence.ensures, ap (λ e. nodes (value_of e)) c.deref-in-Sequence-2.ensures), (c.requires.temporary, (c.requires.slot, c.requires.aim)))
+
+pub values::put_value-put_cast_node-requires : goal.values::put_value-put_cast_node-requires
+values::put_value-put_cast_node-requires t c =
+    let s = c.in-Cast in
+    (omega (arith, c.decreases, ap nodes (sees_cast c.args.e.now s.ty s.e s.is), ap (λ e. nodes (value_of e)) c.deref-in-Cast.ensures), (c.requires.temporary, (c.requires.slot, c.requires.aim)))
+
+pub values::put_value-put_discarded-requires : goal.values::put_value-put_discarded-requires
+values::put_value-put_discarded-requires t c =
+    let s = c.in-Discarded in
+    (omega (arith, c.decreases, ap nodes (sees_discarded c.args.e.now s.e s.is), ap (λ e. nodes (value_of e)) c.deref-in-Discarded.ensures), (c.requires.temporary, c.requires.slot))
+
+pub values::put_value-put_call_node-requires : goal.values::put_value-put_call_node-requires
+values::put_value-put_call_node-requires t c =
+    let s = c.in-Call in
+    (omega (arith, c.decreases, ap nodes (sees_call c.args.e.now s.field-0 s.callee s.field-2 s.field-3 s.arguments s.is), ap (λ a. argument_nodes (arguments_of (map argument_of a))) c.deref-in-Call.ensures.value), (c.requires.temporary, c.requires.slot))

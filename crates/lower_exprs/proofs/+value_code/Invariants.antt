@@ -134,4 +134,6 @@ invariant-values::put_all_waiting-loop-argument l = record {
       → AllWait (sizes_in l.scope) (map argument_of l.arguments) (l.frees.items ++ fs) l.fn.first l.initial.code.list.items end;
   fewer : argument_nodes (arguments_of (map argument_of l.rest)) ≤ argument_nodes (arguments_of (map argument_of l.arguments));
   ends : AreEnds l.ends l.rest;
+  temporary : l.free.temporary ≤ length l.code.list.items;
+  slot : l.free.slot ≤ length l.code.list.items;
 }
