@@ -23,11 +23,6 @@ OPEN = {
     ('cabs/src/acting.rt', 'put'),
     ('cabs/src/first_objects.rt', 'laid_cells'),
     ('cabs/src/first_objects.rt', 'literal_object'),
-    ('interp_steps/src/initialisers.rt', 'element_count'),
-    ('interp_store/src/element_tree.rt', 'fill'),
-    ('interp_store/src/grid.rt', 'fill'),
-    ('interp_store/src/grid.rt', 'set'),
-    ('interp_store/src/scene.rt', 'object_behind'),
     ('lower_ops/src/waiting.rt', 'next'),
     ('tac/src/initialisers.rt', 'ahead_of'),
 }
