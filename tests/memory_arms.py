@@ -21,7 +21,6 @@ import harness
 OPEN = {
     ('cabs/src/acting.rt', 'get'),
     ('cabs/src/acting.rt', 'put'),
-    ('interp_steps/src/initialisers.rt', 'element_count'),
 }
 
 WORD = re.compile(r"'\w+(?!')|\w+!?|=>|->|::|[-+*/%&|^<>=!]=|&&|\|\||[^\s\w]")

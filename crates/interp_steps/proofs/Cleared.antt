@@ -1,8 +1,8 @@
 -- Elements made zero, one after the other.
 use Rattle.std.proofs.Common.{◌≡◌, ℕ, ℤ, zero, suc, ◌+◌, ◌-◌, ◌<◌, ◌≤◌, List, [], ◌∷◌, ◌++◌, drop, refl, sym, subst, ap, ◌∙◌, arith}
-use Rattle.std.specs.Prelude.{Option, None, Some, min, option_map, pos, slice_get}
+use Rattle.std.specs.Prelude.{Option, None, Some, min, option_map, slice_get}
 use Rattle.ctypes.specs.declared.types.IntType.{IntType}
-use Rattle.csem.specs.Store.{Array, Element, Reference, Row, Store, Tree, and_part, at_path, change_part, filled, into, length_of, no_parts, part_of, parts, put_at, put_in, tree_at}
+use Rattle.csem.specs.Store.{Array, Element, Reference, Row, Store, Tree, and_part, at_path, change_part, into, length_of, no_parts, part_of, parts, put_at, put_in, tree_at, with_zeros}
 use Rattle.csem.specs.Machine.{State, stored}
 use Rattle.csem.specs.Statements.{characters, zeros}
 use Rattle.interp_store.specs.layer.Frames as on
@@ -74,41 +74,41 @@ length_stays [] x path i new = refl
 length_stays (t ∷ store) zero path i new = length_kept path i new t
 length_stays (t ∷ store) (suc x) path i new = length_stays store x path i new
 
-none_cleared : (count first : ℕ) (lengths : List ℕ) (r : Reference) (s : State) → length_of (tree_at s.store r) ≤ first → s ≡ zeros count first lengths r s
-none_cleared zero first lengths r s h = refl
-none_cleared (suc count) first lengths r s h =
-    let same : one_zero first lengths r s ≡ s = ap (λ (l : Store). record s { store = l }) (none_at s.store r.object r.path first (filled (Some (pos 0)) lengths) h) in
-    none_cleared count (suc first) lengths r s (omega (arith, h)) ∙ sym (ap (zeros count (suc first) lengths r) same)
+none_cleared : (count first : ℕ) (r : Reference) (s : State) → length_of (tree_at s.store r) ≤ first → s ≡ zeros count first r s
+none_cleared zero first r s h = refl
+none_cleared (suc count) first r s h =
+    let same : one_zero first r s ≡ s = ap (λ (l : Store). record s { store = l }) (none_at s.store r.object r.path first (with_zeros (tree_at s.store (into r first))) h) in
+    none_cleared count (suc first) r s (omega (arith, h)) ∙ sym (ap (zeros count (suc first) r) same)
 
 -- as far as the array has parts
-within : (k count first : ℕ) (lengths : List ℕ) (r : Reference) (s : State) → k ≤ count → ((k < count) → length_of (tree_at s.store r) ≤ first + k) →
-    zeros k first lengths r s ≡ zeros count first lengths r s
-within zero count first lengths r s h rest = by_count count rest
+within : (k count first : ℕ) (r : Reference) (s : State) → k ≤ count → ((k < count) → length_of (tree_at s.store r) ≤ first + k) →
+    zeros k first r s ≡ zeros count first r s
+within zero count first r s h rest = by_count count rest
   where
-    by_count : (count : ℕ) → ((0 < count) → length_of (tree_at s.store r) ≤ first + 0) → s ≡ zeros count first lengths r s
+    by_count : (count : ℕ) → ((0 < count) → length_of (tree_at s.store r) ≤ first + 0) → s ≡ zeros count first r s
     by_count zero rest = refl
-    by_count (suc count) rest = none_cleared (suc count) first lengths r s (omega (arith, rest (omega arith)))
-within (suc k) zero first lengths r s h rest = absurd (omega (arith, h))
-within (suc k) (suc count) first lengths r s h rest =
-    within k count (suc first) lengths r (one_zero first lengths r s) (omega (arith, h))
-    (λ l. let as_long = length_stays s.store r.object r.path first (filled (Some (pos 0)) lengths) in omega (arith, as_long, rest (omega (arith, l))))
+    by_count (suc count) rest = none_cleared (suc count) first r s (omega (arith, rest (omega arith)))
+within (suc k) zero first r s h rest = absurd (omega (arith, h))
+within (suc k) (suc count) first r s h rest =
+    within k count (suc first) r (one_zero first r s) (omega (arith, h))
+    (λ l. let as_long = length_stays s.store r.object r.path first (with_zeros (tree_at s.store (into r first))) in omega (arith, as_long, rest (omega (arith, l))))
 
-pub all_cleared : (count first end room size : ℕ) (lengths : List ℕ) (r : Reference) (s : State) → size ≡ length_of (tree_at s.store r) → room ≡ size - first → end ≡ min count room →
-    zeros end first lengths r s ≡ zeros count first lengths r s
-all_cleared count first end room size lengths r s long left is = within end count first lengths r s (omega (arith, is)) (λ h. omega (arith, is, left, long, h))
+pub all_cleared : (count first end room size : ℕ) (r : Reference) (s : State) → size ≡ length_of (tree_at s.store r) → room ≡ size - first → end ≡ min count room →
+    zeros end first r s ≡ zeros count first r s
+all_cleared count first end room size r s long left is = within end count first r s (omega (arith, is)) (λ h. omega (arith, is, left, long, h))
 
-pub none_left : (lengths : List ℕ) (r : Reference) (first i count : ℕ) (s whole : State) → count ≤ i → zeros (count - i) (first + i) lengths r s ≡ whole → s ≡ whole
-none_left lengths r first i count s whole h all = let none : count - i ≡ 0 = omega (arith, h) in sym (ap (λ k. zeros k (first + i) lengths r s) none) ∙ all
+pub none_left : (r : Reference) (first i count : ℕ) (s whole : State) → count ≤ i → zeros (count - i) (first + i) r s ≡ whole → s ≡ whole
+none_left r first i count s whole h all = let none : count - i ≡ 0 = omega (arith, h) in sym (ap (λ k. zeros k (first + i) r s) none) ∙ all
 
 -- one element more, from number a on
-pub one_cleared : (lengths : List ℕ) (r : Reference) (a i count : ℕ) (s t whole : State) → i < count → t ≡ one_zero (a + i) lengths r s →
-    zeros (count - i) (a + i) lengths r s ≡ whole → zeros (count - (i + 1)) (a + (i + 1)) lengths r t ≡ whole
-one_cleared lengths r a i count s t whole h e all =
+pub one_cleared : (r : Reference) (a i count : ℕ) (s t whole : State) → i < count → t ≡ one_zero (a + i) r s →
+    zeros (count - i) (a + i) r s ≡ whole → zeros (count - (i + 1)) (a + (i + 1)) r t ≡ whole
+one_cleared r a i count s t whole h e all =
     let left : count - i ≡ suc (count - (i + 1)) = omega arith in
     let number : a + (i + 1) ≡ suc (a + i) = omega arith in
-    ap (λ x. zeros (count - (i + 1)) x lengths r t) number
-    ∙ ap (zeros (count - (i + 1)) (suc (a + i)) lengths r) e
-    ∙ sym (ap (λ k. zeros k (a + i) lengths r s) left) ∙ all
+    ap (λ x. zeros (count - (i + 1)) x r t) number
+    ∙ ap (zeros (count - (i + 1)) (suc (a + i)) r) e
+    ∙ sym (ap (λ k. zeros k (a + i) r s) left) ∙ all
 
 -- one character
 one_character : (t : IntType) (k i j : ℕ) (text : List ℕ) (r : Reference) (s : State) →

@@ -92,7 +92,7 @@ module _ (old new : Machine) (r : Result Step Stop) (t : IntType) where
 
   -- nothing is left of the list
   pub list_ends : (all : List Initialiser) (k i : ℕ) (lengths : List ℕ) (to : Reference) → length all ≡ 0 →
-      Takes (λ p s. counted p (k * elements_in lengths) (on.puts_zeros k i lengths to) s) old r new →
+      Takes (λ p s. counted p (k * elements_in lengths) (on.puts_zeros k i to) s) old r new →
       Takes (λ p s. listed p (initialisers_of (map initialiser_of all)) t k i lengths to s) old r new
   list_ends [] k i lengths to e h = h
   list_ends (x ∷ all) k i lengths to e h = absurd (omega (arith, e))

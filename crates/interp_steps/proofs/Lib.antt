@@ -3,3 +3,4 @@ pub mod Given
 pub mod Steps
 pub mod Cleared
 pub mod Entered
+pub mod Weights

@@ -1,12 +1,12 @@
 -- The new value of one element of an array.
-use Rattle.std.specs.Prelude.{ℕ, ℤ, List, Option, Some, None, pos}
+use Rattle.std.specs.Prelude.{ℕ, ℤ, Option, Some, None, pos}
 use Rattle.ctypes.specs.declared.types.IntType.{IntType}
 use Rattle.ctypes.specs.Types.{converted}
-use Rattle.csem.specs.Store.{Reference, filled, into, put}
+use Rattle.csem.specs.Store.{Reference, into, set_zeros}
 use Rattle.csem.specs.Machine.{State}
 
-abbrev pub one_zero : ℕ → List ℕ → Reference → State → State
-one_zero i lengths r s = record s { store = put s.store (into r i) (filled (Some (pos 0)) lengths) }
+abbrev pub one_zero : ℕ → Reference → State → State
+one_zero i r s = record s { store = set_zeros s.store (into r i) }
 
 -- a character of a text, or the zero past its end
 abbrev pub character_at : IntType → Option ℕ → ℤ

@@ -1,7 +1,7 @@
 //! First values of elements (6.7.9).
 
 ghost use Rattle.std.specs.Prelude.{◌≡◌, IfErr, IfOk, OnOk, Some, pos, slice_get};
-ghost use Rattle.csem.specs.Store.{filled, into, put};
+ghost use Rattle.csem.specs.Store.{into};
 ghost use Rattle.csem.specs.Statements.{characters, zeros};
 ghost use Rattle.csem.specs.Machine.{stored};
 ghost use Rattle.interp_store.specs.View.{reference_of};
@@ -20,7 +20,9 @@ use interp_store::scene::Scene;
 use interp_store::stop::Stop;
 use std::alloc::Global;
 
-/// An element gets its first value, after its tick.
+/// An element, if it is one, gets its first value, after its tick.
+///
+/// Errors: memory ran out.
 pub fn enter_element<'p>(machine: &mut Machine<'p>, r: Reference, v: i64) -> Result<Step<'p>, Stop>
     ensures takes { Takes (λ p s. entered p (node_of (node.Element r v)) s) machine.old result machine.new }
     ensures program { machine.new.program ≡ machine.old.program }
@@ -47,24 +49,18 @@ pub fn part(alloc: Global, r: &Reference, i: usize) -> Result<Reference, Stop>
     }
 }
 
-/// The element or row `i` of the array at `r` becomes zero.
+/// The element or row `i` of the array at `r`, if there is one, becomes zero.
 ///
 /// Errors: memory ran out.
-fn clear_part(
-    scene: &mut Scene,
-    alloc: Global,
-    r: &Reference,
-    i: usize,
-    lengths: &[u32],
-) -> Result<(), Stop>
-    ensures ok { (o : Outside) → OnOk result (state_in scene.new o ≡ one_zero i lengths.now (reference_of r.now) (state_in scene.old o)) }
+fn clear_part(scene: &mut Scene, alloc: Global, r: &Reference, i: usize) -> Result<(), Stop>
+    ensures ok { (o : Outside) → OnOk result (state_in scene.new o ≡ one_zero i (reference_of r.now) (state_in scene.old o)) }
     ensures err { IfErr result (λ e. e ≡ Memory) }
 {
     let part = match part(alloc, r, i) {
         Ok(part) => part,
         Err(stop) => return Err(stop),
     };
-    match scene.store.fill(&part, lengths, 0) {
+    match scene.store.zero(&part) {
         Ok(()) => Ok(()),
         Err(_) => Err(Stop::Memory),
     }
@@ -79,14 +75,13 @@ pub fn clear(
     r: &Reference,
     first: usize,
     count: usize,
-    lengths: &[u32],
 ) -> Result<(), Stop>
-    ensures ok { (o : Outside) → OnOk result (state_in scene.new o ≡ zeros count first lengths.now (reference_of r.now) (state_in scene.old o)) }
+    ensures ok { (o : Outside) → OnOk result (state_in scene.new o ≡ zeros count first (reference_of r.now) (state_in scene.old o)) }
     ensures err { IfErr result (λ e. e ≡ Memory) }
 {
     let end = count.min(scene.store.length(r).saturating_sub(first));
     for i in 0..end {
-        match clear_part(scene, alloc, r, first + i, lengths) {
+        match clear_part(scene, alloc, r, first + i) {
             Ok(()) => {}
             Err(stop) => return Err(stop),
         }
@@ -104,7 +99,7 @@ fn character(ty: IntType, text: &[u8], i: usize) -> i64
     }
 }
 
-/// The element `i` of the array at `r` becomes `v`.
+/// The element `i` of the array at `r`, if there is one, becomes `v`.
 ///
 /// Errors: memory ran out.
 fn set_part(scene: &mut Scene, alloc: Global, r: &Reference, i: usize, v: i64) -> Result<(), Stop>
@@ -120,7 +115,7 @@ fn set_part(scene: &mut Scene, alloc: Global, r: &Reference, i: usize, v: i64) -
     }
 }
 
-/// The first `count` elements of the array at `r` become the characters of a text (6.7.9p14, p21).
+/// The first `count` elements of the array at `r`, as far as it has them, become the characters of a text (6.7.9p14, p21).
 ///
 /// Errors: memory ran out.
 pub fn put_text(

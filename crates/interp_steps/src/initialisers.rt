@@ -1,11 +1,12 @@
 //! Initialisers (6.7.9).
 
-ghost use Rattle.std.specs.Prelude.{◌≡◌, ◌+◌, ◌*◌, ◌-◌, ◌<◌, ◌^◌, suc, IfErr, IfOk, length, map, slice_get};
+ghost use Rattle.std.specs.Prelude.{◌≡◌, ◌+◌, ◌*◌, ◌-◌, ◌<◌, ◌^◌, suc, IfSome, length, map, slice_get};
 ghost use Rattle.typing_spec.specs.Types.{elements_in};
 ghost use Rattle.typed_ast.specs.View.{initialiser_of, initialisers_of, value_of};
 ghost use Rattle.csem.specs.Statements.{characters, first_length, inner_lengths, text_or_none, zeros};
 ghost use Rattle.interp_store.specs.View.{reference_of};
 ghost use Rattle.interp_store.specs.layer.Agrees.{Takes};
+ghost use Rattle.interp_store.specs.layer.Digits.{number_of};
 ghost use Rattle.interp_store.specs.layer.Frames as on;
 ghost use Rattle.interp_store.specs.layer.Steps.{
   behind,
@@ -18,8 +19,8 @@ ghost use Rattle.interp_store.specs.layer.Steps.{
   listed,
 };
 ghost use Rattle.interp_store.specs.layer.Views.{initialiser_frame, late_of};
-ghost use Rattle.interp_store.specs.declared.stop.Stop.TheVariants.{Memory};
 
+use crate::digits::{element_digits, take_one};
 use crate::elements::{clear, part, put_text};
 use crate::statements::left;
 use ctypes::IntType;
@@ -32,21 +33,18 @@ use interp_store::machine::Machine;
 use interp_store::stop::Stop;
 use typed_ast::{Initialiser, Value};
 
-/// How many elements `count` rows of these lengths have.
-///
-/// Errors: memory ran out, where they are more than it has numbers.
-fn element_count(count: usize, lengths: &[u32]) -> Result<usize, Stop>
-    ensures ok { IfOk result (λ n. n ≡ count * elements_in lengths.now) }
-    ensures err { IfErr result (λ e. e ≡ Memory) }
+/// How many elements `count` rows of these lengths have, if memory has that number.
+fn element_count(count: usize, lengths: &[u32]) -> Option<usize>
+    ensures { IfSome result (λ n. n ≡ count * elements_in lengths.now) }
 {
     let mut product = count;
     for n in lengths {
         let Some(next) = product.checked_mul(*n as usize) else {
-            return Err(Stop::Memory);
+            return None;
         };
         product = next;
     }
-    Ok(product)
+    Some(product)
 }
 
 /// The first one of the lengths, 0 if there is none.
@@ -107,13 +105,12 @@ fn fill_zeros<'p>(
     machine: &mut Machine<'p>,
     count: usize,
     first: usize,
-    lengths: &'p [u32],
     r: Reference,
 ) -> Result<Step<'p>, Stop>
-    ensures takes { Takes (λ p s. goes on.initialised (zeros count first lengths.now (reference_of r) s)) machine.old result machine.new }
+    ensures takes { Takes (λ p s. goes on.initialised (zeros count first (reference_of r) s)) machine.old result machine.new }
     ensures program { machine.new.program ≡ machine.old.program }
 {
-    match clear(&mut machine.scene, machine.alloc, &r, first, count, lengths) {
+    match clear(&mut machine.scene, machine.alloc, &r, first, count) {
         Ok(()) => Ok(Step::Leaves(Found::Initialised)),
         Err(stop) => Err(stop),
     }
@@ -128,7 +125,7 @@ pub fn come_late<'p>(machine: &mut Machine<'p>, late: Late<'p>) -> Result<Step<'
 {
     match late {
         Late::PutsText(ty, count, n, r) => fill_text(machine, ty, count, n, r),
-        Late::PutsZeros(count, first, lengths, r) => fill_zeros(machine, count, first, lengths, r),
+        Late::PutsZeros(count, first, r) => fill_zeros(machine, count, first, r),
         Late::EntersBody(objects, body) => Ok(Step::Enters(Node::Statement(objects, body))),
     }
 }
@@ -146,6 +143,44 @@ pub fn spend<'p>(machine: &mut Machine<'p>, ticks: usize, late: Late<'p>) -> Res
     }
 }
 
+/// The same, of a number by its digits.
+///
+/// Errors: memory ran out.
+pub fn spend_long<'p>(
+    machine: &mut Machine<'p>,
+    mut digits: Vec<usize>,
+    late: Late<'p>,
+) -> Result<Step<'p>, Stop>
+    ensures takes { Takes (λ p s. counted p (number_of digits.items) (late_of late.entry) s) machine.old result machine.new }
+    ensures program { machine.new.program ≡ machine.old.program }
+{
+    if take_one(&mut digits) {
+        return Ok(Step::Enters(Node::TickingLong(digits, late)));
+    }
+    come_late(machine, late)
+}
+
+/// Spends a tick for each element of `count` rows of these lengths before a deferred operation.
+///
+/// Errors: memory ran out.
+fn spend_all<'p>(
+    machine: &mut Machine<'p>,
+    count: usize,
+    lengths: &[u32],
+    late: Late<'p>,
+) -> Result<Step<'p>, Stop>
+    ensures takes { Takes (λ p s. counted p (count * elements_in lengths.now) (late_of late.entry) s) machine.old result machine.new }
+    ensures program { machine.new.program ≡ machine.old.program }
+{
+    match element_count(count, lengths) {
+        Some(ticks) => spend(machine, ticks, late),
+        None => match element_digits(machine.alloc, count, lengths) {
+            Ok(digits) => spend_long(machine, digits, late),
+            Err(_) => Err(Stop::Memory),
+        },
+    }
+}
+
 /// The elements or rows after the last part of a braced list (6.7.9p21).
 ///
 /// Errors: memory ran out.
@@ -157,13 +192,10 @@ fn end_list<'p>(
     r: Reference,
 ) -> Result<Step<'p>, Stop>
     ensures takes { Takes (λ p s. counted p (count * elements_in lengths.now)
-        (on.puts_zeros count first lengths.now (reference_of r)) s) machine.old result machine.new }
+        (on.puts_zeros count first (reference_of r)) s) machine.old result machine.new }
     ensures program { machine.new.program ≡ machine.old.program }
 {
-    match element_count(count, lengths) {
-        Ok(ticks) => spend(machine, ticks, Late::PutsZeros(count, first, lengths, r)),
-        Err(stop) => Err(stop),
-    }
+    spend_all(machine, count, lengths, Late::PutsZeros(count, first, r))
 }
 
 /// A braced list, from a part on (6.7.9p17).

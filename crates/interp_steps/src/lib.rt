@@ -2,6 +2,7 @@
 #![tactic(auto)]
 
 pub mod conditions;
+mod digits;
 pub mod elements;
 pub mod flows;
 pub mod initialisers;

@@ -6,7 +6,7 @@ ghost use Rattle.interp_store.specs.layer.Steps.{entered};
 ghost use Rattle.interp_store.specs.layer.Views.{node_of};
 
 use crate::elements::enter_element;
-use crate::initialisers::{enter_initialiser, spend};
+use crate::initialisers::{enter_initialiser, spend, spend_long};
 use crate::statements::enter_statement;
 use crate::switches::{enter_block, enter_case};
 use interp_store::expressions::{enter_place, enter_value};
@@ -28,6 +28,7 @@ pub fn enter<'p>(machine: &mut Machine<'p>, node: Node<'p>) -> Result<Step<'p>, 
         Node::Initialiser(i, ty, lengths, r) => enter_initialiser(machine, i, ty, lengths, r),
         Node::Element(r, v) => enter_element(machine, r, v),
         Node::Ticking(more, late) => spend(machine, more, late),
+        Node::TickingLong(digits, late) => spend_long(machine, digits, late),
         Node::SwitchBlock(v, block) => enter_block(machine, v, block),
         Node::CaseTest(t) => enter_case(machine, t),
     }

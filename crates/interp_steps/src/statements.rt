@@ -119,13 +119,9 @@ fn initialise<'p>(
     let Some(ty) = ty else {
         return left(Flow::Normal);
     };
-    match machine.scene.own(n) {
-        Ok(r) => {
-            let node = Node::Initialiser(i, ty.element, ty.lengths.as_slice(), r);
-            machine.wait(Frame::Initialiser(InitialiserFrame::Defined), node)
-        }
-        Err(stop) => Err(stop),
-    }
+    let r = machine.scene.own(n);
+    let node = Node::Initialiser(i, ty.element, ty.lengths.as_slice(), r);
+    machine.wait(Frame::Initialiser(InitialiserFrame::Defined), node)
 }
 
 /// A declarator with an initialiser (6.2.4p6, 6.7.9).

@@ -26,6 +26,9 @@ returns-in-Element-clause-takes c =
 pub returns-in-Ticking-clause-takes : goal.returns-in-Ticking-clause-takes
 returns-in-Ticking-clause-takes c = node_as (node_of c.args.node) _ c.args.machine.now c.spend.new.machine c.spend.result (ap node_of c.in-Ticking.is) c.spend.ensures.takes
 
+pub returns-in-TickingLong-clause-takes : goal.returns-in-TickingLong-clause-takes
+returns-in-TickingLong-clause-takes c = node_as (node_of c.args.node) _ c.args.machine.now c.spend_long.new.machine c.spend_long.result (ap node_of c.in-TickingLong.is) c.spend_long.ensures.takes
+
 pub returns-in-SwitchBlock-clause-takes : goal.returns-in-SwitchBlock-clause-takes
 returns-in-SwitchBlock-clause-takes c =
     let same : to_z w64 (of_z w64 c.in-SwitchBlock.v) ≡ c.in-SwitchBlock.v = search (rules, to_z-of_z) in
