@@ -44,9 +44,7 @@ fn initialised(
     let Some(ty) = type_of(scope.objects, n) else {
         return Some(Flow::Normal);
     };
-    let Ok(r) = scene.own(n) else {
-        return out_of_memory(clock);
-    };
+    let r = scene.own(n);
     let of = Elements {
         ty: ty.element,
         lengths: ty.lengths.as_slice(),

@@ -155,7 +155,7 @@ fn zeros(
     if !clock.ticks(scope.limit, element_count(count, inner)) {
         return None;
     }
-    match clear(scene, scope.alloc, r, first, count, inner) {
+    match clear(scene, scope.alloc, r, first, count) {
         Ok(()) => Some(()),
         Err(_) => out_of_memory(clock),
     }

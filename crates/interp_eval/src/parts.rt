@@ -98,6 +98,7 @@ pub fn done(
         Node::Initialiser(_, _, _, _) => left_out(clock),
         Node::Element(_, _) => left_out(clock),
         Node::Ticking(_, _) => left_out(clock),
+        Node::TickingLong(_, _) => left_out(clock),
         Node::SwitchBlock(_, _) => left_out(clock),
         Node::CaseTest(_) => left_out(clock),
     }

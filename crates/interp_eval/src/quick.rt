@@ -145,6 +145,7 @@ pub fn is_quick_node(node: &Node<'_>) -> bool
         Node::Initialiser(_, _, _, _) => false,
         Node::Element(_, _) => false,
         Node::Ticking(_, _) => false,
+        Node::TickingLong(_, _) => false,
         Node::SwitchBlock(_, _) => false,
         Node::CaseTest(_) => false,
     }

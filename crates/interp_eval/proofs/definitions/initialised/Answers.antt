@@ -21,7 +21,7 @@ returns-in-None-clause-does c = λ run rest h.
     gone_none nothing run c.args.scope.now.limit c.args.clock.now.spent c.args.scene.now _ (λ u s. Goes Normal s) rest c.initialise.result c.initialise.new.clock c.initialise.new.scene
     c.in-None.is (c.initialise.ensures.does run)
     (defines run c.args.clock.now.spent c.args.scene.now (program_of c.args.scope.now.program.now) (objects_in c.args.scope.now) c.args.n _ c.in-Some.ty.now.element c.as_slice.result.now
-    (object_type_of c.in-Some.ty.now) (initialiser_of c.args.i.now) (reference_of c.in-Ok.r) rest (sym c.in-Some.ensures) refl c.as_slice.ensures.value (λ o. c.in-Ok.ensures.ok o) h)
+    (object_type_of c.in-Some.ty.now) (initialiser_of c.args.i.now) (reference_of c.own-r.result) rest (sym c.in-Some.ensures) refl c.as_slice.ensures.value (λ o. c.own-r.ensures o) h)
 
 pub returns-in-None-clause-here : goal.returns-in-None-clause-here
 returns-in-None-clause-here c = λ q none. c.initialise.ensures.here q c.in-None.is
@@ -32,4 +32,4 @@ returns-clause-does c = λ run rest h.
     (gone_on nothing run c.args.scope.now.limit c.args.clock.now.spent c.args.scene.now _ (λ u s. Goes Normal s) rest c.initialise.result c.in-Some-initialise.field-0 c.initialise.new.clock c.initialise.new.scene
     c.in-Some-initialise.is (c.initialise.ensures.does run)
     (defines run c.args.clock.now.spent c.args.scene.now (program_of c.args.scope.now.program.now) (objects_in c.args.scope.now) c.args.n _ c.in-Some.ty.now.element c.as_slice.result.now
-    (object_type_of c.in-Some.ty.now) (initialiser_of c.args.i.now) (reference_of c.in-Ok.r) rest (sym c.in-Some.ensures) refl c.as_slice.ensures.value (λ o. c.in-Ok.ensures.ok o) h))
+    (object_type_of c.in-Some.ty.now) (initialiser_of c.args.i.now) (reference_of c.own-r.result) rest (sym c.in-Some.ensures) refl c.as_slice.ensures.value (λ o. c.own-r.ensures o) h))

@@ -33,9 +33,8 @@ returns-in-Ok-clause-does c = λ run rest h.
     let many = as_many inner c.inner_of-inner.result.now k c.saturating_sub-count.result c.inner_of-inner.ensures count in
     let spent = on_true (c.ticks.new.self.spent ≡ c.args.clock.now.spent + c.element_count.result) c.ticks.result c.if-not-ticks.false c.ticks.ensures.taken in
     let taken : c.ticks.new.self.spent ≡ c.args.clock.now.spent + k * elements_in inner = omega (arith, spent, c.ticks.ensures.spends, c.element_count.ensures.exact, many) in
-    let is : (o : Outside) → state_in c.clear.new.scene o ≡ zeros k c.args.first inner r (state_in c.args.scene.now o) = λ o. c.in-Ok.ensures.ok o
-    ∙ ap (λ k. zeros k c.args.first c.inner_of-inner.result.now r (state_in c.args.scene.now o)) count
-    ∙ ap (λ l. zeros k c.args.first l r (state_in c.args.scene.now o)) c.inner_of-inner.ensures in
+    let is : (o : Outside) → state_in c.clear.new.scene o ≡ zeros k c.args.first r (state_in c.args.scene.now o) = λ o. c.in-Ok.ensures.ok o
+    ∙ ap (λ k. zeros k c.args.first r (state_in c.args.scene.now o)) count in
     gave_now nothing run c.args.scope.now.limit c.clear.new.scene tt rest tt c.ticks.new.self refl
-    (moved run c.ticks.new.self.spent c.args.scene.now c.clear.new.scene (zeros k c.args.first inner r) (λ s. Goes tt s) rest is
-    (all_taken run c.args.clock.now.spent (k * elements_in inner) c.args.scene.now (λ u s. Goes tt (zeros k c.args.first inner r s)) rest h c.ticks.new.self.spent taken))
+    (moved run c.ticks.new.self.spent c.args.scene.now c.clear.new.scene (zeros k c.args.first r) (λ s. Goes tt s) rest is
+    (all_taken run c.args.clock.now.spent (k * elements_in inner) c.args.scene.now (λ u s. Goes tt (zeros k c.args.first r s)) rest h c.ticks.new.self.spent taken))
