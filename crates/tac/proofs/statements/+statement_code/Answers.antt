@@ -1,13 +1,14 @@
-use Rattle.std.proofs.Common.{◌≡◌, ap, map, length, ◌∙◌}
+use Rattle.std.proofs.Common.{◌≡◌, ap, map, length, ◌∙◌, arith}
 use Rattle.typed_ast.specs.View.{value_of, option_value, statement_of, statements_of}
 use Rattle.lower_ops.specs.declared.modes.Shape.TheVariants as shape
 use Rattle.csem.specs.Statements.{labels_of}
 use Rattle.lower_correct.specs.Values.{waits_in, mode_of}
 use Rattle.lower_correct.specs.Bodies.{is_within, has_objects}
-use Rattle.lower_ops.specs.layer.Parts.{plus, shape_of}
+use Rattle.lower_ops.specs.layer.Parts.{meant, plus, shape_of}
 use Rattle.lower_exprs.specs.layer.Sizes.{value_size}
 use Rattle.tac.specs.inside.Scopes.{program_in, function_in}
 use Rattle.tac.specs.inside.Sizes.{statement_size, statements_size, tests_size, effects_size, repeats_size}
+use Rattle.lower_exprs.proofs.Room.{near_mode}
 use Rattle.tac.proofs.HeldStatements.{sees_empty, sees_evaluate, sees_declare, sees_define, sees_block, sees_if, sees_ifelse, sees_switch, sees_case, sees_default, sees_while, sees_dowhile, sees_for, sees_break, sees_continue, sees_returnnothing, sees_returnvalue}
 use Rattle.lower_ops.proofs.Parts.{two}
 use Rattle.tac.proofs.Blocks.{branch_wrote, branches_wrote, while_wrote, do_while_wrote, for_wrote}
@@ -182,3 +183,7 @@ pub put_statement-returns-in_ok-put_switch-in-Switch : goal.put_statement-return
 put_statement-returns-in_ok-put_switch-in-Switch t c =
     let s = c.in-Switch in
     rw (sees_switch c.args.statement.now s.field-0 s.field-1 s.e s.first s.count s.all s.is) (rw c.deref-in-Switch.ensures.value at (c.in_ok-put_switch-in-Switch.ensures s.field-1 c.args.out))
+
+pub put_switch-put_value-requires-clause-aim : goal.put_switch-put_value-requires-clause-aim
+put_switch-put_value-requires-clause-aim t c =
+    near_mode (value_of c.args.e.now) (is_within c.args.first c.args.count) (has_objects c.args.count) 0 0 c.waits_for_objects-operand.result (meant c.mode_of.result) c.waits_for_objects-operand.ensures c.mode_of.ensures (omega arith)
