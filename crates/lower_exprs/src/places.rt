@@ -36,7 +36,8 @@ use tac_code::{Instruction, Operand, Place as Spot, Target};
 use tree::StepOp;
 use typed_ast::{Moment, Place, Value};
 
-/// The first temporary and the first slot that are free.
+/// The first temporary and the first slot that are free. Neither number is above the length of the code written so far, since a number is
+/// counted up only behind an instruction. So the next number fits a word.
 #[derive(Clone, Copy)]
 pub struct Free {
     pub temporary: usize,
