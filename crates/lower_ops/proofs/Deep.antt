@@ -1,8 +1,8 @@
 -- No type has as many lengths as a word counts, since they stand in a vector.
-use Rattle.std.proofs.Common.{◌≡◌, ◌⊎◌, inl, inr, ℕ, zero, suc, ◌+◌, ◌-◌, ◌<◌, ◌≤◌, ◌^◌, min, List, [], ◌∷◌, Option, Some, None, refl, ap, sym, ◌∙◌, subst, map, length, arith}
+use Rattle.std.proofs.Common.{◌≡◌, ◌⊎◌, inl, inr, ℕ, zero, suc, ◌+◌, ◌-◌, ◌<◌, ◌≤◌, ◌^◌, min, List, [], ◌∷◌, Option, Some, None, ap, sym, ◌∙◌, subst, map, length, arith}
 use Rattle.std.specs.Prelude.{slice_get, option_map}
 use Rattle.std.proofs.lemmas.Option.{slice_get-map}
-use Rattle.typing_spec.specs.Types.{ObjectType, DeclaredType, complete, unknown_size, ParameterType, number, elements}
+use Rattle.typing_spec.specs.Types.{ObjectType, DeclaredType, complete, unknown_size}
 use Rattle.typing_spec.specs.Program as typed
 use Rattle.typing_spec.specs.Nodes.{row_type, reference_in, text_type, static_type, object_type, type_of_storage, type_of_place}
 use Rattle.typed_ast.specs.declared.types.ObjectType as held

@@ -1,5 +1,5 @@
 -- Parts of a stored value.
-use Rattle.std.proofs.Common.{◌≡◌, ℕ, ◌+◌, Bool, true, false, ◌||◌, List, refl, ap, sym, ◌∙◌, subst}
+use Rattle.std.proofs.Common.{◌≡◌, ℕ, ◌+◌, Bool, ◌||◌, List, refl, subst}
 use Rattle.ctypes.specs.declared.types.IntType.{IntType}
 use Rattle.ctypes.specs.declared.operators.BinOp.{BinOp}
 use Rattle.tac_code.specs.declared.code.Operand.{Operand}
@@ -13,7 +13,7 @@ use Rattle.lower_correct.specs.Asked.{is_wide}
 use Rattle.lower_correct.specs.Values.{reading_of, Mode, Nowhere, To, If}
 use Rattle.lower_correct.specs.Places.{cuts}
 use Rattle.lower_correct.specs.Code.{Ends, Computes, Puts, Alters, AltersAside, AltersBy}
-use Rattle.lower_ops.specs.layer.Parts.{plus, shape_of, Wrote}
+use Rattle.lower_ops.specs.layer.Parts.{shape_of, Wrote}
 use Rattle.lower_ops.specs.declared.modes.Shape.TheVariants as shape
 use Rattle.lower_ops.specs.layer.FormSizes.{ends_size, computes_size, puts_size, cuts_for, alters_size, alters_aside_size, alters_after_size}
 use Rattle.lower_ops.proofs.Parts.{two, three}

@@ -49,7 +49,6 @@ pub fn constant_or(constant: Option<i64>, operand: Operand) -> Operand
     }
 }
 
-
 /// The first free temporary after that of an operand.
 pub fn free_temporary(operand: Operand, temporary: usize) -> usize
     requires { temporary < 4611686018427387904 }

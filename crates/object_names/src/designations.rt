@@ -111,11 +111,7 @@ impl ProgramNames {
 /// A name, or, where it is empty, `object` and the number of the object.
 ///
 /// Errors: memory ran out.
-pub fn shown_name(
-    alloc: Global,
-    name: &str,
-    object: Option<usize>,
-) -> Result<String, AllocError> {
+pub fn shown_name(alloc: Global, name: &str, object: Option<usize>) -> Result<String, AllocError> {
     if !name.is_empty() {
         return String::from_str(alloc, name);
     }

@@ -1,4 +1,4 @@
-use Rattle.std.proofs.Common.{◌≡◌, ap, sym, ◌∙◌, subst}
+use Rattle.std.proofs.Common.{ap, sym, ◌∙◌}
 use Rattle.typing_spec.specs.Nodes.{type_of_place, row_type}
 use Rattle.typed_ast.specs.View.{place_of, program_of, function_of}
 use Rattle.lower_ops.specs.layer.Rows.{deep_size, counted}
