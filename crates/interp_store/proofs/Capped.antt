@@ -57,10 +57,11 @@ number_capped (i ∷ path) (n ∷ ls) k most =
     sym (number_capped path ls (min k most * n + i) most) ∙ ap (λ x. min (number path ls x) most) same ∙ number_capped path ls (k * n + i) most
 
 -- one subscript more
-pub counts_on : (path : List ℕ) (at : ℕ) (ls inner : List ℕ) (n k next most whole : ℕ) → ls ≡ n ∷ inner → at < length path → next ≡ min (k * n + get_or path at 0) most →
+pub counts_on : (path : List ℕ) (at : ℕ) (ls inner : List ℕ) (n k next most whole : ℕ) → ls ≡ n ∷ inner → at < length path → next ≡ min (min (k * n) most + get_or path at 0) most →
     min (number (drop at path) ls k) most ≡ whole → min (number (drop (at + 1) path) inner next) most ≡ whole
 counts_on path at ls inner n k next most whole e h is all =
-    ap (λ x. min (number (drop (at + 1) path) inner x) most) is ∙ number_capped (drop (at + 1) path) inner (k * n + get_or path at 0) most
+    let same : next ≡ min (k * n + get_or path at 0) most = omega (arith, is) in
+    ap (λ x. min (number (drop (at + 1) path) inner x) most) same ∙ number_capped (drop (at + 1) path) inner (k * n + get_or path at 0) most
     ∙ ap (λ ls. min (number (get_or path at 0 ∷ drop (at + 1) path) ls k) most) (sym e) ∙ ap (λ p. min (number p ls k) most) (sym (entered path at h)) ∙ all
 
 pub counts_no_further : (path : List ℕ) (at : ℕ) (ls : List ℕ) (k most whole : ℕ) → k ≤ most → length ls ≡ 0 → at < length path → min (number (drop at path) ls k) most ≡ whole → k ≡ whole

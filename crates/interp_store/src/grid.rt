@@ -38,18 +38,6 @@ fn behind<'l>(lengths: &'l [usize], path: &[usize]) -> Option<&'l [usize]>
     Some(rest)
 }
 
-/// The number of parts of its lengths that precede part `i` of a part with `n` ones, which `k` parts of all its lengths precede,
-/// or the greatest number that memory has where they are more.
-#[inline(always)]
-fn part_number(k: usize, n: usize, i: usize) -> usize
-    ensures { result ≡ min (k * n + i) (2 ^ 64 - 1) }
-{
-    match k.checked_mul(n) {
-        None => usize::MAX,
-        Some(before) => before.saturating_add(i),
-    }
-}
-
 /// The number of parts of its lengths that precede the one at these subscripts, or the greatest number that memory has where
 /// they are more.
 #[inline(always)]
@@ -62,7 +50,7 @@ fn number(lengths: &[usize], path: &[usize]) -> usize
         let Some((n, inner)) = rest.split_first() else {
             return k;
         };
-        k = part_number(k, *n, *i);
+        k = k.saturating_mul(*n).saturating_add(*i);
         rest = inner;
     }
     k

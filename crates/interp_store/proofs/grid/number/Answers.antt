@@ -9,9 +9,11 @@ returns-in_default c = counts_no_further c.args.path.now c.loop-i.i-index c.loop
 pub loop-i-preserved : goal.loop-i-preserved
 loop-i-preserved c =
     let more : c.loop-i.rest.now ≡ c.in-Some.n.now ∷ c.in-Some.inner.now = search rules in
-    let next : c.part_number-k.result ≡ min (c.loop-i.k * c.in-Some.n.now + get_or c.args.path.now c.loop-i.i-index 0) (2 ^ 64 - 1) = search rules in
+    let product : c.saturating_mul.result ≡ min (c.loop-i.k * c.in-Some.n.now) (2 ^ 64 - 1) = search rules in
+    let sum : c.saturating_add-k.result ≡ min (c.saturating_mul.result + get_or c.args.path.now c.loop-i.i-index 0) (2 ^ 64 - 1) = search rules in
+    let next : c.saturating_add-k.result ≡ min (min (c.loop-i.k * c.in-Some.n.now) (2 ^ 64 - 1) + get_or c.args.path.now c.loop-i.i-index 0) (2 ^ 64 - 1) = omega (arith, product, sum) in
     record {
-      is = counts_on c.args.path.now c.loop-i.i-index c.loop-i.rest.now c.in-Some.inner.now c.in-Some.n.now c.loop-i.k c.part_number-k.result (2 ^ 64 - 1) _ more c.loop-i-test.true next
+      is = counts_on c.args.path.now c.loop-i.i-index c.loop-i.rest.now c.in-Some.inner.now c.in-Some.n.now c.loop-i.k c.saturating_add-k.result (2 ^ 64 - 1) _ more c.loop-i-test.true next
           c.loop-i.invariant.is;
-      fits = omega (arith, next);
+      fits = omega (arith, sum);
     }
