@@ -8,7 +8,7 @@
 # The module is for x86-64; it is compiled for wasm64, linked with the page's own heap, and lowered to 32-bit addresses, which every
 # browser has. Three files are made of it: zikorape.wasm compiles, shows, runs and interprets; diagnostics.wasm explains and warns, analysis.wasm
 # verifies, traces and explains runs, and these are fetched when that is first wanted: one with all would be too large. Of the first wasm-opt lowers the
-# addresses, keeps one of functions that are the same, and takes away blocks and jumps that do nothing: its -O2 makes code that is slower here and takes more of the engine's stack. The others are made for
+# addresses, keeps one of functions that are the same, and takes away blocks, jumps and writes of locals that do nothing: its -O2 makes code that is slower here and takes more of the engine's stack. The others are made for
 # their size, for which each function has LLVM's attributes; the larger one three times, and with its jumps made anew, which takes another percent away.
 # shellcheck disable=SC2086 # flags, features and names are words
 set -eu
@@ -60,7 +60,7 @@ made() {
     echo "$name.wasm: $(wc -c <"$name.wasm") bytes, $(gzip -9 -c "$name.wasm" | wc -c) by gzip"
 }
 
-made zikorape fast.o "$compiler" --duplicate-function-elimination --remove-unused-brs --merge-blocks --vacuum --reorder-locals
+made zikorape fast.o "$compiler" --duplicate-function-elimination --remove-unused-brs --merge-blocks --vacuum --optimize-instructions --rse --vacuum --reorder-locals --strip-debug --strip-producers
 made diagnostics small.o "$explainer" -Oz --strip-debug --strip-producers
 made analysis small.o "$analyser" -Oz --flatten --rereloop -Oz -Oz --strip-debug --strip-producers
 sh "$page/digest.sh" >"$page/SOURCES"
