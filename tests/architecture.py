@@ -91,6 +91,8 @@ def check_paths():
         holds('%s links to what is not there: %s' % (document, ' '.join(links)), not links)
 
 def main():
+    if sys.argv[1:] not in ([], ['--check']):
+        sys.exit(__doc__)
     page = read(PAGE)
     head, begin, rest = page.partition(BEGIN)
     part, end, tail = rest.partition(END)

@@ -17,12 +17,6 @@ import sys
 
 import harness
 
-# To go with the next change of their crates: a file below crates, and a function.
-OPEN = {
-    ('cabs/src/acting.rt', 'get'),
-    ('cabs/src/acting.rt', 'put'),
-}
-
 WORD = re.compile(r"'\w+(?!')|\w+!?|=>|->|::|[-+*/%&|^<>=!]=|&&|\|\||[^\s\w]")
 HEADS = (';', '{', '}', 'let', 'if', 'while', 'match', 'fn', 'for', 'loop', 'impl', '=>')
 CLOSERS = {')': '(', ']': '[', '}': '{'}
@@ -227,26 +221,14 @@ def given(file, start, at):
     return file.words[start + 1] in GIVEN or any(re.match(r'\s*requires .*IsMemoryFault', line) for line in lines)
 
 
-def function_of(file, at):
-    while at > 0 and file.words[at] != 'fn':
-        at -= 1
-    return file.words[at + 1]
-
-
 def main(paths):
     files = [File(path) for path in sorted(glob.glob('crates/*/src/**/*.rt', recursive=True)) if not path.startswith('crates/test_')]
-    known, verdict, used = functions(files), harness.Verdict(), set()
+    known, verdict = functions(files), harness.Verdict()
     for file in files:
         if paths and file.path not in paths:
             continue
         for at in file.places():
-            right, entry = guards(file, known, at), (file.path.removeprefix('crates/'), function_of(file, at))
-            if not right and entry in OPEN:
-                used.add(entry)
-                right = True
-            verdict.holds(f'{file.path}:{file.lines[at]} answers want of memory where no growth was refused', right)
-    for path, name in sorted(OPEN - used if not paths else ()):
-        verdict.fail(f'crates/{path} {name} is in OPEN and need not be')
+            verdict.holds(f'{file.path}:{file.lines[at]} answers want of memory where no growth was refused', guards(file, known, at))
     return verdict.end()
 
 

@@ -66,6 +66,8 @@ def written(page):
     return page
 
 def main():
+    if sys.argv[1:] not in ([], ['--check']):
+        sys.exit(__doc__)
     page = read(PAGE)
     made = written(page)
     if sys.argv[1:] == ['--check']:

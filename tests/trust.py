@@ -319,6 +319,8 @@ def made():
     return '\n'.join(page) + '\n', [needed, summed(second), summed(rest)]
 
 def main():
+    if sys.argv[1:] not in ([], ['--check']):
+        sys.exit(__doc__)
     text, sums = made()
     page = read(PAGE)
     head, _, stands = page.partition(MARK + '\n')

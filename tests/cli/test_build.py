@@ -1,5 +1,6 @@
 """build: the set of files, their names and sizes, and where the file is written."""
 import os
+import stat
 
 from commands import Commands, TOUR
 
@@ -39,6 +40,22 @@ class Build(Commands):
         self.write('kept', 'kept\n')
         self.ends(('build', 'rest.c', '-o', 'kept'), 1, line=f'rest.c:1: {NONE}')
         self.expect('the old file', self.program.read('kept'), b'kept\n')
+
+    def test_the_mode_of_the_file(self):
+        """A new file has 0777 less the mask, and one that is there keeps its mode, whatever the mask."""
+        for mask, new in ((0o022, 0o755), (0o077, 0o700)):
+            self.program.remove('made')
+            self.built_under(mask, 'made', new)
+            for kept in (0o600, 0o640, 0o777):
+                self.write('kept', 'kept\n')
+                os.chmod(self.program.at('kept'), kept)
+                self.built_under(mask, 'kept', kept)
+
+    def built_under(self, mask, name, mode):
+        """A build with this mask writes the file, which then has this mode."""
+        self.ends(('build', 'main.c', '-o', name), 0, before=lambda: os.umask(mask))
+        self.holds(f'{name}: no executable file', self.program.read(name).startswith(b'\x7fELF'))
+        self.expect(f'the mode of {name}, with the mask {mask:03o}', oct(stat.S_IMODE(os.stat(self.program.at(name)).st_mode)), oct(mode))
 
     def test_files_that_are_missing(self):
         self.refused('none.c:0: 802 cannot read', 'none.c')

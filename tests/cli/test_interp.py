@@ -17,6 +17,9 @@ class Interp(Commands):
         self.interprets(ECHO, 7, everything, given=everything)
         self.interprets(ECHO, 7)
 
+    def test_two_bytes_between_two_ticks(self):
+        self.interprets('#include <rvio.h>\nint n;\nint main(void) { if (n == 0) { n = 1; rv_putbyte(main()); return 0; } rv_putbyte(65); }\n', 0, b'A\0')
+
     def test_two_files(self):
         self.write('twice.h', 'int twice(int a);\n')
         self.write('twice.c', '#include "twice.h"\nint twice(int a) { return a * 2; }\nint main(void) { return twice(21); }\n')

@@ -30,7 +30,6 @@ use Rattle.cabs.specs.inside.Standing.{Outset, Grows, Whole, left_of, waiting, S
 use Rattle.cabs.proofs.Begun.{done_kept, given_up_here}
 use Rattle.cabs.proofs.Following.{resume_stops}
 use Rattle.cabs.proofs.Telling.{output_as, none_waits, tells_as}
-use Rattle.cabs.proofs.Ticking.{bytes_now}
 
 -- what the frames do with a result
 abbrev pub goes_to : typed.Program → List on.Frame → on.Found → State → machine.Run on.Found
@@ -40,8 +39,8 @@ pub then_resumed : (p : typed.Program) (fs : List on.Frame) (r : machine.Run on.
 then_resumed p fs (Goes x s) = refl
 then_resumed p fs (Stops e s) = sym (resume_stops p (call_in p) fs e s)
 
-module _ (T : List Entry → Type 0) (p : typed.Program) (all : Whole) (o : Outset) (limit k : ℕ) (now : List ℕ) (mid : Interpreter) (x : on.Node) (port : PortView)
-    (s : Stands T p (λ n. all (n + k)) o now mid (enters x) port) (none : mid.kept ≡ None) where
+module _ (T : List Entry → Type 0) (p : typed.Program) (all : Whole) (o : Outset) (limit k : ℕ) (mid : Interpreter) (x : on.Node) (port : PortView)
+    (s : Stands T p (λ n. all (n + k)) o mid (enters x) port) (none : mid.kept ≡ None) where
   abbrev pub course : Course
   course = record { whole = all; input = s.input; history = s.history }
 
@@ -69,20 +68,17 @@ module _ (T : List Entry → Type 0) (p : typed.Program) (all : Whole) (o : Outs
       k < clock.spent → Comes found_of course (goes_to p (frames_of mid.machine)) limit (Some y) clock new.machine.scene → Runs T p all o clock.spent new (leaves (found_of y)) port
   unfolding left_of
   once_goes grows new clock y frames program t kept more came = record {
-    sent = now;
-    clock = k;
-    clock_is = omega (arith, more);
-    sent_is = bytes_now T p all o k now mid x port s none;
     grows = grows;
     stands = record {
+      sent = s.sent;
       input = s.input;
       history = s.history;
       program_is = ap (λ (b : Bor unit.Program). program_of b.now) program ∙ s.program_is;
       follows = λ n. ap (λ fs. goes_to p fs (found_of y) (state_at course new.machine.scene n)) frames ∙ came n;
       input_is = s.input_is;
       output_is = s.output_is;
-      bytes_are = s.bytes_are ∙ ap (λ k. now ++ waiting k) (sym kept);
-      done = done_kept o.input s.history s.input now mid.kept new.kept kept s.done;
+      bytes_are = s.bytes_are ∙ ap (λ k. s.sent ++ waiting k) (sym kept);
+      done = done_kept o.input s.history s.input s.sent mid.kept new.kept kept s.done;
       tells = tells_as p s.history s.history mid.tally new.tally refl t s.tells;
       told = s.told;
     };
@@ -94,17 +90,14 @@ module _ (T : List Entry → Type 0) (p : typed.Program) (all : Whole) (o : Outs
     history = s.history;
     stops = record { state = state_at course scene n; is = is; input_is = refl; history_is = refl };
     input_is = s.input_is;
-    output_is = output_as o.output port.output _ _ (none_waits s.history now mid.kept none s.bytes_are) s.output_is;
+    output_is = output_as o.output port.output _ _ (none_waits s.history s.sent mid.kept none s.bytes_are) s.output_is;
     tells = tells_as p s.history s.history mid.tally tally refl t s.tells;
     told = s.told;
   }
 
   -- or it is given up
   once_given_up : (tally : Tally) → k < limit → RunStops T p all o limit run.Memory tally port
-  once_given_up tally room = record {
-    earlier = (k, (omega (arith, room), output_as o.output port.output _ _ (bytes_now T p all o k now mid x port s none) s.output_is));
-    first = (0 + k, (omega (arith, room), (given_up_here T p (λ n. all (n + k)) o now mid (enters x) port s).begins));
-  }
+  once_given_up tally room = (0 + k, (omega (arith, room), given_up_here T p (λ n. all (n + k)) o mid (enters x) port s))
 
   -- or it stops
   pub once_stops : (tally : Tally) (scene : Scene) (spent : ℕ) (w : Why) → tally ≡ mid.tally → k < limit → spent ≤ limit → part.StopsBy course limit w spent scene → RunStops T p all o limit (stopped_for w) tally port

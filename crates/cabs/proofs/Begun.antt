@@ -109,28 +109,15 @@ module _ (whole : machine.Run on.Found) (o : Outset) where
     got_is = b.got_is;
   }
 
-module _ (T : List Entry → Type 0) (p : typed.Program) (whole : Whole) (o : Outset) (sent : List ℕ) where
+module _ (T : List Entry → Type 0) (p : typed.Program) (whole : Whole) (o : Outset) where
   -- a run that is given up at this state
-  pub given_up_here : (m : Interpreter) (x : on.Step) (port : PortView) → Stands T p whole o sent m x port → GivenUp whole o sent port
+  pub given_up_here : (m : Interpreter) (x : on.Step) (port : PortView) → Stands T p whole o m x port → GivenUp whole o port
   given_up_here m x port s =
       let a = left_adds p (frames_of m.machine) m.machine.scene x s.input s.history in
-      record {
-        output_is = s.output_is;
-        begins = done_begins (whole 0) o port s.history s.input sent m.kept (a.0, ap (λ r. trace_of (last_of r).history) (sym (s.follows 0)) ∙ a.1) s.input_is s.output_is s.done;
-      }
+      done_begins (whole 0) o port s.history s.input s.sent m.kept (a.0, ap (λ r. trace_of (last_of r).history) (sym (s.follows 0)) ∙ a.1) s.input_is s.output_is s.done
 
   -- where it stops
-  pub given_up_stopping : (e : machine.Ending) (m : Interpreter) (port : PortView) → Stopping T p whole o sent e m port → GivenUp whole o sent port
+  pub given_up_stopping : (e : machine.Ending) (m : Interpreter) (port : PortView) → Stopping T p whole o e m port → GivenUp whole o port
   given_up_stopping e m port s =
       let is = (s.stops 0).is in
-      record {
-        output_is = s.output_is;
-        begins = done_begins (whole 0) o port s.history s.input sent m.kept ([], ap (λ r. trace_of (last_of r).history) is ∙ ap trace_of (s.stops 0).history_is) s.input_is s.output_is s.done;
-      }
-
--- and the port refused
-pub given_up_kept : (whole : Whole) (o : Outset) (sent : List ℕ) (old new : PortView) → Keeps old.input new.input → Keeps old.output new.output → GivenUp whole o sent old → GivenUp whole o sent new
-given_up_kept whole o sent old new i k g = record {
-  output_is = output_kept o.output old.output new.output sent k g.output_is;
-  begins = begins_kept (whole 0) o old new i k g.begins;
-}
+      done_begins (whole 0) o port s.history s.input s.sent m.kept ([], ap (λ r. trace_of (last_of r).history) is ∙ ap trace_of (s.stops 0).history_is) s.input_is s.output_is s.done

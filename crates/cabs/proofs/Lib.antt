@@ -5,6 +5,7 @@ pub mod Telling
 pub mod Growing
 pub mod Begun
 pub mod Told
+pub mod GivenUp
 pub mod Acts
 pub mod Ticking
 pub mod AtOnce

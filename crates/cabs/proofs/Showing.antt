@@ -52,9 +52,9 @@ shown_next S U all k s tell is shows =
     }
 
 -- at a node that takes the next tick
-pub tick_shown : (T : List Entry → Type 0) (S U : List Store → Type 0) (p : typed.Program) (all : Whole) (o : Outset) (k : ℕ) (now : List ℕ) (mid : Interpreter) (x : on.Node) (port : PortView) →
-    Stands T p (λ n. all (n + k)) o now mid (enters x) port → ((l : List Store) → S l → U (store_of mid.machine.scene.store ∷ l)) → Showing S all k → Showing U all (k + 1)
-tick_shown T S U p all o k now mid x port s tell shows =
+pub tick_shown : (T : List Entry → Type 0) (S U : List Store → Type 0) (p : typed.Program) (all : Whole) (o : Outset) (k : ℕ) (mid : Interpreter) (x : on.Node) (port : PortView) →
+    Stands T p (λ n. all (n + k)) o mid (enters x) port → ((l : List Store) → S l → U (store_of mid.machine.scene.store ∷ l)) → Showing S all k → Showing U all (k + 1)
+tick_shown T S U p all o k mid x port s tell shows =
     let same : k ≡ 0 + k = omega arith in
     let fs = frames_of mid.machine in
     let scene = mid.machine.scene in
@@ -68,13 +68,13 @@ module _ (S : List Store → Type 0) (all : Whole) (k ticks : ℕ) (le : k ≤ t
       let same : k ≡ 0 + k = omega arith in
       record { taken = k; within = le; shows = shows; state = s.state; stops = ap all same ∙ s.is }
 
-  pub shown_until : (T : List Entry → Type 0) (p : typed.Program) (o : Outset) (sent : List ℕ) (r : Run) (tally : Tally) (port : PortView) →
-      StoppedBy T p (λ n. all (n + k)) o sent r tally port → ShowsUntil S all ticks r
-  shown_until T p o sent (run.Ended status) tally port s = shown_whole (machine.Ended status) s.input s.history (s.stops 0)
-  shown_until T p o sent (run.Undefined act at) tally port s = shown_whole (machine.Undefined act at) s.input s.history (s.stops 0)
-  shown_until T p o sent run.TicksUsed tally port s = inr (0 + k, s 0)
-  shown_until T p o sent (run.Port fault) tally port s = (k, (le, shows))
-  shown_until T p o sent run.Memory tally port s = (k, (le, shows))
+  pub shown_until : (T : List Entry → Type 0) (p : typed.Program) (o : Outset) (r : Run) (tally : Tally) (port : PortView) →
+      StoppedBy T p (λ n. all (n + k)) o r tally port → ShowsUntil S all ticks r
+  shown_until T p o (run.Ended status) tally port s = shown_whole (machine.Ended status) s.input s.history (s.stops 0)
+  shown_until T p o (run.Undefined act at) tally port s = shown_whole (machine.Undefined act at) s.input s.history (s.stops 0)
+  shown_until T p o run.TicksUsed tally port s = inr (0 + k, s 0)
+  shown_until T p o (run.Port fault) tally port s = (k, (le, shows))
+  shown_until T p o run.Memory tally port s = (k, (le, shows))
 
 pub shown_all : (S : List Store → Type 0) (all : Whole) (k ticks : ℕ) (r : Run) → k ≡ ticks → r ≡ run.TicksUsed → Showing S all k → ShowsUntil S all ticks r
 shown_all S all k ticks r e f shows =

@@ -39,7 +39,6 @@ use Rattle.cabs.specs.inside.Standing.{Grows, Outset, Runs, Stands, Whole, left_
 use Rattle.cabs.specs.inside.Sweeping.{After, AskedOn, AsksOn, ComesTo, FindsHere, FoundFor, Sweeps, steps_to}
 use Rattle.cabs.proofs.Begun.{done_kept}
 use Rattle.cabs.proofs.Telling.{tells_as}
-use Rattle.cabs.proofs.Ticking.{bytes_now}
 use Rattle.cabs.proofs.AtOnce.{goes_to, then_resumed}
 use Rattle.cabs.proofs.Following.{onto_resumed, resume_stops}
 
@@ -193,8 +192,8 @@ module _ (c : Course) (p : typed.Program) where
 
 -- ---- the run
 
-module _ (T : List Entry → Type 0) (p : typed.Program) (all : Whole) (o : Outset) (limit k : ℕ) (now : List ℕ) (mid : Interpreter) (x : on.Node) (port : PortView)
-    (s : Stands T p (λ n. all (n + k)) o now mid (enters x) port) (none : mid.kept ≡ None) where
+module _ (T : List Entry → Type 0) (p : typed.Program) (all : Whole) (o : Outset) (limit k : ℕ) (mid : Interpreter) (x : on.Node) (port : PortView)
+    (s : Stands T p (λ n. all (n + k)) o mid (enters x) port) (none : mid.kept ≡ None) where
   abbrev pub run_course : Course
   run_course = record { whole = all; input = s.input; history = s.history }
 
@@ -215,20 +214,17 @@ module _ (T : List Entry → Type 0) (p : typed.Program) (all : Whole) (o : Outs
       After run_course p spent (frames_of new.machine) new.machine.scene (steps_to y) → Runs T p all o spent new y port
   unfolding left_of
   sweep_goes grows new spent y program t kept more h = record {
-    sent = now;
-    clock = k;
-    clock_is = omega (arith, more);
-    sent_is = bytes_now T p all o k now mid x port s none;
     grows = grows;
     stands = record {
+      sent = s.sent;
       input = s.input;
       history = s.history;
       program_is = ap (λ (b : Bor unit.Program). program_of b.now) program ∙ s.program_is;
       follows = λ n. h.is_left n;
       input_is = s.input_is;
       output_is = s.output_is;
-      bytes_are = s.bytes_are ∙ ap (λ k. now ++ waiting k) (sym kept);
-      done = done_kept o.input s.history s.input now mid.kept new.kept kept s.done;
+      bytes_are = s.bytes_are ∙ ap (λ k. s.sent ++ waiting k) (sym kept);
+      done = done_kept o.input s.history s.input s.sent mid.kept new.kept kept s.done;
       tells = tells_as p s.history s.history mid.tally new.tally refl t s.tells;
       told = s.told;
     };

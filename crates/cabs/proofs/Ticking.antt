@@ -1,18 +1,16 @@
 -- The ticks, and the whole run.
 use Rattle.std.proofs.Common.{◌≡◌, ◌≤◌, ◌<◌, inl, inr, ℕ, suc, ◌+◌, ◌-◌, ℤ, List, [], ◌∷◌, ◌++◌, Option, Some, None, refl, sym, ap, ◌∙◌, subst, arith, Bor}
 use Rattle.std.specs.Prelude.{Result, Ok, Err, false, slice_get}
-use Rattle.std.specs.Io.KnownBytes.{Keeps, Appends}
 use Rattle.csem_events.specs.Events.{Event}
 use Rattle.typing_spec.specs.Program as typed
 use Rattle.typed_ast.specs.declared.units.Program as unit
 use Rattle.typed_ast.specs.View.{program_of}
-use Rattle.csem.specs.History.{Entry, Did, Entered, Left, trace_of, weight_in, greatest_sum}
-use Rattle.csem.proofs.Histories.{history_grows}
+use Rattle.csem.specs.History.{Entry, trace_of, weight_in, greatest_sum}
 use Rattle.csem.specs.Machine as machine
 use Rattle.csem.specs.Machine.{State, Ending, Goes, Stops, then_do}
 use Rattle.csem.specs.Statements.{Returned}
 use Rattle.csem.specs.Store.{first_store}
-use Rattle.csem.specs.Meaning.{start, end_with, calling, call_defined, cstep, last_of, ending_of, answer}
+use Rattle.csem.specs.Meaning.{start, end_with, calling, cstep, last_of, ending_of, answer}
 use Rattle.interp_store.specs.declared.stop.Stop.{Stop}
 use Rattle.interp_store.specs.declared.stop.Stop.TheVariants as stop
 use Rattle.interp_store.specs.declared.machine.Machine.{Machine}
@@ -37,49 +35,27 @@ use Rattle.cabs.specs.declared.outcome.Run.{Run}
 use Rattle.cabs.specs.declared.outcome.Run.TheVariants as run
 use Rattle.cabs.specs.Interpreting.{IsAnswer, IsGivenUp, IsBegun, IsTold, RunMeets}
 use Rattle.cabs.specs.inside.Standing.{Outset, Whole, left_of, waiting, bytes_of, entered_where, history_called, Stands, StopsAs, Stopping, StoppingBy, Stopped, StoppedBy, SettleMeets, Runs, StopsBy, EndsAs, RunStops, Fresh, NearsFrom, distance, Done, Grows, Begins, GivenUp, GivenUpBy}
-use Rattle.cabs.proofs.Begun.{done_kept, done_sent, nothing_done, given_up_here, begins_more}
+use Rattle.cabs.proofs.Begun.{done_kept, nothing_done, given_up_here, begins_more}
 use Rattle.cabs.proofs.Calm.{calm_outside, entered_calm}
+use Rattle.cabs.proofs.GivenUp.{trace_grows, given_up}
 use Rattle.cabs.proofs.Following.{outside, goes_on, stops_so, node_follows, node_stops, node_waits}
-use Rattle.cabs.proofs.Telling.{input_kept, output_kept, output_grown, output_as, append_none, none_waits, nothing_sent, tells_as}
+use Rattle.cabs.proofs.Telling.{input_kept, output_kept, output_as, none_waits, nothing_sent, tells_as}
 
--- ---- a node is reached
-
-pub node_reached : (T : List Entry → Type 0) (p : typed.Program) (whole : Whole) (o : Outset) (sent : List ℕ) (old new : Interpreter) (x : on.Step) (port port2 : PortView) → Stands T p whole o sent old x port →
-    Keeps port.input port2.input → Appends port.output port2.output (waiting old.kept) → new.machine ≡ old.machine → new.tally ≡ old.tally → new.kept ≡ None →
-    (now : List ℕ) × (Stands T p whole o now new x port2 × (new.kept ≡ None))
-node_reached T p whole o sent old new x port port2 s i a m t k = (
-  sent ++ waiting old.kept,
-  (
-    record {
-      input = s.input;
-      history = s.history;
-      program_is = ap (λ (m : Machine). program_of m.program.now) m ∙ s.program_is;
-      follows = λ n. ap (λ (m : Machine). left_of p (frames_of m) m.scene x s.input s.history n) m ∙ s.follows n;
-      input_is = input_kept port.input port2.input s.input i s.input_is;
-      output_is = output_grown o.output port.output port2.output sent (waiting old.kept) a s.output_is;
-      bytes_are = s.bytes_are ∙ append_none (sent ++ waiting old.kept) ∙ ap (λ k. (sent ++ waiting old.kept) ++ waiting k) (sym k);
-      done = done_sent o.input s.history s.input sent old.kept new.kept k s.done;
-      tells = tells_as p s.history s.history old.tally new.tally refl t s.tells;
-      told = s.told;
-    },
-    k,
-  ),
-)
-
-pub stands_as : (T : List Entry → Type 0) (p : typed.Program) (whole : Whole) (o : Outset) (sent : List ℕ) (m : Interpreter) (x y : on.Step) (port : PortView) → x ≡ y → Stands T p whole o sent m x port → Stands T p whole o sent m y port
-stands_as T p whole o sent m x y port e s = let P : on.Step → Type 0 = λ x. Stands T p whole o sent m x port in subst P e s
+pub stands_as : (T : List Entry → Type 0) (p : typed.Program) (whole : Whole) (o : Outset) (m : Interpreter) (x y : on.Step) (port : PortView) → x ≡ y → Stands T p whole o m x port → Stands T p whole o m y port
+stands_as T p whole o m x y port e s = let P : on.Step → Type 0 = λ x. Stands T p whole o m x port in subst P e s
 
 -- ---- the port flushes
 
-pub stands_rested : (T : List Entry → Type 0) (p : typed.Program) (whole : Whole) (o : Outset) (sent : List ℕ) (m : Interpreter) (x : on.Step) (old new : PortView) → Stands T p whole o sent m x old →
-    Flushes old new → Stands T p whole o sent m x new
-stands_rested T p whole o sent m x old new s f = record {
+pub stands_rested : (T : List Entry → Type 0) (p : typed.Program) (whole : Whole) (o : Outset) (m : Interpreter) (x : on.Step) (old new : PortView) → Stands T p whole o m x old →
+    Flushes old new → Stands T p whole o m x new
+stands_rested T p whole o m x old new s f = record {
+  sent = s.sent;
   input = s.input;
   history = s.history;
   program_is = s.program_is;
   follows = s.follows;
   input_is = input_kept old.input new.input s.input f.input_stays s.input_is;
-  output_is = output_kept o.output old.output new.output sent f.output_stays s.output_is;
+  output_is = output_kept o.output old.output new.output s.sent f.output_stays s.output_is;
   bytes_are = s.bytes_are;
   done = s.done;
   tells = s.tells;
@@ -89,39 +65,22 @@ stands_rested T p whole o sent m x old new s f = record {
 pub runs_rested : (T : List Entry → Type 0) (p : typed.Program) (all : Whole) (o : Outset) (k : ℕ) (m : Interpreter) (x : on.Step) (old new : PortView) → Runs T p all o k m x old → Flushes old new →
     Runs T p all o k m x new
 runs_rested T p all o k m x old new r f = record {
-  sent = r.sent;
-  clock = r.clock;
-  clock_is = r.clock_is;
-  sent_is = r.sent_is;
   grows = r.grows;
-  stands = stands_rested T p (λ n. all (n + k)) o r.sent m x old new r.stands f;
+  stands = stands_rested T p (λ n. all (n + k)) o m x old new r.stands f;
 }
 
 module _ (T : List Entry → Type 0) (p : typed.Program) (all : Whole) (o : Outset) where
   -- ---- how a run of that many ticks stops
 
-  given_up_by : (k clock : ℕ) (sent : List ℕ) (port : PortView) → clock ≤ k → sent ≡ bytes_of (last_of (all clock)).history → GivenUp (λ n. all (n + k)) o sent port → GivenUpBy all o k port
-  given_up_by k clock sent port le e s = record {
-    earlier = (clock, (le, output_as o.output port.output _ _ e s.output_is));
-    first = (0 + k, (omega arith, s.begins));
-  }
-
   given_up_later : (k ticks : ℕ) (port : PortView) → k ≤ ticks → GivenUpBy all o k port → GivenUpBy all o ticks port
-  given_up_later k ticks port le s =
-      let earlier = s.earlier in
-      let first = s.first in
-      record {
-        earlier = (earlier.0, (omega (arith, le, earlier.1.0), earlier.1.1));
-        first = (first.0, (omega (arith, le, first.1.0), first.1.1));
-      }
+  given_up_later k ticks port le s = (s.0, (omega (arith, le, s.1.0), s.1.1))
 
-  pub stops_by : (k clock : ℕ) (sent : List ℕ) (r : Run) (tally : Tally) (port : PortView) → clock ≤ k → sent ≡ bytes_of (last_of (all clock)).history →
-      StoppedBy T p (λ n. all (n + k)) o sent r tally port → StopsBy T p all o k r tally port
-  stops_by k clock sent (run.Ended status) tally port le e s = s
-  stops_by k clock sent (run.Undefined act at) tally port le e s = s
-  stops_by k clock sent run.TicksUsed tally port le e s = s
-  stops_by k clock sent (run.Port fault) tally port le e s = given_up_by k clock sent port le e s
-  stops_by k clock sent run.Memory tally port le e s = given_up_by k clock sent port le e s
+  pub stops_by : (k : ℕ) (r : Run) (tally : Tally) (port : PortView) → StoppedBy T p (λ n. all (n + k)) o r tally port → StopsBy T p all o k r tally port
+  stops_by k (run.Ended status) tally port s = s
+  stops_by k (run.Undefined act at) tally port s = s
+  stops_by k run.TicksUsed tally port s = s
+  stops_by k (run.Port fault) tally port s = (0 + k, (omega arith, s))
+  stops_by k run.Memory tally port s = (0 + k, (omega arith, s))
 
   next_clock : (n k : ℕ) → suc n + k ≡ n + (k + 1)
   next_clock n k = omega arith
@@ -174,17 +133,10 @@ module _ (T : List Entry → Type 0) (p : typed.Program) (all : Whole) (o : Outs
 
   -- ---- a tick
 
-  module _ (k : ℕ) (now : List ℕ) (mid : Interpreter) (x : on.Node) (port : PortView) (s : Stands T p (λ n. all (n + k)) o now mid (enters x) port) (none : mid.kept ≡ None) where
+  module _ (k : ℕ) (mid : Interpreter) (x : on.Node) (port : PortView) (s : Stands T p (λ n. all (n + k)) o mid (enters x) port) (none : mid.kept ≡ None) where
     -- without a further tick the run stops before the node
     waits_here : StopsAs (all (0 + k)) machine.TicksUsed s.input s.history
     waits_here = node_waits p (frames_of mid.machine) (frames_of mid.machine) x mid.machine.scene mid.machine.scene s.input s.history (λ n. all (n + k)) s.follows
-
-    pub bytes_now : now ≡ bytes_of (last_of (all k)).history
-    bytes_now =
-        let w = waits_here in
-        let same : 0 + k ≡ k = omega arith in
-        none_waits s.history now mid.kept none s.bytes_are ∙ ap bytes_of (sym w.history_is) ∙ sym (ap (λ r. bytes_of (last_of r).history) w.is)
-        ∙ ap (λ k. bytes_of (last_of (all k)).history) same
 
     takes_now : (r : Result Step Stop) (new : Machine) → Takes (λ p s. entered p x s) mid.machine r new → Takes (λ q s. entered p x s) mid.machine r new
     takes_now r new h =
@@ -194,12 +146,9 @@ module _ (T : List Entry → Type 0) (p : typed.Program) (all : Whole) (o : Outs
     pub tick_goes : Grows all → (new : Interpreter) (y : Step) → new.tally ≡ mid.tally → new.kept ≡ mid.kept → new.machine.program ≡ mid.machine.program → Takes (λ p s. entered p x s) mid.machine (Ok y) new.machine →
         Runs T p all o (k + 1) new (step_of y) port
     tick_goes grows new y t kept program takes = record {
-      sent = now;
-      clock = k;
-      clock_is = omega arith;
-      sent_is = bytes_now;
       grows = grows;
       stands = record {
+        sent = s.sent;
         input = s.input;
         history = s.history;
         program_is = ap (λ (b : Bor unit.Program). program_of b.now) program ∙ s.program_is;
@@ -207,16 +156,17 @@ module _ (T : List Entry → Type 0) (p : typed.Program) (all : Whole) (o : Outs
             ∙ ap all (next_clock n k);
         input_is = s.input_is;
         output_is = s.output_is;
-        bytes_are = s.bytes_are ∙ ap (λ k. now ++ waiting k) (sym kept);
-        done = done_kept o.input s.history s.input now mid.kept new.kept kept s.done;
+        bytes_are = s.bytes_are ∙ ap (λ k. s.sent ++ waiting k) (sym kept);
+        done = done_kept o.input s.history s.input s.sent mid.kept new.kept kept s.done;
         tells = tells_as p s.history s.history mid.tally new.tally refl t s.tells;
         told = s.told;
       };
     }
 
     tick_ends : (new : Interpreter) (e : Ending) → new.tally ≡ mid.tally → new.kept ≡ mid.kept → ((o : Outside) → onto (frames_of mid.machine) (entered p x (state_in mid.machine.scene o)) ≡ halts e (state_in new.machine.scene o)) →
-        Stopping T p (λ n. all (n + (k + 1))) o now e new port
+        Stopping T p (λ n. all (n + (k + 1))) o e new port
     tick_ends new e t kept takes = record {
+      sent = s.sent;
       input = s.input;
       history = s.history;
       stops = λ n.
@@ -224,22 +174,22 @@ module _ (T : List Entry → Type 0) (p : typed.Program) (all : Whole) (o : Outs
           subst P (next_clock n k) (node_stops p (frames_of mid.machine) (frames_of new.machine) x mid.machine.scene new.machine.scene s.input s.history (λ n. all (n + k)) s.follows e takes n);
       input_is = s.input_is;
       output_is = s.output_is;
-      bytes_are = s.bytes_are ∙ ap (λ k. now ++ waiting k) (sym kept);
-      done = done_kept o.input s.history s.input now mid.kept new.kept kept s.done;
+      bytes_are = s.bytes_are ∙ ap (λ k. s.sent ++ waiting k) (sym kept);
+      done = done_kept o.input s.history s.input s.sent mid.kept new.kept kept s.done;
       tells = tells_as p s.history s.history mid.tally new.tally refl t s.tells;
       told = s.told;
     }
 
     -- with one tick more it does the same first
-    given_up_ticking : Grows all → GivenUp (λ n. all (n + (k + 1))) o now port
+    given_up_ticking : Grows all → GivenUp (λ n. all (n + (k + 1))) o port
     given_up_ticking grows =
-        let g = given_up_here T p (λ n. all (n + k)) o now mid (enters x) port s in
+        let g = given_up_here T p (λ n. all (n + k)) o mid (enters x) port s in
         let next : suc (0 + k) ≡ 0 + (k + 1) = omega arith in
         let P : ℕ → Type 0 = λ k. Begins (all k) o port in
-        record { output_is = g.output_is; begins = subst P next (begins_more (all (0 + k)) o (all (suc (0 + k))) port (grows (0 + k)) g.begins) }
+        subst P next (begins_more (all (0 + k)) o (all (suc (0 + k))) port (grows (0 + k)) g)
 
     pub tick_stopping : Grows all → (new : Interpreter) (e : Stop) → new.tally ≡ mid.tally → new.kept ≡ mid.kept → Takes (λ p s. entered p x s) mid.machine (Err e) new.machine →
-        StoppingBy T p (λ n. all (n + (k + 1))) o now e new port
+        StoppingBy T p (λ n. all (n + (k + 1))) o e new port
     tick_stopping grows new (stop.Ended n) t kept takes = tick_ends new (machine.Ended n) t kept (takes_now (Err (stop.Ended n)) new.machine takes)
     tick_stopping grows new (stop.Undefined act at) t kept takes = tick_ends new (machine.Undefined act at) t kept (takes_now (Err (stop.Undefined act at)) new.machine takes)
     tick_stopping grows new stop.Memory t kept takes = given_up_ticking grows
@@ -253,14 +203,10 @@ module _ (T : List Entry → Type 0) (p : typed.Program) (all : Whole) (o : Outs
           history = s.history;
           stops = subst P same waits_here;
           input_is = s.input_is;
-          output_is = output_as o.output port.output _ _ (none_waits s.history now mid.kept none s.bytes_are) s.output_is;
+          output_is = output_as o.output port.output _ _ (none_waits s.history s.sent mid.kept none s.bytes_are) s.output_is;
           tells = s.tells;
           told = s.told;
         })
-
-pub tick_stops : (T U : List Entry → Type 0) (p : typed.Program) (all : Whole) (o : Outset) (k : ℕ) (now : List ℕ) (mid : Interpreter) (x : on.Node) (port : PortView) → Stands T p (λ n. all (n + k)) o now mid (enters x) port →
-    mid.kept ≡ None → (r : Run) (tally : Tally) (port2 : PortView) → StoppedBy U p (λ n. all (n + (k + 1))) o now r tally port2 → StopsBy U p all o (k + 1) r tally port2
-tick_stops T U p all o k now mid x port s none r tally port2 h = stops_by U p all o (k + 1) k now r tally port2 (omega arith) (bytes_now T p all o k now mid x port s none) h
 
 -- ---- the definition's run
 
@@ -286,40 +232,20 @@ as_found v = a_flow (Returned v)
 unfoldable pub run_of : typed.Program → List ℕ → Whole
 run_of p input n = given as_found (cstep n p input)
 
-first_bytes : (p : typed.Program) (g : Option typed.Function) (input : List ℕ) → bytes_of (last_of (then_do (call_defined p (calling p 0) g p.main [] (start 0 p input)) end_with)).history ≡ []
-first_bytes p None input = refl
-first_bytes p (Some g) input = refl
-
-pub nothing_put : (p : typed.Program) (input : List ℕ) → [] ≡ (answer 0 p input).output
-nothing_put p input = sym (first_bytes p (slice_get p.functions p.main) input)
-
-bytes_are_output : (p : typed.Program) (input : List ℕ) (n : ℕ) → bytes_of (last_of (run_of p input n)).history ≡ (answer n p input).output
-unfolding run_of
-bytes_are_output p input n = ap (λ (s : State). bytes_of s.history) (given_last as_found (cstep n p input))
-
 -- ---- the result of a run is the answer of the definition
-
--- with each further tick it does more
-trace_more : (newer h : List Entry) → trace_of (newer ++ h) ≡ trace_of newer ++ trace_of h
-trace_more [] h = refl
-trace_more (Did e ∷ newer) h = ap (λ l. e ∷ l) (trace_more newer h)
-trace_more (Entered f arguments ∷ newer) h = trace_more newer h
-trace_more (Left result ∷ newer) h = trace_more newer h
-
-one_more : (k : ℕ) → suc k ≡ 1 + k
-one_more k = omega arith
 
 no_more_events : (l : List Event) → l ≡ l ++ []
 no_more_events [] = refl
 no_more_events (e ∷ l) = ap (λ l. e ∷ l) (no_more_events l)
 
+-- with each further tick it does more
 run_grows : (p : typed.Program) (input : List ℕ) → Grows (run_of p input)
 unfolding run_of
 run_grows p input k =
-    let g = history_grows k 1 p input in (
-      trace_of g.0,
-      ap (λ (s : State). trace_of s.history) (given_last as_found (cstep (suc k) p input)) ∙ ap (λ n. trace_of (last_of (cstep n p input)).history) (one_more k) ∙ ap trace_of g.1 ∙ trace_more g.0 (last_of (cstep k p input)).history
-          ∙ ap (λ (s : State). trace_of g.0 ++ trace_of s.history) (sym (given_last as_found (cstep k p input))),
+    let g = trace_grows p input k in (
+      g.0,
+      ap (λ (s : State). trace_of s.history) (given_last as_found (cstep (suc k) p input)) ∙ g.1
+          ∙ ap (λ (s : State). g.0 ++ trace_of s.history) (sym (given_last as_found (cstep k p input))),
     )
 
 abbrev pub outset : List ℕ → PortView → Outset
@@ -336,9 +262,6 @@ module _ (T : List Entry → Type 0) (p : typed.Program) (input : List ℕ) (tic
         output_is = output_as old.output new.output _ _ (ap bytes_of (sym h.stops.history_is) ∙ sym (ap (λ r. bytes_of (last_of r).history) is)) h.output_is;
         greatest_is = h.tells.2 ∙ ap (greatest_sum (weight_in p)) (sym h.stops.history_is) ∙ sym (ap (λ r. greatest_sum (weight_in p) (last_of r).history) is);
       }
-
-  is_given_up : (clock : ℕ) → clock ≤ ticks → Appends old.output new.output (bytes_of (last_of (run_of p input clock)).history) → IsGivenUp p input ticks old new
-  is_given_up clock le h = (clock, (le, output_as old.output new.output _ _ (bytes_are_output p input clock) h))
 
   is_begun : (clock : ℕ) → clock ≤ ticks → Begins (run_of p input clock) (outset input old) new → IsBegun p input ticks old new
   unfolding run_of
@@ -376,8 +299,8 @@ module _ (T : List Entry → Type 0) (p : typed.Program) (input : List ℕ) (tic
   answered (run.Undefined act at) h = is_answer (machine.Undefined act at) h
   answered run.TicksUsed (inl h) = is_answer machine.TicksUsed h
   answered run.TicksUsed (inr h) = absurd (never_rests h.0 h.1.0 h.1.1)
-  answered (run.Port fault) h = (is_given_up h.earlier.0 h.earlier.1.0 h.earlier.1.1, is_begun h.first.0 h.first.1.0 h.first.1.1)
-  answered run.Memory h = (is_given_up h.earlier.0 h.earlier.1.0 h.earlier.1.1, is_begun h.first.0 h.first.1.0 h.first.1.1)
+  answered (run.Port fault) h = given_up p input old new ticks (is_begun h.0 h.1.0 h.1.1)
+  answered run.Memory h = given_up p input old new ticks (is_begun h.0 h.1.0 h.1.1)
 
 -- ---- main is called
 
@@ -418,19 +341,16 @@ bytes_entered None f = refl
 bytes_entered (Some g) f = refl
 
 pub given_up_first : (p : typed.Program) (input : List ℕ) (ticks : ℕ) (port : PortView) → port.input ≡ Some input → IsGivenUp p input ticks port port × IsBegun p input ticks port port
-given_up_first p input ticks port known = (
-  (0, (omega arith, output_as port.output port.output _ _ (nothing_put p input) (nothing_sent port.output))),
-  record {
-    clock = 0;
-    within = omega arith;
-    events = [];
-    begins = (trace_of (last_of (cstep 0 p input)).history, no_more_events (trace_of (last_of (cstep 0 p input)).history));
-    output_is = nothing_sent port.output;
-    left = input;
-    left_is = known;
-    got_is = refl;
-  },
-)
+given_up_first p input ticks port known = given_up p input port port ticks (record {
+  clock = 0;
+  within = omega arith;
+  events = [];
+  begins = (trace_of (last_of (cstep 0 p input)).history, no_more_events (trace_of (last_of (cstep 0 p input)).history));
+  output_is = nothing_sent port.output;
+  left = input;
+  left_is = known;
+  got_is = refl;
+})
 
 module _ (T : List Entry → Type 0) (p : typed.Program) (input : List ℕ) (old new : Interpreter) (mid : Machine) (f : ℕ) (port : PortView) (fresh : Fresh old) (same : mid ≡ old.machine)
     (prog : program_of mid.program.now ≡ p) (is_main : f ≡ p.main) (given : port.input ≡ Some input) (tells : (h : List Entry) → Tells p h old.tally → Tells p (history_called p (typed.function p.main) [] h) new.tally) (told : T (history_called p (typed.function p.main) [] [])) (kept : new.kept ≡ old.kept) where
@@ -455,12 +375,9 @@ module _ (T : List Entry → Type 0) (p : typed.Program) (input : List ℕ) (old
       let P : typed.Program → ℕ → List on.Frame → Type 0 = λ p f fs. (o : Outside) → onto fs (called_main p f mid.scene o) ≡ moves (frames_of new.machine) (step_of y) (state_in new.machine.scene (outside_behind (called_main p f mid.scene o))) in
       let begun : P p p.main [] = subst (λ (fs : List on.Frame). P p p.main fs) none (subst (λ (f : ℕ). P p f (frames_of mid)) is_main (subst (λ (p : typed.Program). P p f (frames_of mid)) prog acts)) in
       record {
-        sent = [];
-        clock = 0;
-        clock_is = omega arith;
-        sent_is = nothing_put p input ∙ sym (bytes_are_output p input 0);
         grows = run_grows p input;
         stands = record {
+          sent = [];
           input = input;
           history = first_history p input (frames_of new.machine) mid.scene new.machine.scene starts;
           program_is = ap (λ (b : Bor unit.Program). program_of b.now) program ∙ prog;
@@ -475,11 +392,12 @@ module _ (T : List Entry → Type 0) (p : typed.Program) (input : List ℕ) (old
       }
 
   main_ends : (e : Ending) → ((o : Outside) → onto (frames_of mid) (called_main (program_of mid.program.now) f mid.scene o) ≡ halts e (state_in new.machine.scene (outside_behind (called_main (program_of mid.program.now) f mid.scene o)))) →
-      Stopping T p (λ n. run_of p input (n + 0)) (outset input port) [] e new port
+      Stopping T p (λ n. run_of p input (n + 0)) (outset input port) e new port
   main_ends e acts =
       let P : typed.Program → ℕ → List on.Frame → Type 0 = λ p f fs. (o : Outside) → onto fs (called_main p f mid.scene o) ≡ halts e (state_in new.machine.scene (outside_behind (called_main p f mid.scene o))) in
       let begun : P p p.main [] = subst (λ (fs : List on.Frame). P p p.main fs) none (subst (λ (f : ℕ). P p f (frames_of mid)) is_main (subst (λ (p : typed.Program). P p f (frames_of mid)) prog acts)) in
       record {
+        sent = [];
         input = input;
         history = first_history p input (frames_of new.machine) mid.scene new.machine.scene starts;
         stops = main_stops p input (frames_of new.machine) mid.scene new.machine.scene starts e begun;
@@ -492,25 +410,22 @@ module _ (T : List Entry → Type 0) (p : typed.Program) (input : List ℕ) (old
       }
 
   pub main_stopping : (e : Stop) → Acts (λ p s. entered_call p to_end (slice_get p.functions f) f [] s) mid (Err e) new.machine →
-      StoppingBy T p (λ n. run_of p input (n + 0)) (outset input port) [] e new port
+      StoppingBy T p (λ n. run_of p input (n + 0)) (outset input port) e new port
   main_stopping (stop.Ended n) acts = main_ends (machine.Ended n) acts
   main_stopping (stop.Undefined act at) acts = main_ends (machine.Undefined act at) acts
   main_stopping stop.Memory acts = record {
+    events = [];
+    begins = (trace_of (last_of (run_of p input (0 + 0))).history, no_more_events (trace_of (last_of (run_of p input (0 + 0))).history));
     output_is = nothing_sent port.output;
-    begins = record {
-      events = [];
-      begins = (trace_of (last_of (run_of p input (0 + 0))).history, no_more_events (trace_of (last_of (run_of p input (0 + 0))).history));
-      output_is = nothing_sent port.output;
-      left = input;
-      left_is = given;
-      got_is = refl;
-    };
+    left = input;
+    left_is = given;
+    got_is = refl;
   }
 
-pub main_stopped : (T : List Entry → Type 0) (p : typed.Program) (input : List ℕ) (port : PortView) (ticks : ℕ) (r : Run) (tally : Tally) (now : PortView) → StoppedBy T p (λ n. run_of p input (n + 0)) (outset input port) [] r tally now →
+pub main_stopped : (T : List Entry → Type 0) (p : typed.Program) (input : List ℕ) (port : PortView) (ticks : ℕ) (r : Run) (tally : Tally) (now : PortView) → StoppedBy T p (λ n. run_of p input (n + 0)) (outset input port) r tally now →
     RunStops T p (run_of p input) (outset input port) ticks r tally now
 main_stopped T p input port ticks r tally now h =
-    run_stops T p (run_of p input) (outset input port) 0 ticks r tally now (omega arith) (stops_by T p (run_of p input) (outset input port) 0 0 [] r tally now (omega arith) (nothing_put p input ∙ sym (bytes_are_output p input 0)) h)
+    run_stops T p (run_of p input) (outset input port) 0 ticks r tally now (omega arith) (stops_by T p (run_of p input) (outset input port) 0 r tally now h)
 
 -- ---- nearer to the next node
 
@@ -537,16 +452,16 @@ told_new T a b input ticks r e h = let P : Bor unit.Program → Type 0 = λ b. I
 
 -- ---- after the last tick
 
-pub used_up : (T : List Entry → Type 0) (p : typed.Program) (all : Whole) (o : Outset) (k ticks : ℕ) (sent : List ℕ) (m : Interpreter) (n : Node) (r : Run) (port : PortView) → k ≡ ticks → r ≡ run.TicksUsed →
-    SettleMeets T p (λ n. all (n + k)) o sent (Ok n) m port → RunStops T p all o ticks r m.tally port
-used_up T p all o k ticks sent m n r port e f met =
+pub used_up : (T : List Entry → Type 0) (p : typed.Program) (all : Whole) (o : Outset) (k ticks : ℕ) (m : Interpreter) (n : Node) (r : Run) (port : PortView) → k ≡ ticks → r ≡ run.TicksUsed →
+    SettleMeets T p (λ n. all (n + k)) o (Ok n) m port → RunStops T p all o ticks r m.tally port
+used_up T p all o k ticks m n r port e f met =
     let P : ℕ → Type 0 = λ k. RunStops T p all o k run.TicksUsed m.tally port in
     let Q : Run → Type 0 = λ r. RunStops T p all o ticks r m.tally port in
-    subst Q (sym f) (subst P e (ticks_used T p all o k met.0 m (node_of n) port met.1.0 met.1.1))
+    subst Q (sym f) (subst P e (ticks_used T p all o k m (node_of n) port met.0 met.1))
 
-pub settle_ends : (U T : List Entry → Type 0) (p : typed.Program) (all : Whole) (o : Outset) (k ticks : ℕ) (old new : Interpreter) (y : on.Step) (x r : Run) (port port2 : PortView) → k ≡ ticks → r ≡ x → (runs : Runs U p all o k old y port) →
-    StoppedBy T p (λ n. all (n + k)) o runs.sent x new.tally port2 → RunStops T p all o ticks r new.tally port2
+pub settle_ends : (U T : List Entry → Type 0) (p : typed.Program) (all : Whole) (o : Outset) (k ticks : ℕ) (old new : Interpreter) (y : on.Step) (x r : Run) (port port2 : PortView) → k ≡ ticks → r ≡ x → Runs U p all o k old y port →
+    StoppedBy T p (λ n. all (n + k)) o x new.tally port2 → RunStops T p all o ticks r new.tally port2
 settle_ends U T p all o k ticks old new y x r port port2 e f runs h =
     let Q : Run → Type 0 = λ r. RunStops T p all o ticks r new.tally port2 in
     let le : k ≤ ticks = omega arith in
-    subst Q (sym f) (run_stops T p all o k ticks x new.tally port2 le (stops_by T p all o k runs.clock runs.sent x new.tally port2 runs.clock_is runs.sent_is h))
+    subst Q (sym f) (run_stops T p all o k ticks x new.tally port2 le (stops_by T p all o k x new.tally port2 h))

@@ -41,9 +41,10 @@ nothing_told false = tt
 pub same_history : (T : List Entry → Type 0) (h : List Entry) → T h → (g : List Entry) → g ≡ h → T g
 same_history T h t g e = subst T (sym e) t
 
-pub exactly : (T : List Entry → Type 0) (p : typed.Program) (whole : Whole) (o : Outset) (sent : List ℕ) (m : Interpreter) (x : on.Step) (port : PortView) (s : Stands T p whole o sent m x port) →
-    Stands (λ g. g ≡ s.history) p whole o sent m x port
-exactly T p whole o sent m x port s = record {
+pub exactly : (T : List Entry → Type 0) (p : typed.Program) (whole : Whole) (o : Outset) (m : Interpreter) (x : on.Step) (port : PortView) (s : Stands T p whole o m x port) →
+    Stands (λ g. g ≡ s.history) p whole o m x port
+exactly T p whole o m x port s = record {
+  sent = s.sent;
   input = s.input;
   history = s.history;
   program_is = s.program_is;
@@ -57,8 +58,9 @@ exactly T p whole o sent m x port s = record {
 }
 
 module _ (T U : List Entry → Type 0) (k : (h : List Entry) → T h → U h) (p : typed.Program) (o : Outset) where
-  pub stands_told : (whole : Whole) (sent : List ℕ) (m : Interpreter) (x : on.Step) (port : PortView) → Stands T p whole o sent m x port → Stands U p whole o sent m x port
-  stands_told whole sent m x port s = record {
+  pub stands_told : (whole : Whole) (m : Interpreter) (x : on.Step) (port : PortView) → Stands T p whole o m x port → Stands U p whole o m x port
+  stands_told whole m x port s = record {
+    sent = s.sent;
     input = s.input;
     history = s.history;
     program_is = s.program_is;
@@ -71,8 +73,9 @@ module _ (T U : List Entry → Type 0) (k : (h : List Entry) → T h → U h) (p
     told = k s.history s.told;
   }
 
-  stopping_told : (whole : Whole) (sent : List ℕ) (e : machine.Ending) (m : Interpreter) (port : PortView) → Stopping T p whole o sent e m port → Stopping U p whole o sent e m port
-  stopping_told whole sent e m port s = record {
+  stopping_told : (whole : Whole) (e : machine.Ending) (m : Interpreter) (port : PortView) → Stopping T p whole o e m port → Stopping U p whole o e m port
+  stopping_told whole e m port s = record {
+    sent = s.sent;
     input = s.input;
     history = s.history;
     stops = s.stops;
@@ -84,10 +87,10 @@ module _ (T U : List Entry → Type 0) (k : (h : List Entry) → T h → U h) (p
     told = k s.history s.told;
   }
 
-  pub stopping_by_told : (whole : Whole) (sent : List ℕ) (e : Stop) (m : Interpreter) (port : PortView) → StoppingBy T p whole o sent e m port → StoppingBy U p whole o sent e m port
-  stopping_by_told whole sent (stop.Ended n) m port s = stopping_told whole sent (machine.Ended n) m port s
-  stopping_by_told whole sent (stop.Undefined act at) m port s = stopping_told whole sent (machine.Undefined act at) m port s
-  stopping_by_told whole sent stop.Memory m port s = s
+  pub stopping_by_told : (whole : Whole) (e : Stop) (m : Interpreter) (port : PortView) → StoppingBy T p whole o e m port → StoppingBy U p whole o e m port
+  stopping_by_told whole (stop.Ended n) m port s = stopping_told whole (machine.Ended n) m port s
+  stopping_by_told whole (stop.Undefined act at) m port s = stopping_told whole (machine.Undefined act at) m port s
+  stopping_by_told whole stop.Memory m port s = s
 
   stopped_told : (whole : Whole) (e : machine.Ending) (tally : Tally) (port : PortView) → Stopped T p whole o e tally port → Stopped U p whole o e tally port
   stopped_told whole e tally port s = record {
@@ -100,25 +103,21 @@ module _ (T U : List Entry → Type 0) (k : (h : List Entry) → T h → U h) (p
     told = k s.history s.told;
   }
 
-  pub stopped_by_told : (whole : Whole) (sent : List ℕ) (r : Run) (tally : Tally) (port : PortView) → StoppedBy T p whole o sent r tally port → StoppedBy U p whole o sent r tally port
-  stopped_by_told whole sent (run.Ended n) tally port s = stopped_told whole (machine.Ended n) tally port s
-  stopped_by_told whole sent (run.Undefined act at) tally port s = stopped_told whole (machine.Undefined act at) tally port s
-  stopped_by_told whole sent run.TicksUsed tally port s = s
-  stopped_by_told whole sent (run.Port fault) tally port s = s
-  stopped_by_told whole sent run.Memory tally port s = s
+  pub stopped_by_told : (whole : Whole) (r : Run) (tally : Tally) (port : PortView) → StoppedBy T p whole o r tally port → StoppedBy U p whole o r tally port
+  stopped_by_told whole (run.Ended n) tally port s = stopped_told whole (machine.Ended n) tally port s
+  stopped_by_told whole (run.Undefined act at) tally port s = stopped_told whole (machine.Undefined act at) tally port s
+  stopped_by_told whole run.TicksUsed tally port s = s
+  stopped_by_told whole (run.Port fault) tally port s = s
+  stopped_by_told whole run.Memory tally port s = s
 
-  pub settle_told : (whole : Whole) (sent : List ℕ) (r : Result Node Run) (m : Interpreter) (port : PortView) → SettleMeets T p whole o sent r m port → SettleMeets U p whole o sent r m port
-  settle_told whole sent (Ok n) m port s = (s.0, (stands_told whole s.0 m _ port s.1.0, s.1.1))
-  settle_told whole sent (Err r) m port s = stopped_by_told whole sent r m.tally port s
+  pub settle_told : (whole : Whole) (r : Result Node Run) (m : Interpreter) (port : PortView) → SettleMeets T p whole o r m port → SettleMeets U p whole o r m port
+  settle_told whole (Ok n) m port s = (stands_told whole m _ port s.0, s.1)
+  settle_told whole (Err r) m port s = stopped_by_told whole r m.tally port s
 
   pub runs_told : (all : Whole) (spent : ℕ) (m : Interpreter) (x : on.Step) (port : PortView) → Runs T p all o spent m x port → Runs U p all o spent m x port
   runs_told all spent m x port r = record {
-    sent = r.sent;
-    clock = r.clock;
-    clock_is = r.clock_is;
-    sent_is = r.sent_is;
     grows = r.grows;
-    stands = stands_told (λ n. all (n + spent)) r.sent m x port r.stands;
+    stands = stands_told (λ n. all (n + spent)) m x port r.stands;
   }
 
   ends_told : (all : machine.Run on.Found) (e : machine.Ending) (tally : Tally) (port : PortView) → EndsAs T p all o e tally port → EndsAs U p all o e tally port

@@ -1,5 +1,5 @@
 -- The result of interpreting a program over a port whose input, and perhaps whose output, contracts can see.
-use Rattle.std.specs.Prelude.{◌≡◌, ◌≤◌, ◌<◌, ℕ, zero, suc, List, [], ◌∷◌, ◌++◌, Option, None, Some, ⊤}
+use Rattle.std.specs.Prelude.{◌≡◌, ◌≤◌, ◌<◌, ◌⊎◌, ℕ, zero, suc, List, [], ◌∷◌, ◌++◌, Option, None, Some, ⊤}
 use Rattle.std.specs.Io.KnownBytes.{Appends}
 use Rattle.typing_spec.specs.Program.{Program}
 use Rattle.csem.specs.Machine.{Ending, Ended, Undefined, TicksUsed}
@@ -19,9 +19,23 @@ pub record IsAnswer (a : Answer) (e : Ending) (greatest : ℕ) (old new : PortVi
   pub output_is : Appends old.output new.output a.output
   pub greatest_is : greatest ≡ a.greatest
 
--- the bytes written are those of the answer for a clock that is no greater
+-- the bytes written are those of the answer for this clock
+abbrev pub IsAtClock : Program → List ℕ → PortView → PortView → ℕ → Type 0
+IsAtClock p input old new clock = Appends old.output new.output (answer clock p input).output
+
+-- the tick after this clock writes several bytes, of which some were written and some not. main may do that if it calls itself: its
+-- value is 0 where its body ends, and no tick lies between the end and the call that passes this 0 on
+pub record IsInsideTick (p : Program) (input : List ℕ) (old new : PortView) (clock : ℕ) : Type 0 where
+  pub first : ℕ
+  pub some : List ℕ
+  pub next : ℕ
+  pub rest : List ℕ
+  pub tick_is : (answer (suc clock) p input).output ≡ ((answer clock p input).output ++ first ∷ some) ++ next ∷ rest
+  pub output_is : Appends old.output new.output ((answer clock p input).output ++ first ∷ some)
+
+-- the bytes written are those of the answer for a clock that is no greater, or a tick that writes several bytes was not ended
 abbrev pub IsGivenUp : Program → List ℕ → ℕ → PortView → PortView → Type 0
-IsGivenUp p input ticks old new = (clock : ℕ) × ((clock ≤ ticks) × Appends old.output new.output (answer clock p input).output)
+IsGivenUp p input ticks old new = (clock : ℕ) × (((clock ≤ ticks) × IsAtClock p input old new clock) ⊎ ((clock < ticks) × IsInsideTick p input old new clock))
 
 -- what was read and written together is a beginning of what the run does with some clock that is no greater: all events up to one of them,
 -- the newest first. So no byte is held back that was written before another was read

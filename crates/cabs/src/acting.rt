@@ -7,7 +7,6 @@ ghost use Rattle.typed_ast.specs.View.{callee_of};
 ghost use Rattle.csem.specs.Expressions as meaning;
 ghost use Rattle.csem.specs.History.{Entry};
 ghost use Rattle.csem.specs.Store.{Store};
-ghost use Rattle.io_ports.specs.Port.{PortView};
 ghost use Rattle.typing_spec.specs.Program as typed;
 ghost use Rattle.interp_store.specs.layer.Frames as on;
 ghost use Rattle.interp_store.specs.layer.Agrees.{frames_of};
@@ -34,8 +33,8 @@ pub fn finish<P: Port, O: Observer>(
     observer: &mut O,
     stop: Stop,
 ) -> Run
-    ensures meets { (b : Bool) (p : typed.Program) (whole : Whole) (o : Outset) (sent : List ℕ) →
-        StoppingBy (Knows b (O.told observer.old)) p whole o sent stop interpreter.old (P.seen port.old) → StoppedBy (Knows b (O.told observer.new)) p whole o sent result interpreter.new.tally (P.seen port.new) }
+    ensures meets { (b : Bool) (p : typed.Program) (whole : Whole) (o : Outset) →
+        StoppingBy (Knows b (O.told observer.old)) p whole o stop interpreter.old (P.seen port.old) → StoppedBy (Knows b (O.told observer.new)) p whole o result interpreter.new.tally (P.seen port.new) }
     ensures counts { Counts result (P.seen port.old).failures (P.seen port.new).failures }
     ensures fault { Blames (P.refused_with port.new) result }
     ensures shown { (l : List Store) → O.shown observer.old l → O.shown observer.new l }
@@ -64,8 +63,8 @@ fn act_unseen<'p, P: Port, O: Observer>(
     observer: &mut O,
     found: Found,
 ) -> Result<Step<'p>, Run>
-    ensures meets { (b : Bool) (p : typed.Program) (whole : Whole) (o : Outset) (sent : List ℕ) →
-        Stands (Knows b (O.told observer.old)) p whole o sent interpreter.old (on.leaves (found_of found)) (P.seen port.old) → ActMeets (Knows b (O.told observer.new)) p whole o sent result interpreter.new (P.seen port.new) }
+    ensures meets { (b : Bool) (p : typed.Program) (whole : Whole) (o : Outset) →
+        Stands (Knows b (O.told observer.old)) p whole o interpreter.old (on.leaves (found_of found)) (P.seen port.old) → ActMeets (Knows b (O.told observer.new)) p whole o result interpreter.new (P.seen port.new) }
     ensures nears { Nears (frames_of interpreter.old.machine) (on.leaves (found_of found)) result (frames_of interpreter.new.machine) }
     ensures counts { CountsUntil result (P.seen port.old).failures (P.seen port.new).failures }
     ensures fault { BlamesUntil (P.refused_with port.new) result }
@@ -91,8 +90,8 @@ fn act_found<'p, P: Port, O: Observer>(
     observer: &mut O,
     found: Found,
 ) -> Result<Step<'p>, Run>
-    ensures meets { (b : Bool) (p : typed.Program) (whole : Whole) (o : Outset) (sent : List ℕ) →
-        Stands (Knows b (O.told observer.old)) p whole o sent interpreter.old (on.leaves (found_of found)) (P.seen port.old) → ActMeets (Knows b (O.told observer.new)) p whole o sent result interpreter.new (P.seen port.new) }
+    ensures meets { (b : Bool) (p : typed.Program) (whole : Whole) (o : Outset) →
+        Stands (Knows b (O.told observer.old)) p whole o interpreter.old (on.leaves (found_of found)) (P.seen port.old) → ActMeets (Knows b (O.told observer.new)) p whole o result interpreter.new (P.seen port.new) }
     ensures nears { Nears (frames_of interpreter.old.machine) (on.leaves (found_of found)) result (frames_of interpreter.new.machine) }
     ensures counts { CountsUntil result (P.seen port.old).failures (P.seen port.new).failures }
     ensures fault { BlamesUntil (P.refused_with port.new) result }
@@ -116,16 +115,16 @@ fn act_found<'p, P: Port, O: Observer>(
     }
 }
 
-/// Reads the next byte of the input, or returns -1 at its end.
+/// Reads the next byte of the input, or returns -1 at its end. The pending byte is written first.
 ///
-/// Errors: the port refused; no byte may be pending.
+/// Errors: the port refused.
 fn get<'p, P: Port, O: Observer>(
     interpreter: &mut Interpreter<'p>,
     port: &mut P,
     observer: &mut O,
 ) -> Result<Step<'p>, Run>
-    ensures meets { (b : Bool) (p : typed.Program) (whole : Whole) (o : Outset) (sent : List ℕ) (at : Pos) (used : Bool) (passed : List meaning.Passed) →
-        Stands (Knows b (O.told observer.old)) p whole o sent interpreter.old (on.calls at typed.get_byte used passed) (P.seen port.old) → ActMeets (Knows b (O.told observer.new)) p whole o sent result interpreter.new (P.seen port.new) }
+    ensures meets { (b : Bool) (p : typed.Program) (whole : Whole) (o : Outset) (at : Pos) (used : Bool) (passed : List meaning.Passed) →
+        Stands (Knows b (O.told observer.old)) p whole o interpreter.old (on.calls at typed.get_byte used passed) (P.seen port.old) → ActMeets (Knows b (O.told observer.new)) p whole o result interpreter.new (P.seen port.new) }
     ensures found { IfOk result (λ x. IsLeft x) }
     ensures machine { interpreter.new.machine ≡ interpreter.old.machine }
     ensures counts { CountsUntil result (P.seen port.old).failures (P.seen port.new).failures }
@@ -133,8 +132,9 @@ fn get<'p, P: Port, O: Observer>(
     ensures shown { (l : List Store) → O.shown observer.old l → O.shown observer.new l }
     ensures always { O.always observer.old → O.always observer.new }
 {
-    if interpreter.kept.is_some() {
-        return Err(Run::Memory);
+    match interpreter.send(port) {
+        Ok(()) => {}
+        Err(fault) => return Err(Run::Port(fault)),
     }
     match port.get() {
         Ok(Some(byte)) => {
@@ -149,30 +149,32 @@ fn get<'p, P: Port, O: Observer>(
     }
 }
 
-/// Makes a byte pending, to be written.
+/// Makes a byte pending, to be written. The byte that was pending is written first.
 ///
-/// Errors: no other byte may be pending.
-fn put<'p, O: Observer>(
+/// Errors: the port refused.
+fn put<'p, P: Port, O: Observer>(
     interpreter: &mut Interpreter<'p>,
+    port: &mut P,
     observer: &mut O,
     byte: u8,
 ) -> Result<Step<'p>, Run>
-    ensures meets { (b : Bool) (p : typed.Program) (whole : Whole) (o : Outset) (sent : List ℕ) (at : Pos) (used : Bool) (passed : List meaning.Passed) (port : PortView) →
+    ensures meets { (b : Bool) (p : typed.Program) (whole : Whole) (o : Outset) (at : Pos) (used : Bool) (passed : List meaning.Passed) →
         byte ≡ modulo 8 (meaning.first_number passed) →
-        Stands (Knows b (O.told observer.old)) p whole o sent interpreter.old (on.calls at typed.put_byte used passed) port → ActMeets (Knows b (O.told observer.new)) p whole o sent result interpreter.new port }
+        Stands (Knows b (O.told observer.old)) p whole o interpreter.old (on.calls at typed.put_byte used passed) (P.seen port.old) → ActMeets (Knows b (O.told observer.new)) p whole o result interpreter.new (P.seen port.new) }
     ensures found { IfOk result (λ x. IsLeft x) }
     ensures machine { interpreter.new.machine ≡ interpreter.old.machine }
-    ensures memory { IfErr result (λ run. run ≡ Run.Memory) }
+    ensures counts { CountsUntil result (P.seen port.old).failures (P.seen port.new).failures }
+    ensures fault { BlamesUntil (P.refused_with port.new) result }
     ensures shown { (l : List Store) → O.shown observer.old l → O.shown observer.new l }
     ensures always { O.always observer.old → O.always observer.new }
 {
-    match interpreter.kept {
-        Some(_) => Err(Run::Memory),
-        None => {
+    match interpreter.send(port) {
+        Ok(()) => {
             interpreter.kept = Some(byte);
             observer.puts(byte);
             Ok(Step::Leaves(Found::Value(0)))
         }
+        Err(fault) => Err(Run::Port(fault)),
     }
 }
 
@@ -204,9 +206,9 @@ fn act_call<'p, P: Port, O: Observer>(
     used: bool,
     passed: &[Passed],
 ) -> Result<Step<'p>, Run>
-    ensures meets { (b : Bool) (p : typed.Program) (whole : Whole) (o : Outset) (sent : List ℕ) →
-        Stands (Knows b (O.told observer.old)) p whole o sent interpreter.old (on.calls at (callee_of callee) used (map passed_of passed.now)) (P.seen port.old) →
-        ActMeets (Knows b (O.told observer.new)) p whole o sent result interpreter.new (P.seen port.new) }
+    ensures meets { (b : Bool) (p : typed.Program) (whole : Whole) (o : Outset) →
+        Stands (Knows b (O.told observer.old)) p whole o interpreter.old (on.calls at (callee_of callee) used (map passed_of passed.now)) (P.seen port.old) →
+        ActMeets (Knows b (O.told observer.new)) p whole o result interpreter.new (P.seen port.new) }
     ensures nears { Nears (frames_of interpreter.old.machine) (on.calls at (callee_of callee) used (map passed_of passed.now)) result (frames_of interpreter.new.machine) }
     ensures counts { CountsUntil result (P.seen port.old).failures (P.seen port.new).failures }
     ensures fault { BlamesUntil (P.refused_with port.new) result }
@@ -223,7 +225,7 @@ fn act_call<'p, P: Port, O: Observer>(
             Ok(step)
         }
         Ok(Called::Gets) => get(interpreter, port, observer),
-        Ok(Called::Puts(byte)) => put(interpreter, observer, byte),
+        Ok(Called::Puts(byte)) => put(interpreter, port, observer, byte),
         Err(stop) => Err(finish(interpreter, port, observer, stop)),
     }
 }
@@ -237,8 +239,8 @@ pub fn act<'p, P: Port, O: Observer>(
     observer: &mut O,
     next: Step<'p>,
 ) -> Result<Step<'p>, Run>
-    ensures meets { (b : Bool) (p : typed.Program) (whole : Whole) (o : Outset) (sent : List ℕ) →
-        Stands (Knows b (O.told observer.old)) p whole o sent interpreter.old (step_of next.entry) (P.seen port.old) → ActMeets (Knows b (O.told observer.new)) p whole o sent result interpreter.new (P.seen port.new) }
+    ensures meets { (b : Bool) (p : typed.Program) (whole : Whole) (o : Outset) →
+        Stands (Knows b (O.told observer.old)) p whole o interpreter.old (step_of next.entry) (P.seen port.old) → ActMeets (Knows b (O.told observer.new)) p whole o result interpreter.new (P.seen port.new) }
     ensures nears { NearsFrom (frames_of interpreter.old.machine) (step_of next.entry) result (frames_of interpreter.new.machine) }
     ensures counts { CountsUntil result (P.seen port.old).failures (P.seen port.new).failures }
     ensures fault { BlamesUntil (P.refused_with port.new) result }

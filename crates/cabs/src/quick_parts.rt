@@ -40,8 +40,8 @@ pub fn at_once<'p>(
 ) -> Result<Step<'p>, Run>
     requires quick { quick_node (node_of node.now) ≡ true }
     requires room { spent.old < limit }
-    ensures meets { (h : List Entry) (p : typed.Program) (all : Whole) (o : Outset) (sent : List ℕ) (port : PortView) → Grows all →
-        Stands (λ g. g ≡ h) p (λ n. all (n + spent.old)) o sent interpreter.old (on.enters (node_of node.now)) port → interpreter.old.kept ≡ None →
+    ensures meets { (h : List Entry) (p : typed.Program) (all : Whole) (o : Outset) (port : PortView) → Grows all →
+        Stands (λ g. g ≡ h) p (λ n. all (n + spent.old)) o interpreter.old (on.enters (node_of node.now)) port → interpreter.old.kept ≡ None →
         MeetsAt (λ g. g ≡ h) p all o limit result spent.new interpreter.new port }
     ensures spends { Spends result spent.old spent.new limit }
     ensures calm { IsCalm result }

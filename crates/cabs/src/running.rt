@@ -40,8 +40,8 @@ fn reach<'p, P: Port>(
     port: &mut P,
     node: Node<'p>,
 ) -> Result<Node<'p>, Run>
-    ensures meets { (h : List Entry) (p : typed.Program) (whole : Whole) (o : Outset) (sent : List ℕ) →
-        Stands (λ g. g ≡ h) p whole o sent interpreter.old (on.enters (node_of node.entry)) (P.seen port.old) → SettleMeets (λ g. g ≡ h) p whole o sent result interpreter.new (P.seen port.new) }
+    ensures meets { (h : List Entry) (p : typed.Program) (whole : Whole) (o : Outset) →
+        Stands (λ g. g ≡ h) p whole o interpreter.old (on.enters (node_of node.entry)) (P.seen port.old) → SettleMeets (λ g. g ≡ h) p whole o result interpreter.new (P.seen port.new) }
     ensures counts { CountsUntil result (P.seen port.old).failures (P.seen port.new).failures }
     ensures fault { BlamesUntil (P.refused_with port.new) result }
 {
@@ -60,8 +60,8 @@ fn settle<'p, P: Port, O: Observer>(
     observer: &mut O,
     first: Step<'p>,
 ) -> Result<Node<'p>, Run>
-    ensures meets { (b : Bool) (p : typed.Program) (whole : Whole) (o : Outset) (sent : List ℕ) →
-        Stands (Knows b (O.told observer.old)) p whole o sent interpreter.old (step_of first.entry) (P.seen port.old) → SettleMeets (Knows b (O.told observer.new)) p whole o sent result interpreter.new (P.seen port.new) }
+    ensures meets { (b : Bool) (p : typed.Program) (whole : Whole) (o : Outset) →
+        Stands (Knows b (O.told observer.old)) p whole o interpreter.old (step_of first.entry) (P.seen port.old) → SettleMeets (Knows b (O.told observer.new)) p whole o result interpreter.new (P.seen port.new) }
     ensures shown { (l : List Store) → O.shown observer.old l → O.shown observer.new l }
     ensures always { O.always observer.old → O.always observer.new }
     ensures counts { CountsUntil result (P.seen port.old).failures (P.seen port.new).failures }

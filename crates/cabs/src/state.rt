@@ -29,8 +29,8 @@ use typed_ast::{Callee, Program};
 
 /// A run between two steps: the machine, the weights of the active calls, and a byte that is pending.
 ///
-/// A byte goes to the port with the next tick and not before, so that after each refusal the output is that of a whole number
-/// of ticks.
+/// A byte goes to the port with the next tick, or before the next byte that the same tick reads or writes. So after a refusal
+/// the output is that of a whole number of ticks, unless one tick reads or writes several bytes.
 #[derive(Drop)]
 pub struct Interpreter<'p> {
     pub machine: Machine<'p>,

@@ -5,7 +5,7 @@ use Rattle.srcset.specs.NameTable.{Texts}
 use Rattle.typing_spec.specs.Program.{Program}
 use Rattle.memory_map.specs.MemoryMap.{text_start}
 use Rattle.asm.specs.declared.item.Item.{Item}
-use Rattle.asm.specs.Layout.{IsLow}
+use Rattle.asm.specs.Layout.{IsLow, AllReach}
 use Rattle.select.specs.Program.{program_items}
 use Rattle.cc_backend.specs.Made.{IsFileOf}
 use Rattle.cc.specs.declared.compiling.Built.{Built}
@@ -26,9 +26,11 @@ pub record ListsProgram (stack : ℕ) (texts : Texts) (program : Program) (built
   pub makes : MakesProgram stack texts program built
   pub items_are : items ≡ program_items makes.file.code
   pub low : IsLow text_start items
+  pub reach : AllReach text_start items
 
 -- The file of the set's program, and the items of this very file: so the listing is that of the file.
 pub record IsListed (stack : ℕ) (set : Files) (name : List ℕ) (built : Built) (items : List Item) : Type 0 where
   pub made : IsMade stack set name built
   pub items_are : items ≡ program_items made.file.code
   pub low : IsLow text_start items
+  pub reach : AllReach text_start items

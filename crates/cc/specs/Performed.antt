@@ -23,7 +23,6 @@ use Rattle.asm.specs.declared.item.Item.{Item}
 use Rattle.asm.specs.Listing.{Lists}
 use Rattle.asm.specs.Refusals.{WritesBeginning}
 use Rattle.memory_map.specs.MemoryMap.{text_start}
-use Rattle.cc_backend.specs.Made.{AreItemsOf}
 use Rattle.loader.specs.declared.fault.LoadFault.{LoadFault}
 use Rattle.loader.specs.Fault.{code_of}
 use Rattle.tree.specs.Tree.{ExternalTree}
@@ -31,7 +30,8 @@ use Rattle.typing_spec.specs.Program.{Program}
 use Rattle.cabs.specs.declared.outcome.Run.{Run as Interpreted}
 use Rattle.cabs.specs.declared.outcome.Run.TheVariants as interpreted
 use Rattle.cabs.specs.Interpreting as interpreting
-use Rattle.cc.specs.Compiled.{HasList, HasProgram, Compiles}
+use Rattle.cc.specs.Compiled.{HasList, HasProgram}
+use Rattle.cc.specs.Made.{IsMade, IsListed}
 use Rattle.cc.specs.Refused.{FailsPreprocessing, IsRefused}
 use Rattle.cc.specs.Reported.{Said, Says, SaysOutcome, SaysRun, fault_text}
 use Rattle.cc.specs.Transfer.{PutsAll, WritesSome}
@@ -41,13 +41,13 @@ use Rattle.cc.specs.Transfer.{PutsAll, WritesSome}
 -- the set is a program, and its whole file was put
 pub record BuildsInto (stack : ℕ) (set : Files) (name : List ℕ) (old new : PortView) : Type 0 where
   pub built : Built
-  pub compiles : Compiles stack set name built
+  pub made : IsMade stack set name built
   pub puts : PutsAll old new built.elf.items
 
 -- the set is a program, and its file was not put whole
 pub record BuildsSome (stack : ℕ) (set : Files) (name output : List ℕ) (refuses : PortFault → Type 0) (old new : PortView) (fault : Fault) : Type 0 where
   pub built : Built
-  pub compiles : Compiles stack set name built
+  pub made : IsMade stack set name built
   pub writes : WritesSome output built.elf.items refuses old new fault
 
 -- the set is refused with this fault, and nothing was put; or its file was not put whole
@@ -93,24 +93,18 @@ Prints set name out said status =
 
 -- ---- listing
 
--- the set has a program, and the whole listing of its code was written: a line for each word of the text
+-- the whole listing of the set's file was written: a line for each word of its text
 pub record ListsAll (stack : ℕ) (set : Files) (name : List ℕ) (out : Said) : Type 0 where
-  pub texts : Texts
-  pub unit : List ExternalTree
-  pub program : Program
-  pub has_program : HasProgram stack set name texts unit program
+  pub built : Built
   pub items : List Item
-  pub items_are : AreItemsOf stack program items
+  pub listed : IsListed stack set name built items
   pub lists : Lists text_start items out.before out.after
 
--- the set has a program, and the listing was not written whole: memory ran out before, or the writer took a beginning of it
+-- the set has a file, and its listing was not written whole: memory ran out before, or the writer took a beginning of it
 pub record ListsSome (stack : ℕ) (set : Files) (name : List ℕ) (out : Said) (fault : Fault) : Type 0 where
-  pub texts : Texts
-  pub unit : List ExternalTree
-  pub program : Program
-  pub has_program : HasProgram stack set name texts unit program
+  pub built : Built
   pub items : List Item
-  pub items_are : AreItemsOf stack program items
+  pub listed : IsListed stack set name built items
   pub refused : (IsMemoryFault fault × IsUntouched out) ⊎ (IsFault fault CannotWrite [] 0 × WritesBeginning text_start items out.before out.after)
 
 -- the set is refused, and nothing was written; or the listing was not written whole

@@ -1,23 +1,21 @@
 //! One command over a port and two writers.
 
-ghost use Rattle.std.specs.Prelude.{◌≡◌, ◌≢◌, ◌⊎◌, List, [], ℕ, MatchResult, IfOk, IfErr, Some, Ok};
+ghost use Rattle.std.specs.Prelude.{◌≡◌, ◌≢◌, ◌⊎◌, List, [], ℕ, MatchResult, Some, Ok};
 ghost use Rattle.typed_ast.specs.View.{program_of};
 ghost use Rattle.cc.specs.Performed.{InterpretedAs, Performs, Runs, Interprets, interpreted_status, Builds, BuildsInto, FailsBuild, Prints, PrintsAll, FailsPrint, ListsCode, ListsAll, FailsList, exit_status};
-ghost use Rattle.cc.specs.inside.Stops.{Stops, HasItems, load_stop};
+ghost use Rattle.cc.specs.inside.Stops.{load_stop};
 ghost use Rattle.cc.specs.Reported.{SaysOutcome, SaysRun};
 
 use crate::compiling::compile_with;
 use crate::front::{checked_unit, preprocessed};
+use crate::listing::{compile_listed, write_listing};
 use crate::reporting::{say_budget, say_fault, say_memory, say_port, say_trap, say_undefined};
 use crate::stopping::Stop;
 use crate::writing::write_out;
-use asm::{Items, list};
 use cabs::{Observer, Run, Unobserved, observe};
-use cc_backend::items;
 use elf_out::StackSize;
 use io_ports::Port;
 use loader::{LoadFault, load};
-use memory_map::TEXT_START;
 use pp::print;
 use sim::{Machine, Outcome};
 use srcset::{Code, Fault, FileSet, Names};
@@ -164,7 +162,7 @@ fn list_code<W: Write, E: Write>(
     }
 }
 
-/// Writes the listing.
+/// Writes the listing of the file that `compile_listed` makes.
 fn list_into<W: Write>(
     alloc: Global,
     set: &FileSet,
@@ -176,29 +174,9 @@ fn list_into<W: Write>(
         (λ _. ListsAll stack set.now main.now (record { before = W.contents out.old; after = W.contents out.new }))
         (FailsList stack set.now main.now (record { before = W.contents out.old; after = W.contents out.new })) }
 {
-    let mut names = Names::new(alloc);
-    match items_of(alloc, set, main, &mut names, stack) {
-        Ok(items) => list(alloc, &items, TEXT_START, out),
-        Err(stop) => Err(stop.to_fault(alloc, main)),
-    }
-}
-
-/// The items of the code of the set's program.
-fn items_of(
-    alloc: Global,
-    set: &FileSet,
-    main: &str,
-    names: &mut Names,
-    stack: StackSize,
-) -> Result<Items, Stop>
-    requires new { names.old ≡ [] }
-    ensures items { IfOk result (HasItems stack set.now main.now) }
-    ensures stops { IfErr result (Stops stack set.now main.now) }
-{
-    let program = checked_unit(alloc, set, main, names, stack)?;
-    match items(alloc, &program, stack) {
-        Ok(items) => Ok(items),
-        Err(_) => Err(Stop::Memory),
+    match compile_listed(alloc, set, main, stack) {
+        Ok(listed) => write_listing(alloc, &listed.items, out),
+        Err(fault) => Err(fault),
     }
 }
 

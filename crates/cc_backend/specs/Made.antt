@@ -107,3 +107,4 @@ pub record IsListedFileOf (stack : ℕ) (p : Program) (file frames : List ℕ) (
   pub is_file : IsFileOf stack p file frames
   pub items_are : items ≡ program_items is_file.code
   pub low : IsLow text_start items
+  pub reach : AllReach text_start items

@@ -1,8 +1,8 @@
 //! The faults of a program, explained.
 
-ghost use Rattle.std.specs.Prelude.{◌≡◌, IfNone, IfOk, IfSome, IsTrue};
+ghost use Rattle.std.specs.Prelude.{◌≡◌, IfNone, IfOk, IfSome};
 ghost use Rattle.cc.specs.Refused.{IsRefused};
-ghost use Rattle.explain.specs.Accepted.{IsAccepted};
+ghost use Rattle.explain.specs.Accepted.{IsAccepted, IsPassed, is_met};
 ghost use Rattle.explain.specs.declared.explaining.Stage.TheVariants.{Whole};
 
 use cc::{StackSize, compile_with};
@@ -48,12 +48,13 @@ pub fn explain(
 ) -> Result<Option<Explained>, AllocError>
     ensures refused { IfOk result (λ told. IfSome told (λ explained. IsRefused stack set.now main.now explained.first.fault)) }
     ensures accepted { stage ≡ Whole → IfOk result (λ told. IfNone told (IsAccepted stack set.now main.now)) }
+    ensures passed { IfOk result (λ told. IfNone told (IsPassed stage stack set.now main.now)) }
 {
     let fault = match compile_with(alloc, set, main, stack) {
         Ok(_) => return Ok(None),
         Err(fault) => fault,
     };
-    if !is_of_stage(stage, fault.code) {
+    if !is_met(stage, fault.code) {
         return Ok(None);
     }
     if fault.code == Code::OutOfMemory.number() {
@@ -98,8 +99,8 @@ impl Compiler for ForStack {
 }
 
 /// Whether a fault of this code is met so far.
-fn is_of_stage(stage: Stage, code: u16) -> bool
-    ensures { stage ≡ Whole → IsTrue result }
+fn is_met(stage: Stage, code: u16) -> bool
+    ensures { result ≡ is_met stage code }
 {
     match stage {
         Stage::Whole => true,
@@ -177,7 +178,7 @@ impl<'a> Looking<'a> {
     fn next_fault(&self, alloc: Global, stage: Stage) -> Result<Option<Fault>, AllocError> {
         let none = self.sources.files.len();
         match self.asking().answer_with(alloc, none, b"")? {
-            Answer::Refused(fault) if is_of_stage(stage, fault.code) => Ok(Some(fault)),
+            Answer::Refused(fault) if is_met(stage, fault.code) => Ok(Some(fault)),
             _ => Ok(None),
         }
     }

@@ -193,28 +193,26 @@ resolves_all names held tokens list skip i h r s a =
 
 -- ---- the condition
 
-pub condition_gives : (result : Result Bool Refusal) (texts names : Texts) (held new : Held) (raw list tokens : List Token) (at : Pos) (s : State)
-    → defined_resolved 0 s (presume s raw) ≡ Some list → Gives tokens names new (expand texts list of_directive s)
+pub condition_gives : (result : Result Bool Refusal) (texts names : Texts) (new : Held) (list tokens : List Token) (at : Pos) (s : State)
+    → Gives tokens names new (expand texts list of_directive s)
     → IfOk result (λ b. holds tokens ≡ Ok b) → IfErr result (λ r. IsConditionRefused (holds tokens) at r)
-    → Asks s.given result names new (condition_by texts at (defined_resolved 0 s (presume s raw)) s)
-condition_gives (Ok b) texts names held new raw list tokens at s resolved g ok err = record {
+    → Asks s.given result names new (condition_by texts at (Some list) s)
+condition_gives (Ok b) texts names new list tokens at s g ok err = record {
   after = g.after;
   agrees = g.agrees;
-  gives_is = ap (λ o. condition_by texts at o s) resolved ∙ ap (λ k. k >>= λ r. of_truth r.1 at (holds r.0)) g.gives_is ∙ ap (of_truth g.after at) ok;
+  gives_is = ap (λ k. k >>= λ r. of_truth r.1 at (holds r.0)) g.gives_is ∙ ap (of_truth g.after at) ok;
 }
-condition_gives (Err Memory) texts names held new raw list tokens at s resolved g ok err = tt
-condition_gives (Err (At c p)) texts names held new raw list tokens at s resolved g ok err = record {
-  stops_is = ap (λ o. condition_by texts at o s) resolved ∙ ap (λ k. k >>= λ r. of_truth r.1 at (holds r.0)) g.gives_is ∙ ap (of_truth g.after at) err.0
+condition_gives (Err Memory) texts names new list tokens at s g ok err = tt
+condition_gives (Err (At c p)) texts names new list tokens at s g ok err = record {
+  stops_is = ap (λ k. k >>= λ r. of_truth r.1 at (holds r.0)) g.gives_is ∙ ap (of_truth g.after at) err.0
       ∙ ap (λ at. fails g.after c at) (sym err.1)
       ∙ ap (λ (l : List Token). stops l (record { code = c; at = p; text = [] })) (expand_given texts list of_directive s (tokens, g.after) g.gives_is);
 }
-condition_gives (Err (Told c p n)) texts names held new raw list tokens at s resolved g ok err = absurd err
+condition_gives (Err (Told c p n)) texts names new list tokens at s g ok err = absurd err
 
-pub condition_stops : (r : Refusal) (texts names : Texts) (raw list : List Token) (at : Pos) (s : State)
-    → defined_resolved 0 s (presume s raw) ≡ Some list → StopsAs s.given names r (expand texts list of_directive s)
-    → StopsAs s.given names r (condition_by texts at (defined_resolved 0 s (presume s raw)) s)
-condition_stops r texts names raw list at s resolved st =
-    subst (λ o. StopsAs s.given names r (condition_by texts at o s)) (sym resolved) (stops_then s.given r names (expand texts list of_directive s) (λ r. of_truth r.1 at (holds r.0)) st)
+pub condition_stops : (r : Refusal) (texts names : Texts) (list : List Token) (at : Pos) (s : State)
+    → StopsAs s.given names r (expand texts list of_directive s) → StopsAs s.given names r (condition_by texts at (Some list) s)
+condition_stops r texts names list at s st = stops_then s.given r names (expand texts list of_directive s) (λ r. of_truth r.1 at (holds r.0)) st
 
 pub condition_unresolved : (r : Refusal) (texts names : Texts) (held : Held) (raw tokens : List Token) (at : Pos) (s : State) → Agrees names held s → presume s raw ≡ tokens
     → IsUnresolved r names held tokens at → StopsAs s.given names r (condition_by texts at (defined_resolved 0 s (presume s raw)) s)

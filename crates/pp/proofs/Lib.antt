@@ -19,3 +19,4 @@ pub mod PullLemmas
 pub mod StreamLemmas
 pub mod StreamLaws
 pub mod CollectLemmas
+pub mod TruthLemmas

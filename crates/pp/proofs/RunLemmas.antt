@@ -7,7 +7,7 @@ use Rattle.srcset.specs.declared.refusal.Refusal.TheVariants.{Memory, At, Told}
 use Rattle.srcset.specs.NameTable.{Texts}
 use Rattle.phases.specs.Token.{Token}
 use Rattle.macros_substitution.specs.Substitution.{◌>>=◌, Hidden}
-use Rattle.pp_expand.specs.Expansion.{Known, Answer, Fault, of_run, shown_answer, behind}
+use Rattle.pp_expand.specs.Expansion.{Ending, Known, Answer, Fault, of_run, shown_answer, behind}
 use Rattle.pp_expand.specs.Expands.{ending_of}
 use Rattle.pp_expand.specs.Pulled.{Pull, pulled, expanding, then_expanded}
 use Rattle.pp_expand.specs.Streams.{Stream, list_left, Knows}
@@ -27,32 +27,32 @@ pub with_more : (before more : List Token) (r : Result (List Token × ℕ) Fault
 with_more before more (Ok a) = ap (λ (l : List Token). Ok (l, a.1)) (sym (append_assoc before more a.0))
 with_more before more (Err f) = refl
 
-shown_one : (y : Hidden) (a : Answer) → shown_answer (behind y a) ≡ with_front (y.token ∷ []) (shown_answer a)
+pub shown_one : (y : Hidden) (a : Answer) → shown_answer (behind y a) ≡ with_front (y.token ∷ []) (shown_answer a)
 shown_one y (Ok a) = refl
 shown_one y (Err f) = refl
 
-by_pull : (known : Known) (xs : List Hidden) (left : ℕ) (p : Pull) → pulled known xs of_run left ≡ p
-    → shown_answer (expanding known xs of_run left) ≡ shown_answer (p >>= λ a. then_expanded known of_run a.0 a.1 a.2)
-by_pull known xs left p e =
-    ap shown_answer (expanding_pulled known xs of_run left ∙ ap (λ (q : Pull). q >>= λ a. then_expanded known of_run a.0 a.1 a.2) e)
+pub by_pull : (known : Known) (ending : Ending) (xs : List Hidden) (left : ℕ) (p : Pull) → pulled known xs ending left ≡ p
+    → shown_answer (expanding known xs ending left) ≡ shown_answer (p >>= λ a. then_expanded known ending a.0 a.1 a.2)
+by_pull known ending xs left p e =
+    ap shown_answer (expanding_pulled known xs ending left ∙ ap (λ (q : Pull). q >>= λ a. then_expanded known ending a.0 a.1 a.2) e)
 
 pub one_pulled : (known : Known) (names : Texts) (run new : Stream) (left after : ℕ) (x : Token) → IsGoing names run → Calls known run new left after (Ok (Some x))
     → run_left known run left ≡ with_front (x ∷ []) (run_left known new after)
 one_pulled known names run new left after x g p =
     let y : Hidden = record { token = x; hides = p.0 } in
     let e = ap (λ (n : RunEnd). pulled known (list_left known.texts run) (ending_of n) left) (sym g.end_is) ∙ p.1 in
-    by_pull known (list_left known.texts run) left (Ok (Some y, list_left known.texts new, after)) e ∙ shown_one y (expanding known (list_left known.texts new) of_run after)
+    by_pull known of_run (list_left known.texts run) left (Ok (Some y, list_left known.texts new, after)) e ∙ shown_one y (expanding known (list_left known.texts new) of_run after)
 
 pub none_pulled : (known : Known) (names : Texts) (run new : Stream) (left after : ℕ) → IsGoing names run → Calls known run new left after (Ok None) → run_left known run left ≡ Ok ([], after)
 none_pulled known names run new left after g p =
     let e = ap (λ (n : RunEnd). pulled known (list_left known.texts run) (ending_of n) left) (sym g.end_is) ∙ p.1 in
-    by_pull known (list_left known.texts run) left (Ok (None, [], after)) e
+    by_pull known of_run (list_left known.texts run) left (Ok (None, [], after)) e
 
 pub err_pulled : (known : Known) (names : Texts) (run new : Stream) (left after : ℕ) (f : Refusal) → IsGoing names run → Calls known run new left after (Err f) → Refuses f (run_left known run left)
 err_pulled known names run new left after Memory g p = tt
 err_pulled known names run new left after (At c pos) g p =
     let e = ap (λ (n : RunEnd). pulled known (list_left known.texts run) (ending_of n) left) (sym g.end_is) ∙ p.0 in
-    by_pull known (list_left known.texts run) left (Err (record { code = c; at = pos })) e
+    by_pull known of_run (list_left known.texts run) left (Err (record { code = c; at = pos })) e
 err_pulled known names run new left after (Told c pos text) g p = p
 
 -- ---- a run that is refused after the first token in excess

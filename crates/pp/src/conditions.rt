@@ -17,7 +17,8 @@ use crate::state::{State, bad_directive};
 use crate::words::{is_else, is_spelled, place_of};
 use macros::{is_identifier, is_predefined};
 use phases::{Kind, PpToken};
-use pp_cond::truth;
+use pp_cond::ConditionReader;
+use pp_expand::{Expander, RunEnd};
 use srcset::{Code, Names, Pos, Refusal};
 use std::alloc::{AllocError, Global};
 use std::borrow::CowSlice;
@@ -158,6 +159,38 @@ fn resolved<'a>(
     Ok(list)
 }
 
+// Whether the condition holds that these tokens expand to. Each token of the expansion is read when it comes, and not kept. It
+// is expanded to its end also after a wrong token, since a fault of the expansion precedes one of the condition.
+fn expanded_truth<'a>(
+    state: &mut State<'a>,
+    alloc: Global,
+    tokens: Vec<PpToken<'a>>,
+    at: Pos,
+    names: &Names,
+) -> Result<bool, Refusal>
+    requires sound { IsSound names.now state.old }
+    requires files { HaveFiles names.now tokens.items }
+    ensures asks { (texts : Texts) (s : Done) → KeepsNumbers names.now texts → Agrees names.now state.old s → Asks s.given result names.now state.new (condition_by texts at (Some tokens.entry.items) s) }
+    ensures sound { OnOk result (IsSound names.now state.new) }
+    ensures given { state.new.given ≡ state.old.given }
+{
+    let mut expander = Expander::new(alloc, tokens, RunEnd::Directive);
+    let mut reader = ConditionReader::new(alloc);
+    loop {
+        match expander.try_next(alloc, &state.table, &mut state.budget, names) {
+            Ok(next) => {
+                let Some(token) = next else {
+                    return reader.truth(at);
+                };
+                if let Err(refusal) = reader.take(&token) {
+                    return Err(refusal);
+                }
+            }
+            Err(refusal) => return Err(refusal),
+        }
+    }
+}
+
 // Whether the condition of an `#if` or `#elif` holds, by the tokens after its name.
 fn condition<'a>(
     state: &mut State<'a>,
@@ -175,8 +208,7 @@ fn condition<'a>(
     let mut placed = Vec::new(alloc);
     state.presumed.put(further, &mut placed)?;
     let list = resolved(state, alloc, &placed, at, names)?;
-    let tokens = state.expand_directive(alloc, &list, names)?;
-    truth(alloc, &tokens, at)
+    expanded_truth(state, alloc, list, at, names)
 }
 
 // Whether the name after `#ifdef` or `#ifndef` is that of a macro, or is not, as `wanted` says.

@@ -12,7 +12,7 @@ ghost use Rattle.pp.specs.Phase4.{State as Done, Enter, start, expand, presume, 
 ghost use Rattle.pp.specs.inside.Including.{is_include};
 ghost use Rattle.pp.specs.inside.Pending.{is_directive};
 ghost use Rattle.pp.specs.Held.{Agrees, IsSound};
-ghost use Rattle.pp.specs.inside.Stepping.{IsNear, line_with, Gives, GivesFirst, StopsAs, Does};
+ghost use Rattle.pp.specs.inside.Stepping.{IsNear, line_with, GivesFirst, StopsAs, Does};
 
 use crate::ends::LineEnds;
 use crate::error_directive::refusal_of;
@@ -21,7 +21,7 @@ use crate::places::Presumed;
 use crate::words::is_spelled;
 use macros::{MacroTable, is_identifier};
 use phases::PpToken;
-use pp_expand::{Budget, RunEnd, Unexpanded, expand_behind, try_expand};
+use pp_expand::{Budget, RunEnd, Unexpanded, expand_behind};
 use srcset::{Code, Names, Pos, Refusal};
 use std::alloc::Global;
 
@@ -60,31 +60,6 @@ impl<'a> State<'a> {
             given: 0,
             presumed: Presumed::physical(file),
         }
-    }
-
-    /// The expansion of the tokens of a directive.
-    pub fn expand_directive(
-        &mut self,
-        alloc: Global,
-        tokens: &[PpToken<'a>],
-        names: &Names,
-    ) -> Result<Vec<PpToken<'a>>, Refusal>
-        requires sound { IsSound names.now self.old }
-        requires files { HaveFiles names.now tokens.now }
-        ensures ok { IfOk result (λ list. (texts : Texts) (s : Done) → KeepsNumbers names.now texts → Agrees names.now self.old s → Gives list.items names.now self.new (expand texts tokens.now of_directive s)) }
-        ensures err { IfErr result (λ refusal. (texts : Texts) (s : Done) → KeepsNumbers names.now texts → Agrees names.now self.old s → StopsAs s.given names.now refusal (expand texts tokens.now of_directive s)) }
-        ensures sound { OnOk result (IsSound names.now self.new) }
-        ensures given { self.new.given ≡ self.old.given }
-    {
-        let list = try_expand(
-            alloc,
-            &self.table,
-            tokens,
-            RunEnd::Directive,
-            &mut self.budget,
-            names,
-        )?;
-        Ok(list)
     }
 
     /// The expansion of these tokens, at most its first `most` tokens: no more are kept, however many come.

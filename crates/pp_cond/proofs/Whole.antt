@@ -1,28 +1,27 @@
--- A list read to its end, or to a token with which no condition continues.
-use Rattle.std.proofs.Common.{◌≡◌, ℕ, ◌+◌, ◌<◌, ◌≤◌, Bool, true, false, Option, Some, None, List, ◌∷◌, length, get_or, drop, refl, sym, ap, ◌∙◌}
-use Rattle.std.proofs.lemmas.List.{drop_more, drop_all}
+-- The truth of the tokens that are read.
+use Rattle.std.proofs.Common.{◌≡◌, Bool, true, false, Option, None, List, [], refl, sym, ap, ◌∙◌, append-nil}
 use Rattle.std.specs.Prelude.{if◌then◌else◌, Result, Err}
 use Rattle.std.specs.List.{list_any}
 use Rattle.srcset.specs.declared.code.Code.{Code}
 use Rattle.srcset.specs.declared.code.Code.TheVariants as code
 use Rattle.phases.specs.Token.{Token}
+use Rattle.pp_cond.specs.declared.condition.ConditionReader.{ConditionReader}
 use Rattle.pp_cond.specs.Condition.{is_defined_word, condition_of, condition_truth, holds}
+use Rattle.pp_cond.specs.layer.HasRead.{HasRead, whole_with}
 use Rattle.pp_cond.specs.inside.Operands.{Known}
-use Rattle.pp_cond.specs.inside.Reading.{State, step, ended, then_run, run, start, truth_known}
+use Rattle.pp_cond.specs.inside.Reading.{state_of, ended, run, start, truth_known}
 use Rattle.pp_cond.proofs.Agree.{truth_of_run}
 
--- one step on
-pub one_on : (xs : List Token) (i : ℕ) (x : Token) (s : State) → i < length xs → x ≡ get_or xs i x → run (drop i xs) s ≡ then_run (step s x) (λ t. run (drop (i + 1) xs) t)
-one_on xs i x s l e = ap (λ ys. run ys s) (drop_more xs i x l) ∙ ap (λ y. run (y ∷ drop (i + 1) xs) s) (sym e)
+-- ---- all tokens
 
-pub goes_on : (xs : List Token) (i : ℕ) (x : Token) (s t : State) (r : Option Known) → i < length xs → x ≡ get_or xs i x → run (drop i xs) s ≡ r → step s x ≡ Some t → run (drop (i + 1) xs) t ≡ r
-goes_on xs i x s t r l e h g = sym (ap (λ o. then_run o (λ u. run (drop (i + 1) xs) u)) g) ∙ sym (one_on xs i x s l e) ∙ h
+whole_of : (r : ConditionReader) (xs : List Token) → HasRead r xs → run xs start ≡ whole_with r.is_broken r.reader []
+whole_of r xs h = ap (λ l. run l start) (sym (append-nil xs)) ∙ h.whole_is []
 
-pub stops : (xs : List Token) (i : ℕ) (x : Token) (s : State) (r : Option Known) → i < length xs → x ≡ get_or xs i x → run (drop i xs) s ≡ r → step s x ≡ None → None ≡ r
-stops xs i x s r l e h g = sym (ap (λ o. then_run o (λ u. run (drop (i + 1) xs) u)) g) ∙ sym (one_on xs i x s l e) ∙ h
+pub broken_whole : (r : ConditionReader) (xs : List Token) (o : Option Known) → r.is_broken ≡ true → o ≡ None → HasRead r xs → o ≡ run xs start
+broken_whole r xs o b e h = e ∙ sym (whole_of r xs h ∙ ap (λ b. whole_with b r.reader []) b)
 
-pub at_end : (xs : List Token) (i : ℕ) (s : State) (r o : Option Known) → length xs ≤ i → run (drop i xs) s ≡ r → o ≡ ended s.waiting s.operand → o ≡ r
-at_end xs i s r o l h e = e ∙ sym (ap (λ ys. run ys s) (drop_all i xs l)) ∙ h
+pub read_whole : (r : ConditionReader) (xs : List Token) (o : Option Known) → r.is_broken ≡ false → o ≡ ended (state_of r.reader).waiting (state_of r.reader).operand → HasRead r xs → o ≡ run xs start
+read_whole r xs o b e h = e ∙ sym (whole_of r xs h ∙ ap (λ b. whole_with b r.reader []) b)
 
 -- ---- the truth of a list
 

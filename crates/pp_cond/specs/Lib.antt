@@ -4,3 +4,4 @@ pub mod Values
 pub mod Condition
 pub mod Refused
 pub mod inside
+pub mod layer

@@ -9,4 +9,4 @@ mod operand;
 mod operators;
 mod reader;
 
-pub use condition::truth;
+pub use condition::{ConditionReader, truth};

@@ -8,7 +8,8 @@ use Rattle.io_ports.specs.Port.{PortView}
 use Rattle.io_ports.specs.Memory.{MemoryView, port_of}
 use Rattle.cc.specs.declared.compiling.Built.{Built}
 use Rattle.cc.specs.MemoryMap.{IsStackSize, usual_stack}
-use Rattle.cc.specs.Compiled.{Compiles, frames_of}
+use Rattle.cc.specs.Compiled.{frames_of}
+use Rattle.cc.specs.Made.{IsMade}
 use Rattle.cc.specs.Refused.{IsRefused}
 use Rattle.cc.specs.declared.performing.Cmd.{Cmd}
 use Rattle.cc.specs.Performed.{Performs}
@@ -54,7 +55,7 @@ OverFiles given status Does output line =
 -- may be refused
 abbrev pub CompiledWith : ℕ → (Built → List ℕ) → List ℕ → ℕ → Files → List ℕ → List ℕ → Type 0
 CompiledWith stack text name status set output line =
-    ((status ≡ 0) × (line ≡ []) × ((built : Built) × Compiles stack set name built × (output ≡ text built)))
+    ((status ≡ 0) × (line ≡ []) × ((built : Built) × IsMade stack set name built × (output ≡ text built)))
     ⊎ ((status ≡ 1) × (output ≡ []) × ((fault : Fault) × IsRefused stack set name fault × IsLineOf fault line))
     ⊎ Wants status output line
 

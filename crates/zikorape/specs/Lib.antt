@@ -3,6 +3,7 @@ pub use Rattle.srcset.specs.Fault
 pub use Rattle.io_ports.specs.Port
 pub use Rattle.sim.specs.Runs
 pub use Rattle.cc.specs.Compiled
+pub use Rattle.cc.specs.Made
 pub use Rattle.cc.specs.Refused
 pub use Rattle.cc.specs.Performed
 pub use Rattle.cc.specs.Reported

@@ -6,7 +6,7 @@
 Each source is made by a rule that says what comes of it: its tokens, or the code of its fault. That follows from the language
 and its limits: 1,048,576 tokens (708), as many replacements (706), files 32 deep (707), however much stands in between. `pp` has
 2 GB of address space, as by `ulimit -v`, and five minutes; 801 is the answer where the tokens of an argument, which have to stand
-at once, take more. The most resident memory and the time are printed beside each row, and held to nothing. With -k WORD only rows
+at once, take more. A condition is read token by token, so that none of its expansion stands in memory, however long it is. The most resident memory and the time are printed beside each row, and held to nothing. With -k WORD only rows
 that have it in their name are tried.
 The last line is 'N passed, M failed'."""
 import os
@@ -43,6 +43,9 @@ THOUSAND = '#define a ' + ';' * 1024 + '\n#define b ' + 'a ' * 1024 + '\n'
 # 15,625,000 tokens of 62,501 replacements
 MILLIONS = '#define a ' + '; ' * 250 + '\n#define b ' + 'a ' * 250 + '\n#define c ' + 'b ' * 250 + '\n'
 
+# 250,000,000 tokens of 501 replacements
+HUNDREDS_OF_MILLIONS = '#define a ' + ';' * 500000 + '\n#define b ' + 'a ' * 500 + '\n'
+
 LONG = '#define twice(x) x x\n#define a ' + ';' * 1040000 + '\n'
 
 
@@ -78,6 +81,10 @@ ROWS = [
     ('millions of tokens in an argument', MILLIONS + '#define f(x) x\nf(c)\n', 708),
     ('millions of tokens in an argument that is not used', MILLIONS + '#define f(x)\nf(c) ;\n', ';'),
     ('millions of tokens in a condition', MILLIONS + '#if c\n#endif\n', 221),
+    ('hundreds of millions of tokens in a condition', HUNDREDS_OF_MILLIONS + '#if b\n#endif\n', 221),
+    ('hundreds of millions of tokens in the condition of an #elif', HUNDREDS_OF_MILLIONS + '#if 0\n#elif b\n#endif\n', 221),
+    ('millions of tokens in a condition, and a call that is not closed', MILLIONS + '#define f(x) x\n#if c f(\n#endif\n', 211),
+    ('millions of tokens in a condition, and a defined', MILLIONS + '#define d defined\n#if c d\n#endif\n', 223),
     ('millions of tokens behind #line', MILLIONS + '#line c\n', 235),
     ('millions of tokens behind #include', MILLIONS + '#include c\n', 233),
     ('replacements of names', grown('m', '1', 10, 8) + 'm10\n', 706),

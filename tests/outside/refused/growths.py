@@ -6,7 +6,8 @@
 refusing.c, preloaded, refuses one call of malloc or realloc, or all from one on. For each of pp, build, list and interp on each
 source, and for run on each file that is built, for each call that the undisturbed command makes (of a long run one in 25): the
 answer is the line of 801 with status 1 (of a port that was refused memory with 126), with a beginning of what the undisturbed
-command writes; or it is the undisturbed answer. It needs gcc or clang for the C file. The last line is 'N passed, M failed'."""
+command writes; or it is the undisturbed answer. A trace on standard error may have begun before that line. It needs gcc or clang for
+the C file. The last line is 'N passed, M failed'."""
 import os
 import subprocess
 import sys
@@ -23,6 +24,8 @@ SOURCES = {
     'a row too short': 'int f(int p[]) { return p[3]; }\nstatic int m[5][3];\nint main(void) { return f(m[3]); }\n',
     'deep calls': 'int f(int n) { if (n == 0) return 0; return f(n - 1); }\nint main(void) { char pad[208]; return f(3447); }\n',
 }
+# its traces are longer than a buffer
+LOOP = RVIO + 'int p(int c) { rv_putbyte(c); return c; }\nint main(void) { int n = 0; for (int i = 0; i < 40; i++) n += p(i); return n & 7; }\n'
 # programs that do not end by themselves: each has a line of its own
 RUNS = {
     'a trap': 'int main(void) { return 0; }\n',
@@ -30,11 +33,17 @@ RUNS = {
 }
 
 
-class Command:
-    """One command in a folder of its own, and its answers."""
+# the line of 801 with its status; and of a port that was refused memory
+MEMORY = (1, b'cc: 801 out of memory\n')
+PORT = (126, b'cc: port fault 801\n')
 
-    def __init__(self, cc, preload, name, words, files, out=None):
+
+class Command:
+    """One command in a folder of its own, and its answers. A traced one tells its trace on standard error."""
+
+    def __init__(self, cc, preload, name, words, files, out=None, traced=False):
         self.cc, self.preload, self.name, self.words, self.files, self.out = cc, preload, name, words, files, out
+        self.traced = traced
 
     def ask(self, at=0, on=False, count=False):
         with tempfile.TemporaryDirectory() as folder:
@@ -70,16 +79,27 @@ class Command:
         if got == wanted:
             return None
         status, out, said, built = got
-        told = (status, said) in ((1, b'cc: 801 out of memory\n'), (126, b'cc: port fault 801\n'))
+        told = self.is_told(status, said, wanted[2])
         begun = wanted[1].startswith(out) and (built is None or (wanted[3] or b'').startswith(built))
         if told and begun:
             return None
         return f'{self.name}: growth {at}{" and those behind" if on else ""}: status {status}, {said!r}, {len(out)} bytes written'
 
 
+    def is_told(self, status, said, wanted):
+        """Whether the answer is the line of 801; of a trace whole lines of the undisturbed one may stand before it."""
+        if not self.traced:
+            return (status, said) in (MEMORY, PORT)
+        begun = said.removesuffix(MEMORY[1])
+        return status == MEMORY[0] and begun != said and wanted.startswith(begun) and (not begun or begun.endswith(b'\n'))
+
+
 def commands(cc, preload):
     def plain(*words):
         return Command(cc, preload, *words)
+
+    def traced(*words):
+        return Command(cc, preload, *words, traced=True)
 
     for name, text in SOURCES.items():
         files = {'main.c': text.encode()}
@@ -127,7 +147,14 @@ def commands(cc, preload):
     for words in ([], ['--json'], ['--sarif']):
         yield plain(' '.join(['verify what is defined', *words]), ['verify', 'main.c', *words], halved)
         yield plain(' '.join(['verify what is not shown', *words]), ['verify', 'main.c', *words], unset)
+    pasted = {'main.c': b'#include "a.h"\n#define F(a, b) a ## b\nint x = F(+, ;);\nint main(void) { return x; }\n', 'a.h': b'#define A 1\n'}
+    for words in ([], ['--json'], ['--sarif']):
+        yield plain(' '.join(['explain pp', *words]), ['explain', 'pp', 'main.c', 'a.h', *words], pasted)
+        yield plain(' '.join(['explain pp of what is right', *words]), ['explain', 'pp', 'main.c', *words], files)
     yield plain('pp with lines', ['pp', 'main.c', '--lines'], files)
+    looped = {'main.c': LOOP.encode()}
+    yield traced('interp told on standard error', ['interp', 'main.c', '--trace'], looped)
+    yield traced('interp told on standard error as JSON', ['interp', 'main.c', '--trace', '--json'], looped)
     yield plain('interp told', ['interp', 'main.c', '--trace-file', 'out'], files, 'out')
     yield plain('interp told as JSON', ['interp', 'main.c', '--trace-file', 'out', '--json'], files, 'out')
     two = {'main.c': b'#include "a.h"\nint main(void) { return N; }\n', 'inc/a.h': b'#define A 1\n'}
@@ -135,6 +162,9 @@ def commands(cc, preload):
     yield plain('the files of a program', ['build', '-I', 'inc', '-DN=A', 'main.c', '--list-files'], two)
     built = plain('', ['build', 'main.c', '-o', 'out'], files, 'out').ask()[0][3]
     yield plain('run told', ['run', 'out', '--trace-file', 'told'], {'out': built}, 'told')
+    looping = plain('', ['build', 'main.c', '-o', 'out'], looped, 'out').ask()[0][3]
+    yield traced('run told on standard error', ['run', 'out', '--trace'], {'out': looping})
+    yield traced('run told on standard error with names', ['run', 'out', '--trace', '--map', 'main.c'], {'out': looping, **looped})
     yield plain('run shown', ['run', 'out', '--map', 'main.c', '--at', '3'], {'out': built, **files})
     yield plain('size', ['size', 'out'], {'out': built})
     yield plain('image', ['image', 'out', '--ihex'], {'out': built})

@@ -140,14 +140,14 @@ pub record Begins (whole : machine.Run on.Found) (o : Outset) (port : PortView) 
   pub left_is : port.input ≡ Some left
   pub got_is : o.input ≡ taken events ++ left
 
--- a run that is given up after these bytes were written
-pub record GivenUp (whole : Whole) (o : Outset) (sent : List ℕ) (port : PortView) : Type 0 where
-  pub output_is : Appends o.output port.output sent
-  pub begins : Begins (whole 0) o port
+-- a run that is given up: it did no more than it does without a further tick
+abbrev pub GivenUp : Whole → Outset → PortView → Type 0
+GivenUp whole o port = Begins (whole 0) o port
 
--- the run `whole`, a function of the ticks that are left, is at this machine and this step; the port was as o says, and these bytes
--- were written since
-pub record Stands (T : List Entry → Type 0) (p : typed.Program) (whole : Whole) (o : Outset) (sent : List ℕ) (m : Interpreter) (x : on.Step) (port : PortView) : Type 0 where
+-- the run `whole`, a function of the ticks that are left, is at this machine and this step; the port was as o says, and the bytes
+-- `sent` were written since
+pub record Stands (T : List Entry → Type 0) (p : typed.Program) (whole : Whole) (o : Outset) (m : Interpreter) (x : on.Step) (port : PortView) : Type 0 where
+  pub sent : List ℕ
   pub input : List ℕ
   pub history : List Entry
   pub program_is : program_of m.machine.program.now ≡ p
@@ -171,7 +171,8 @@ abbrev pub StopsAt : Whole → Ending → List ℕ → List Entry → Type 0
 StopsAt whole e input h = (n : ℕ) → StopsAs (whole n) e input h
 
 -- before the pending byte is written
-pub record Stopping (T : List Entry → Type 0) (p : typed.Program) (whole : Whole) (o : Outset) (sent : List ℕ) (e : Ending) (m : Interpreter) (port : PortView) : Type 0 where
+pub record Stopping (T : List Entry → Type 0) (p : typed.Program) (whole : Whole) (o : Outset) (e : Ending) (m : Interpreter) (port : PortView) : Type 0 where
+  pub sent : List ℕ
   pub input : List ℕ
   pub history : List Entry
   pub stops : StopsAt whole e input history
@@ -182,10 +183,10 @@ pub record Stopping (T : List Entry → Type 0) (p : typed.Program) (whole : Who
   pub tells : Tells p history m.tally
   pub told : T history
 
-abbrev pub StoppingBy : (List Entry → Type 0) → typed.Program → Whole → Outset → List ℕ → Stop → Interpreter → PortView → Type 0
-StoppingBy T p whole o sent (stop.Ended status) m port = Stopping T p whole o sent (machine.Ended status) m port
-StoppingBy T p whole o sent (stop.Undefined act at) m port = Stopping T p whole o sent (machine.Undefined act at) m port
-StoppingBy T p whole o sent stop.Memory m port = GivenUp whole o sent port
+abbrev pub StoppingBy : (List Entry → Type 0) → typed.Program → Whole → Outset → Stop → Interpreter → PortView → Type 0
+StoppingBy T p whole o (stop.Ended status) m port = Stopping T p whole o (machine.Ended status) m port
+StoppingBy T p whole o (stop.Undefined act at) m port = Stopping T p whole o (machine.Undefined act at) m port
+StoppingBy T p whole o stop.Memory m port = GivenUp whole o port
 
 -- and after it
 pub record Stopped (T : List Entry → Type 0) (p : typed.Program) (whole : Whole) (o : Outset) (e : Ending) (tally : Tally) (port : PortView) : Type 0 where
@@ -201,13 +202,13 @@ pub record Stopped (T : List Entry → Type 0) (p : typed.Program) (whole : Whol
 abbrev pub Rests : Whole → Type 0
 Rests whole = (n : ℕ) → (x : on.Found) × ((s : State) × (whole n ≡ Goes x s))
 
--- how a run stops between two ticks, if these bytes were written before
-abbrev pub StoppedBy : (List Entry → Type 0) → typed.Program → Whole → Outset → List ℕ → Run → Tally → PortView → Type 0
-StoppedBy T p whole o sent (run.Ended status) tally port = Stopped T p whole o (machine.Ended status) tally port
-StoppedBy T p whole o sent (run.Undefined act at) tally port = Stopped T p whole o (machine.Undefined act at) tally port
-StoppedBy T p whole o sent run.TicksUsed tally port = Rests whole
-StoppedBy T p whole o sent (run.Port fault) tally port = GivenUp whole o sent port
-StoppedBy T p whole o sent run.Memory tally port = GivenUp whole o sent port
+-- how a run stops between two ticks
+abbrev pub StoppedBy : (List Entry → Type 0) → typed.Program → Whole → Outset → Run → Tally → PortView → Type 0
+StoppedBy T p whole o (run.Ended status) tally port = Stopped T p whole o (machine.Ended status) tally port
+StoppedBy T p whole o (run.Undefined act at) tally port = Stopped T p whole o (machine.Undefined act at) tally port
+StoppedBy T p whole o run.TicksUsed tally port = Rests whole
+StoppedBy T p whole o (run.Port fault) tally port = GivenUp whole o port
+StoppedBy T p whole o run.Memory tally port = GivenUp whole o port
 
 abbrev pub IsLeft : Step → Type 0
 IsLeft (step.Enters n) = ⊥
@@ -225,9 +226,9 @@ NearsFrom fs (on.leaves x) r gs = Nears fs (on.leaves x) r gs
 NearsFrom fs (on.calls at callee used passed) r gs = Nears fs (on.calls at callee used passed) r gs
 
 -- the result of one step
-abbrev pub ActMeets : (List Entry → Type 0) → typed.Program → Whole → Outset → List ℕ → Result Step Run → Interpreter → PortView → Type 0
-ActMeets T p whole o sent (Ok x) m port = Stands T p whole o sent m (step_of x) port
-ActMeets T p whole o sent (Err r) m port = StoppedBy T p whole o sent r m.tally port
+abbrev pub ActMeets : (List Entry → Type 0) → typed.Program → Whole → Outset → Result Step Run → Interpreter → PortView → Type 0
+ActMeets T p whole o (Ok x) m port = Stands T p whole o m (step_of x) port
+ActMeets T p whole o (Err r) m port = StoppedBy T p whole o r m.tally port
 
 -- ---- the count of failures, and the fault
 
@@ -242,31 +243,18 @@ BlamesUntil P (Err r) = Blames P r
 -- ---- nodes and ticks
 
 -- a node takes the next tick, and no byte is pending
-abbrev pub SettleMeets : (List Entry → Type 0) → typed.Program → Whole → Outset → List ℕ → Result Node Run → Interpreter → PortView → Type 0
-SettleMeets T p whole o sent (Ok n) m port = (now : List ℕ) × (Stands T p whole o now m (on.enters (node_of n)) port × (m.kept ≡ None))
-SettleMeets T p whole o sent (Err r) m port = StoppedBy T p whole o sent r m.tally port
+abbrev pub SettleMeets : (List Entry → Type 0) → typed.Program → Whole → Outset → Result Node Run → Interpreter → PortView → Type 0
+SettleMeets T p whole o (Ok n) m port = Stands T p whole o m (on.enters (node_of n)) port × (m.kept ≡ None)
+SettleMeets T p whole o (Err r) m port = StoppedBy T p whole o r m.tally port
 
--- the run `all`, a function of its clock, of which that many ticks are spent; the bytes written are those of a clock that is no greater
+-- the run `all`, a function of its clock, of which that many ticks are spent
 pub record Runs (T : List Entry → Type 0) (p : typed.Program) (all : Whole) (o : Outset) (spent : ℕ) (m : Interpreter) (x : on.Step) (port : PortView) : Type 0 where
-  pub sent : List ℕ
-  pub clock : ℕ
-  pub clock_is : clock ≤ spent
-  pub sent_is : sent ≡ bytes_of (last_of (all clock)).history
   pub grows : Grows all
-  pub stands : Stands T p (λ n. all (n + spent)) o sent m x port
+  pub stands : Stands T p (λ n. all (n + spent)) o m x port
 
--- the bytes written are those of a clock that is no greater
-abbrev pub IsEarlier : Whole → Outset → ℕ → PortView → Type 0
-IsEarlier all o spent port = (clock : ℕ) × ((clock ≤ spent) × Appends o.output port.output (bytes_of (last_of (all clock)).history))
-
--- what was read and written is the first part of what the run with a clock that is no greater does
-abbrev pub IsFirst : Whole → Outset → ℕ → PortView → Type 0
-IsFirst all o spent port = (clock : ℕ) × ((clock ≤ spent) × Begins (all clock) o port)
-
--- a run of no more ticks is given up
-pub record GivenUpBy (all : Whole) (o : Outset) (spent : ℕ) (port : PortView) : Type 0 where
-  pub earlier : IsEarlier all o spent port
-  pub first : IsFirst all o spent port
+-- a run of no more ticks is given up: what was read and written is the first part of what it does
+abbrev pub GivenUpBy : Whole → Outset → ℕ → PortView → Type 0
+GivenUpBy all o spent port = (clock : ℕ) × ((clock ≤ spent) × Begins (all clock) o port)
 
 -- how a run stops that has at least that many ticks
 abbrev pub StopsBy : (List Entry → Type 0) → typed.Program → Whole → Outset → ℕ → Run → Tally → PortView → Type 0

@@ -11,12 +11,6 @@ use Rattle.io_ports.specs.declared.port.PortFault.{PortFault}
 use Rattle.io_ports.specs.declared.port.PortFault.TheVariants as port_fault
 use Rattle.cc.specs.declared.stopping.Stop.{Stop}
 use Rattle.cc.specs.declared.stopping.Stop.TheVariants.{Memory, At, Told}
-use Rattle.typing_spec.specs.Program.{Program}
-use Rattle.srcset.specs.NameTable.{Texts}
-use Rattle.tree.specs.Tree.{ExternalTree}
-use Rattle.asm.specs.declared.item.Item.{Item}
-use Rattle.cc_backend.specs.Made.{AreItemsOf}
-use Rattle.cc.specs.Compiled.{HasProgram}
 use Rattle.cc.specs.Refused.{IsRefused}
 
 -- the fault that reports it, where the command names this file; only the copy of the name may run out of memory
@@ -51,11 +45,3 @@ port_stop port_fault.Write = At CannotWrite 0
 abbrev pub load_stop : LoadFault → Stop
 load_stop load_fault.Memory = Memory
 load_stop fault = At (code_of fault) 0
-
--- the set has a program whose code is these items
-pub record HasItems (stack : ℕ) (set : Files) (name : List ℕ) (items : List Item) : Type 0 where
-  pub texts : Texts
-  pub unit : List ExternalTree
-  pub program : Program
-  pub has_program : HasProgram stack set name texts unit program
-  pub items_are : AreItemsOf stack program items

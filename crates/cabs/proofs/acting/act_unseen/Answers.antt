@@ -12,12 +12,12 @@ use Rattle.cabs.proofs.Acts.{nothing_waits, frame_stands, frame_stopping}
 use Rattle.cabs.proofs.acting.act_unseen.Goals as goal
 
 pub returns-in_default-clause-meets : goal.returns-in_default-clause-meets
-returns-in_default-clause-meets g c b p whole o sent s =
+returns-in_default-clause-meets g c b p whole o s =
     let m = c.args.interpreter.now in
-    nothing_waits (Knows b (g.O.Observer.told c.args.observer.now)) (Knows b (g.O.Observer.told c.args.observer.now)) p whole o sent m (found_of c.args.found) _ c.in_default.ensures.empty s
+    nothing_waits (Knows b (g.O.Observer.told c.args.observer.now)) (Knows b (g.O.Observer.told c.args.observer.now)) p whole o m (found_of c.args.found) _ c.in_default.ensures.empty s
 
 pub returns-in-Ok-clause-meets : goal.returns-in-Ok-clause-meets
-returns-in-Ok-clause-meets g c b p whole o sent s =
+returns-in-Ok-clause-meets g c b p whole o s =
     let T = g.O.Observer.told c.args.observer.now in
     let U = g.O.Observer.told c.end_call.new.observer in
     let f = kept_of c.in-Some.kept in
@@ -27,7 +27,7 @@ returns-in-Ok-clause-meets g c b p whole o sent s =
     let mid = c.end_call.new.self.machine in
     let top : frames_of old.machine ≡ frames_of c.pop.new.machine ++ f ∷ [] = c.in-Some.ensures.frame in
     let popped : frames_of old.machine ≡ frames_of mid ++ f ∷ [] = top ∙ ap (λ (m : Machine). frames_of m ++ f ∷ []) (sym c.end_call.ensures.machine) in
-    frame_stands (Knows b T) (Knows b U) p whole o sent old _ mid f (found_of c.args.found) _ popped (ap (λ (m : Machine). m.scene) c.end_call.ensures.machine ∙ c.in-Some.ensures.scene)
+    frame_stands (Knows b T) (Knows b U) p whole o old _ mid f (found_of c.args.found) _ popped (ap (λ (m : Machine). m.scene) c.end_call.ensures.machine ∙ c.in-Some.ensures.scene)
     (ap (λ (m : Machine). m.program) c.end_call.ensures.machine ∙ c.in-Some.ensures.program)
     (λ h. c.end_call.ensures.tells p h) (known b T U (history_left f x) ended) c.end_call.ensures.kept s c.in-Ok.step c.in-Ok.ensures.acts c.in-Ok.ensures.program
 
@@ -45,7 +45,7 @@ returns-in-Ok-clause-nears g c =
     (c.in-Ok.ensures.acts (outside 0 [] [])))
 
 pub returns-in-Err-clause-meets : goal.returns-in-Err-clause-meets
-returns-in-Err-clause-meets g c b p whole o sent s =
+returns-in-Err-clause-meets g c b p whole o s =
     let T = g.O.Observer.told c.args.observer.now in
     let U = g.O.Observer.told c.end_call.new.observer in
     let f = kept_of c.in-Some.kept in
@@ -55,6 +55,6 @@ returns-in-Err-clause-meets g c b p whole o sent s =
     let mid = c.end_call.new.self.machine in
     let top : frames_of old.machine ≡ frames_of c.pop.new.machine ++ f ∷ [] = c.in-Some.ensures.frame in
     let popped : frames_of old.machine ≡ frames_of mid ++ f ∷ [] = top ∙ ap (λ (m : Machine). frames_of m ++ f ∷ []) (sym c.end_call.ensures.machine) in
-    c.finish.ensures.meets b p whole o sent (frame_stopping (Knows b T) (Knows b U) p whole o sent old _ mid f (found_of c.args.found) _ popped
+    c.finish.ensures.meets b p whole o (frame_stopping (Knows b T) (Knows b U) p whole o old _ mid f (found_of c.args.found) _ popped
     (ap (λ (m : Machine). m.scene) c.end_call.ensures.machine ∙ c.in-Some.ensures.scene) (ap (λ (m : Machine). m.program) c.end_call.ensures.machine ∙ c.in-Some.ensures.program)
     (λ h. c.end_call.ensures.tells p h) (known b T U (history_left f x) ended) c.end_call.ensures.kept s c.in-Err.stop c.in-Err.ensures.acts)

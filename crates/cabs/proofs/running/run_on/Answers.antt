@@ -12,9 +12,9 @@ returns-clause-meets g c b p all o r =
     let runs = c.loop-spent.invariant.runs b p all o r in
     let end : c.loop-spent.spent ≡ c.args.ticks = omega (arith, c.loop-spent.invariant.allowed, c.loop-spent-test.false) in
     elim c.match-settle.branch [
-      | in-Ok-settle w ↦ used_up T p all o c.loop-spent.spent c.args.ticks runs.sent c.settle.new.interpreter _ c.match-settle.result _ end w.result-is (w.in-Ok-settle.ensures.meets b p (λ n. all (n + c.loop-spent.spent)) o runs.sent runs.stands)
+      | in-Ok-settle w ↦ used_up T p all o c.loop-spent.spent c.args.ticks c.settle.new.interpreter _ c.match-settle.result _ end w.result-is (w.in-Ok-settle.ensures.meets b p (λ n. all (n + c.loop-spent.spent)) o runs.stands)
       | in-Err-settle w ↦ settle_ends U T p all o c.loop-spent.spent c.args.ticks c.loop-spent.interpreter c.settle.new.interpreter _ _ c.match-settle.result _ _ end w.result-is runs
-          (w.in-Err-settle.ensures.meets b p (λ n. all (n + c.loop-spent.spent)) o runs.sent runs.stands)
+          (w.in-Err-settle.ensures.meets b p (λ n. all (n + c.loop-spent.spent)) o runs.stands)
     ]
 
 pub loop-spent-preserved : goal.loop-spent-preserved
@@ -48,5 +48,5 @@ returns-clause-shows g c b p all o r a s =
     elim c.match-settle.branch [
       | in-Ok-settle w ↦ shown_all S all c.loop-spent.spent c.args.ticks c.match-settle.result end w.result-is shows
       | in-Err-settle w ↦ shown_as S all c.args.ticks _ c.match-settle.result w.result-is
-          (shown_until S all c.loop-spent.spent c.args.ticks v.allowed shows T p o runs.sent _ _ _ (w.in-Err-settle.ensures.meets b p (λ n. all (n + c.loop-spent.spent)) o runs.sent runs.stands))
+          (shown_until S all c.loop-spent.spent c.args.ticks v.allowed shows T p o _ _ _ (w.in-Err-settle.ensures.meets b p (λ n. all (n + c.loop-spent.spent)) o runs.stands))
     ]

@@ -42,7 +42,7 @@ returns-in-Err-call_function-clause-meets g c b input given fresh told =
     let W = g.O.Observer.told c.finish.new.observer in
     let begun = known b T U (history_called p (typed.function p.main) []) (c.in-Ok.ensures.told []) [] told in
     let stops = main_stopped (Knows b W) p input port c.args.ticks _ _ (g.P.Port.seen c.finish.new.port)
-    (c.finish.ensures.meets b p (λ n. run_of p input (n + 0)) (outset input port) [] (main_stopping (Knows b U) p input old new mid main port fresh same prog refl given (c.in-Ok.ensures.tells []) begun c.in-Ok.ensures.kept c.in-Err-call_function.stop c.in-Err-call_function.ensures.acts)) in
+    (c.finish.ensures.meets b p (λ n. run_of p input (n + 0)) (outset input port) (main_stopping (Knows b U) p input old new mid main port fresh same prog refl given (c.in-Ok.ensures.tells []) begun c.in-Ok.ensures.kept c.in-Err-call_function.stop c.in-Err-call_function.ensures.acts)) in
     (answered (Knows b W) p input c.args.ticks _ _ _ _ stops, asked b W p input c.args.ticks _ (told_as (Knows b W) p input c.args.ticks _ (g.P.Port.seen c.args.port.now) (g.P.Port.seen c.finish.new.port) _ stops))
 
 pub returns-in-Err-clause-shown : goal.returns-in-Err-clause-shown
@@ -76,5 +76,5 @@ returns-in-Err-call_function-clause-shown g c input given fresh always shown =
     let W = g.O.Observer.told c.finish.new.observer in
     let S = g.O.Observer.shown c.finish.new.observer in
     let shows = nothing_shown S (run_of p input) (c.finish.ensures.shown [] (c.in-Ok.ensures.shown [] shown)) in
-    is_shown p input S c.args.ticks _ (shown_until S (run_of p input) 0 c.args.ticks (omega arith) shows (Knows false W) p (outset input port) [] _ _ (g.P.Port.seen c.finish.new.port)
-    (c.finish.ensures.meets false p (λ n. run_of p input (n + 0)) (outset input port) [] (main_stopping (Knows false U) p input old new mid main port fresh same prog refl given (c.in-Ok.ensures.tells []) tt c.in-Ok.ensures.kept c.in-Err-call_function.stop c.in-Err-call_function.ensures.acts)))
+    is_shown p input S c.args.ticks _ (shown_until S (run_of p input) 0 c.args.ticks (omega arith) shows (Knows false W) p (outset input port) _ _ (g.P.Port.seen c.finish.new.port)
+    (c.finish.ensures.meets false p (λ n. run_of p input (n + 0)) (outset input port) (main_stopping (Knows false U) p input old new mid main port fresh same prog refl given (c.in-Ok.ensures.tells []) tt c.in-Ok.ensures.kept c.in-Err-call_function.stop c.in-Err-call_function.ensures.acts)))

@@ -22,4 +22,5 @@ returns-in-Ok-put_entries c = record {
   };
   items_are = c.in-Ok.ensures.items_are;
   low = c.in-Ok.ensures.low;
+  reach = c.in-Ok.ensures.reach;
 }

@@ -25,6 +25,7 @@ returns-in-Ok-clause-listed c = record {
   };
   items_are = c.in-Ok.ensures.items_are;
   low = c.in-Ok.ensures.low;
+  reach = c.in-Ok.ensures.reach;
 }
 
 pub returns-clause-stops : goal.returns-clause-stops

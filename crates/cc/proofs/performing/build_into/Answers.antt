@@ -9,7 +9,7 @@ returns-in_err-built g c = handed_match c.from_residual.result c.in_err-built.fi
 pub returns-in-Ok : goal.returns-in-Ok
 returns-in-Ok g c = record {
   built = c.in_ok-built.built;
-  compiles = c.in_ok-built.ensures.built;
+  made = c.in_ok-built.ensures.made;
   puts = subst (PutsAll (g.P.Port.seen c.args.port.now) (g.P.Port.seen c.write_out.new.port)) c.as_slice.ensures.value c.in-Ok.ensures;
 }
 
@@ -18,7 +18,7 @@ returns g c =
     let after = c.write_out.new.port in
     inr (record {
       built = c.in_ok-built.built;
-      compiles = c.in_ok-built.ensures.built;
+      made = c.in_ok-built.ensures.made;
       writes = subst (λ bytes. WritesSome c.args.name.now bytes (g.P.Port.refused_with after) (g.P.Port.seen c.args.port.now) (g.P.Port.seen after) c.in-Err.fault)
           c.as_slice.ensures.value c.in-Err.ensures;
     })

@@ -1,5 +1,7 @@
+use Rattle.std.proofs.Common.{sym, subst}
 use Rattle.typed_ast.specs.View.{program_of}
 use Rattle.memory_map.specs.MemoryMap.{text_start}
+use Rattle.asm.specs.Layout.{AllReach}
 use Rattle.frames_code.specs.Code as flat
 use Rattle.cc_backend.proofs.Generates.{reach, has_room, is_file, runs_with}
 use Rattle.cc_backend.proofs.generating.generate_listed.Goals as goal
@@ -18,4 +20,5 @@ returns-in-Ok c = record {
       c.in_ok-made.ensures.stack c.in_ok-made.ensures.image c.in_ok-made.ensures.fewest c.in_ok-made.ensures.size c.in_ok-frames.ensures c.in-Ok.ensures.bytes;
   items_are = c.in_ok-made.ensures.items;
   low = c.in_ok-made.ensures.low;
+  reach = subst (AllReach text_start) (sym c.in_ok-made.ensures.items) (reach (program_of c.args.program.now) (flat.program_of c.in_ok-code.code) c.requires.ready c.in_ok-code.ensures text_start);
 }
