@@ -43,17 +43,6 @@ pub fn bytes_in(element: IntType, lengths: &[u64]) -> u64
     u64::from(size_of(element)).saturating_mul(count)
 }
 
-/// How many elements arrays within an array have, or 2^64 - 1 where that is less.
-pub(crate) fn elements_within(lengths: &[u32]) -> u64
-    ensures { result ≡ capped (type.elements_in lengths.now) }
-{
-    let mut count = 1;
-    for length in lengths {
-        count = u64::from(*length).saturating_mul(count);
-    }
-    count
-}
-
 /// The size of an array is greater than zero (6.7.6.2p1).
 pub fn positive(pos: Pos, size: i64) -> Result<u64, Refusal>
     ensures ok { IfOk result (λ n. typed.positive pos size ≡ fine n) }

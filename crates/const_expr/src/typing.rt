@@ -361,7 +361,7 @@ fn sizeof_typed<'s>(
     ensures count { OnOk result (literals.new ≡ literals.old + length (strings (tree_of a.now))) }
 {
     match expression(alloc, names, scope, literals, a) {
-        Ok(a) => measured(alloc, pos, &a),
+        Ok(a) => measured(pos, &a),
         Err(refusal) => Err(refusal),
     }
 }
@@ -382,7 +382,7 @@ fn sizeof_type_typed<'s>(
     ensures count { OnOk result (literals.new ≡ literals.old + length (strings_of_type (type_of name.now))) }
 {
     match type_named(alloc, names, scope, literals, name) {
-        Ok(named) => type_measured(alloc, pos, &named),
+        Ok(named) => type_measured(pos, &named),
         Err(refusal) => Err(refusal),
     }
 }

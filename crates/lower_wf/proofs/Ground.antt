@@ -1,5 +1,5 @@
 -- The checker's names, places and values, seen in a typed program.
-use Rattle.std.proofs.Common.{◌≡◌, ◌≤◌, ◌<◌, ℕ, zero, suc, ◌+◌, ◌*◌, Bool, true, false, ◌&&◌, nat_lt, List, [], ◌∷◌, ◌++◌, length, Option, Some, None, pos, refl, ap, ◌∙◌, arith}
+use Rattle.std.proofs.Common.{◌≡◌, ◌%◌, ◌^◌, ◌≤◌, ◌<◌, ℕ, zero, suc, ◌+◌, ◌*◌, Bool, true, false, ◌&&◌, nat_lt, List, [], ◌∷◌, ◌++◌, length, Option, Some, None, pos, refl, ap, ◌∙◌, subst, arith}
 use Rattle.std.proofs.lemmas.Bool.{false≢true, and_from}
 use Rattle.std.proofs.lemmas.Bool.Decides.{nat_tests}
 use Rattle.std.proofs.lemmas.Int.{ints}
@@ -80,8 +80,13 @@ few_bytes ty.UInt = omega arith
 few_bytes ty.Long = omega arith
 few_bytes ty.ULong = omega arith
 
-pub size_value : (n : ℕ) → n ≤ 1048576 → is_value_of ty.UInt (pos n) ≡ true
-size_value n h = grind (arith, nat_tests, ints, h)
+small_value : (n : ℕ) → n ≤ 1048576 → is_value_of ty.UInt (pos n) ≡ true
+small_value n h = grind (arith, nat_tests, ints, h)
+
+pub size_value : (n : ℕ) → n ≤ 1048576 → is_value_of ty.UInt (pos (n % 2 ^ 32)) ≡ true
+size_value n h =
+    let same : n ≡ n % 2 ^ 32 = omega (arith, h) in
+    subst (λ k. is_value_of ty.UInt (pos k) ≡ true) same (small_value n h)
 
 -- an element is no greater than its array
 row_sized_by : (b n k : ℕ) → 0 < n * k → b * (n * k) ≤ 1048576 → (0 < k) × (b * k ≤ 1048576)

@@ -153,3 +153,71 @@ pub expanding_first : (known : Known) (x : Hidden) (rest : List Hidden) (end : E
 unfolding walk
 expanding_first known x rest end left =
     expanding_walk known (x ∷ rest) end left ∙ taken_same left (expanding known) (expanding known) (agree_self left (expanding known)) (λ l e m p. expanding_within known l e m) known (turn known x rest end) x rest end left (λ _. walk known (expanding known) rest end left) (λ _. expanding known rest end left) (omega arith) (sym (expanding_walk known rest end left))
+
+-- ---- a larger budget
+
+-- where the first goes well, the second does the same, with k replacements more left
+abbrev More : {X : Type 0} → ℕ → Result (X × ℕ) Fault → Result (X × ℕ) Fault → Type 0
+More k (Ok a) s = s ≡ Ok (a.0, k + a.1)
+More k (Err e) s = Unit {0}
+
+bind_more : {X Y : Type 0} (k m : ℕ) (r s : Result (X × ℕ) Fault) (f g : X × ℕ → Result (Y × ℕ) Fault) → Within m r → More k r s → ((a : X × ℕ) → a.1 ≤ m → More k (f a) (g (a.0, k + a.1))) → More k (r >>= f) (s >>= g)
+bind_more k m (Ok a) s f g w e h = subst (λ s. More k (f a) (s >>= g)) (sym e) (h a w)
+bind_more k m (Err e) s f g w t h = tt
+
+then_more : {X Y : Type 0} (k : ℕ) (r : Result X Fault) (f g : X → Result (Y × ℕ) Fault) → ((a : X) → More k (f a) (g a)) → More k (r >>= f) (r >>= g)
+then_more k (Ok a) f g h = h a
+then_more k (Err e) f g h = tt
+
+module _ (k n : ℕ) (f : Next) (more : (xs : List Hidden) (e : Ending) (m : ℕ) → m < n → More k (f xs e m) (f xs e (k + m))) (fall : Falls n f) where
+  argument_more : (b : Bool) (a : List Hidden) (left : ℕ) → left < n → More k (argument_by f b a left) (argument_by f b a (k + left))
+  argument_more true a left h = more a of_argument left h
+  argument_more false a left h = refl
+
+  arguments_more : (ps : List Piece) (i : ℕ) (args : List (List Hidden)) (left : ℕ) → left < n → More k (arguments_expanded f ps i args left) (arguments_expanded f ps i args (k + left))
+  unfolding arguments_expanded
+  arguments_more ps i [] left h = refl
+  arguments_more ps i (a ∷ args) left h =
+      let w = is_expanded i ps in
+      bind_more k left (argument_by f w a left) (argument_by f w a (k + left)) _ _ (argument_within n f f (agree_self n f) fall w a left h) (argument_more w a left h) (λ r q.
+      bind_more k r.1 (arguments_expanded f ps (suc i) args r.1) (arguments_expanded f ps (suc i) args (k + r.1)) _ _
+      (arguments_within n f f (agree_self n f) fall ps (suc i) args r.1 (omega (arith, q, h))) (arguments_more ps (suc i) args r.1 (omega (arith, q, h))) (λ s p. refl))
+
+  replace_more : (r : Replacement) (end : Ending) (left : ℕ) → left < n → More k (replace f r end left) (replace f r end (k + left))
+  unfolding replace
+  replace_more r end left h =
+      then_more k (at_place r.call.at (strings_made r.call r.call.macro.body)) _ _ (λ made.
+      bind_more k left (arguments_expanded f (sides false made) 0 r.call.arguments left) (arguments_expanded f (sides false made) 0 r.call.arguments (k + left)) _ _
+      (arguments_within n f f (agree_self n f) fall (sides false made) 0 r.call.arguments left h) (arguments_more (sides false made) 0 r.call.arguments left h) (λ full q.
+      then_more k (at_place r.call.at (substituted r.call full.0 (sides false made))) _ _ (λ new. more (front_of r new) end full.1 (omega (arith, q, h)))))
+
+  module _ (known : Known) where
+    taken_more : (t : Turn) (x : Hidden) (rest : List Hidden) (end : Ending) (left : ℕ) (a b : Unit {0} → Answer) → left ≤ n → Within left (a tt) → More k (a tt) (b tt) →
+        More k (taken known f t x rest end left a) (taken known f t x rest end (k + left) b)
+    taken_more stands x rest end left a b h w e = bind_more k left (a tt) (b tt) _ _ w e (λ r q. refl)
+    taken_more (refused c) x rest end left a b h w e = tt
+    taken_more predefined x rest end zero a b h w e = tt
+    taken_more predefined x rest end (suc left) a b h w e =
+        let one : suc (k + left) ≡ k + suc left = omega arith in
+        subst (λ m. More k (f (predefined_front known x ∷ rest) end left) (taken known f predefined x rest end m b)) one (more (predefined_front known x ∷ rest) end left (omega (arith, h)))
+    taken_more (replaced r) x rest end zero a b h w e = tt
+    taken_more (replaced r) x rest end (suc left) a b h w e =
+        let one : suc (k + left) ≡ k + suc left = omega arith in
+        subst (λ m. More k (replace f r end left) (taken known f (replaced r) x rest end m b)) one (replace_more r end left (omega (arith, h)))
+
+    walk_more : (xs : List Hidden) (end : Ending) (left : ℕ) → left ≤ n → More k (walk known f xs end left) (walk known f xs end (k + left))
+    unfolding walk
+    walk_more [] end left h = refl
+    walk_more (x ∷ rest) end left h =
+        taken_more (turn known x rest end) x rest end left (λ _. walk known f rest end left) (λ _. walk known f rest end (k + left)) h (walk_within n f f (agree_self n f) fall known rest end left h) (walk_more rest end left h)
+
+by_left : (k n : ℕ) (known : Known) (xs : List Hidden) (end : Ending) (m : ℕ) → m < n → More k (expanding known xs end m) (expanding known xs end (k + m))
+by_left k zero known xs end m h = absurd (omega (arith, h))
+by_left k (suc n) known xs end m h =
+    subst (λ r. More k r (expanding known xs end (k + m))) (sym (expanding_walk known xs end m))
+    (subst (λ s. More k (walk known (expanding known) xs end m) s) (sym (expanding_walk known xs end (k + m)))
+    (walk_more k n (expanding known) (by_left k n known) (λ l e j p. expanding_within known l e j) known xs end m (omega (arith, h))))
+
+pub larger_budget : (known : Known) (xs : List Hidden) (end : Ending) (left more rest : ℕ) (list : List Hidden) → expanding known xs end left ≡ Ok (list, rest) → expanding known xs end (more + left) ≡ Ok (list, more + rest)
+larger_budget known xs end left more rest list e =
+    subst (λ r. More more r (expanding known xs end (more + left))) e (by_left more (suc left) known xs end left (omega arith))

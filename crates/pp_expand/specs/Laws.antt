@@ -1,5 +1,5 @@
 -- Laws of expansions.
-use Rattle.std.specs.Prelude.{◌≡◌, ℕ, ◌≤◌, List}
+use Rattle.std.specs.Prelude.{◌≡◌, ℕ, ◌+◌, ◌≤◌, List, Ok}
 use Rattle.srcset.specs.NameTable.{Texts, KeepsNumbers}
 use Rattle.macros_substitution.specs.Substitution.{◌>>=◌, Hidden}
 use Rattle.pp_expand.specs.Expansion.{Ending, Known, expanded_by}
@@ -31,3 +31,9 @@ abbrev pub PullBoundSuffices : Type 0
 PullBoundSuffices =
     (bound : ℕ) (known : Known) (xs : List Hidden) (ending : Ending) (left : ℕ) → left ≤ bound
     → pulled_by bound known xs ending left ≡ pulled_by left known xs ending left
+
+-- with more replacements left the list is the same, and so many more are left behind it
+abbrev pub BudgetSuffices : Type 0
+BudgetSuffices =
+    (known : Known) (xs : List Hidden) (ending : Ending) (left more rest : ℕ) (list : List Hidden)
+    → expanding known xs ending left ≡ Ok (list, rest) → expanding known xs ending (more + left) ≡ Ok (list, more + rest)

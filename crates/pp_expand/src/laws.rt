@@ -1,6 +1,6 @@
 //! Laws of expansions, each the contract of a function without code.
 
-ghost use Rattle.pp_expand.specs.Laws.{PullsFirst, KnowsGrows, LeftGrows, BoundSuffices, PullBoundSuffices};
+ghost use Rattle.pp_expand.specs.Laws.{PullsFirst, KnowsGrows, LeftGrows, BoundSuffices, PullBoundSuffices, BudgetSuffices};
 
 /// A pulled token, followed by the expansion of the list left after it, is the expansion of the list, replacements
 /// counted on; and where none is pulled, that expansion is empty.
@@ -26,4 +26,9 @@ pub fn bound_suffices()
 /// Nor does it change the pulled token.
 pub fn pull_bound_suffices()
     ensures { PullBoundSuffices }
+{}
+
+/// A larger budget changes no expansion that a smaller one suffices for, and what it is larger by is left.
+pub fn budget_suffices()
+    ensures { BudgetSuffices }
 {}

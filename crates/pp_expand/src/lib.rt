@@ -20,7 +20,9 @@ mod waiting;
 
 pub use budget::Budget;
 pub use expansion::{expand, expand_behind, try_expand};
-pub use laws::{bound_suffices, knows_grows, left_grows, pull_bound_suffices, pulls_first};
+pub use laws::{
+    bound_suffices, budget_suffices, knows_grows, left_grows, pull_bound_suffices, pulls_first,
+};
 pub use run_end::RunEnd;
 pub use streaming::Expander;
 pub use unexpanded::Unexpanded;

@@ -220,9 +220,9 @@ assignment at (Some o) a b = both (target at a) (worth code.VoidOperand at b) (c
 abbrev pub signed_value : Pos → PrefixOp → Worth → Verdict Checked
 signed_value at o x = fine (value at (signed_type o (promoted x.type)) (typed.unary at o (promoted x.type) x.e))
 
--- 6.5.3.4: no function, nothing incomplete
+-- 6.5.3.4: no function, nothing incomplete; size_t is unsigned int, and no object is too large for it
 abbrev pub size_is : Pos → ℕ → Verdict Checked
-size_is at n = fine (value at ty.UInt (typed.constant ty.UInt (pos n)))
+size_is at n = fine (value at ty.UInt (typed.constant ty.UInt (converted ty.UInt (pos n))))
 
 abbrev pub measured : Pos → Checked → Verdict Checked
 measured at (value p t e) = size_is at (bytes_of t)

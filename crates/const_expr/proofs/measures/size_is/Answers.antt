@@ -1,5 +1,6 @@
-use Rattle.const_expr.proofs.Sizes.{told_exactly}
+use Rattle.std.proofs.Common.{◌∙◌, ap, pos}
+use Rattle.const_expr.proofs.Sizes.{word_of}
 use Rattle.const_expr.proofs.measures.size_is.Goals as goal
 
-pub returns-in-Ok-clause-ok : goal.returns-in-Ok-clause-ok
-returns-in-Ok-clause-ok c = λ n e. c.size_constant.ensures n (told_exactly c.args.bytes n c.in-Ok.size c.in-Ok.ensures.0 c.in-Ok.ensures.1 e)
+pub returns : goal.returns
+returns c = λ size e. c.size_constant.ensures size (c.from.ensures ∙ ap pos (word_of c.args.bytes size _ e _))
