@@ -2,7 +2,8 @@
 use Rattle.std.proofs.Common.{◌≡◌, ℕ, zero, suc, ◌*◌, ◌%◌, ◌-◌, ◌^◌, ◌<◌, ◌≤◌, true, false, min, nat_lt, refl, ap, ◌∙◌, arith}
 use Rattle.std.proofs.lemmas.Nat.{mul-le, mul-mod_second}
 use Rattle.std.proofs.lemmas.List.{drop_more, drop_all}
-use Rattle.std.proofs.Common.{List, [], ◌∷◌, length, drop, get_or, ◌+◌, sym, mul_comm, mul_assoc, ℤ, pos}
+use Rattle.std.proofs.Common.{List, [], ◌∷◌, length, drop, get_or, ◌+◌, sym, mul_comm, mul_assoc, ℤ, pos, FitsSigned, to_z, of_z, w64}
+use Rattle.std.proofs.lemmas.Int.{ints, to_z-of_z}
 use Rattle.tree.specs.Capped.{capped}
 use Rattle.ctypes.specs.declared.types.IntType.{IntType}
 use Rattle.ctypes.specs.declared.types.IntType.TheVariants as ty
@@ -133,5 +134,11 @@ array_bytes n b e within bytes w f =
     f ∙ ap (λ k. (n * k) % 2 ^ 64) w ∙ mul-mod_second n (b * e) (2 ^ 64) ∙ ap (λ k. k % 2 ^ 64) (sym (mul_assoc n b e) ∙ ap (λ k. k * e) (mul_comm n b) ∙ mul_assoc b n e)
 
 -- 32 bits of 64
-pub word_of : (bytes size word : ℕ) → bytes ≡ size % 2 ^ 64 → word ≡ bytes % 2 ^ 32 → word ≡ size % 2 ^ 32
+word_of : (bytes size word : ℕ) → bytes ≡ size % 2 ^ 64 → word ≡ bytes % 2 ^ 32 → word ≡ size % 2 ^ 32
 word_of bytes size word e f = omega (arith, e, f)
+
+word_fits : (word : ℕ) (v : ℤ) → v ≡ pos word → word < 2 ^ 32 → FitsSigned w64 v
+word_fits word v e h = first_of (omega (arith, ints, e, h), grind (arith, ints, e, h))
+
+pub word_told : (bytes size word : ℕ) (v : ℤ) → bytes ≡ size % 2 ^ 64 → word ≡ bytes % 2 ^ 32 → v ≡ pos word → to_z w64 (of_z w64 v) ≡ pos (size % 2 ^ 32)
+word_told bytes size word v e f g = to_z-of_z w64 v (word_fits word v g (omega (arith, f))) ∙ g ∙ ap pos (word_of bytes size word e f)

@@ -56,7 +56,7 @@ fn size_constant<'s>(pos: Pos, size: i64) -> Checked<'s>
 fn size_is<'s>(pos: Pos, bytes: u64) -> Checked<'s>
     ensures { (size : ℕ) → bytes ≡ size % 2 ^ 64 → typed.size_is pos size ≡ fine (checked_of result) }
 {
-    size_constant(pos, i64::from(bytes as u32))
+    size_constant(pos, i64::from((bytes % 0x1_0000_0000) as u32))
 }
 
 fn size_of_number<'s>(pos: Pos, ty: IntType) -> Checked<'s>

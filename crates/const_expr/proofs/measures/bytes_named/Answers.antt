@@ -1,4 +1,4 @@
-use Rattle.std.proofs.Common.{arith, ◌∙◌}
+use Rattle.std.proofs.Common.{arith, refl, ◌∙◌}
 use Rattle.ctypes.specs.Types.{bytes_of}
 use Rattle.const_expr.proofs.Sizes.{measured_none, measured_next, measured_all}
 use Rattle.const_expr.proofs.measures.bytes_named.Goals as goal
@@ -8,7 +8,7 @@ loop-length-init c = measured_none c.args.element _ c.args.lengths.now (c.from-b
 
 pub loop-length-preserved : goal.loop-length-preserved
 loop-length-preserved c =
-    measured_next c.loop-length.bytes (bytes_of c.args.element) c.loop-length.length-index c.wrapping_mul-bytes.result c.args.lengths.now c.loop-length-test.true c.wrapping_mul-bytes.ensures c.loop-length.invariant
+    measured_next c.loop-length.bytes (bytes_of c.args.element) c.loop-length.length-index _ c.args.lengths.now c.loop-length-test.true refl c.loop-length.invariant
 
 pub returns : goal.returns
 returns c = measured_all c.loop-length.bytes (bytes_of c.args.element) c.loop-length.length-index c.args.lengths.now (omega (arith, c.loop-length-test.false)) c.loop-length.invariant

@@ -8,7 +8,7 @@ loop-length-init c = measured_none c.args.element _ c.args.lengths.now (c.from-b
 
 pub loop-length-preserved : goal.loop-length-preserved
 loop-length-preserved c =
-    measured_next c.loop-length.bytes (bytes_of c.args.element) c.loop-length.length-index c.wrapping_mul-bytes.result c.args.lengths.now c.loop-length-test.true (c.wrapping_mul-bytes.ensures ∙ ap (λ k. (k * c.loop-length.bytes) % 2 ^ 64) c.from.ensures) c.loop-length.invariant
+    measured_next c.loop-length.bytes (bytes_of c.args.element) c.loop-length.length-index _ c.args.lengths.now c.loop-length-test.true (ap (λ k. (k * c.loop-length.bytes) % 2 ^ 64) c.from-bytes-in-loop-length.ensures) c.loop-length.invariant
 
 pub returns : goal.returns
 returns c = measured_all c.loop-length.bytes (bytes_of c.args.element) c.loop-length.length-index c.args.lengths.now (omega (arith, c.loop-length-test.false)) c.loop-length.invariant

@@ -4,4 +4,4 @@ use Rattle.const_expr.proofs.Sizes.{Measured}
 use Rattle.const_expr.proofs.measures.bytes_within.Given as goal
 
 abbrev pub invariant-loop-length : goal.invariant-loop-length
-invariant-loop-length l = Measured l.bytes (bytes_of l.element) (drop l.length-index l.lengths) l.lengths
+invariant-loop-length l = Measured l.bytes (bytes_of l.fn.element) (drop l.length-index l.lengths) l.lengths
