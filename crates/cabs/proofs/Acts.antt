@@ -79,7 +79,6 @@ byte_sent T p whole o old new x port port2 s i a m t k = record {
 }
 
 module _ (T U : List Entry → Type 0) (p : typed.Program) (whole : Whole) (o : Outset) where
-
   pub stop_sent : (e : machine.Ending) (m : Interpreter) (tally : Tally) (old new : PortView) → Stopping T p whole o e m old → Keeps old.input new.input →
       Appends old.output new.output (waiting m.kept) → tally ≡ m.tally → Stopped T p whole o e tally new
   stop_sent e m tally old new s i a t = record {

@@ -68,20 +68,29 @@ module _ (p : typed.Program) (input : List ℕ) where
         IsGivenUp p input (suc k) old new
     settled k bytes [] rest a b out = (k, inl (omega arith, output_as old.output new.output _ _ (a ∙ sym (append_none (answer k p input).output)) out))
     settled k bytes (x ∷ some) [] a b out = (suc k, inl (omega arith, output_as old.output new.output _ _ (append_none bytes ∙ sym b) out))
-    settled k bytes (x ∷ some) (y ∷ rest) a b out = (k, inr (omega arith, record {
-      first = x;
-      some = some;
-      next = y;
-      rest = rest;
-      tick_is = b ∙ ap (λ bs. bs ++ y ∷ rest) a;
-      output_is = output_as old.output new.output _ _ a out;
-    }))
+    settled k bytes (x ∷ some) (y ∷ rest) a b out = (
+      k,
+      inr (
+        omega arith,
+        record {
+          first = x;
+          some = some;
+          next = y;
+          rest = rest;
+          tick_is = b ∙ ap (λ bs. bs ++ y ∷ rest) a;
+          output_is = output_as old.output new.output _ _ a out;
+        },
+      ),
+    )
 
     wider : (k ticks : ℕ) → k ≤ ticks → IsGivenUp p input k old new → IsGivenUp p input ticks old new
-    wider k ticks le g = (g.0, elim g.1 [
-      | inl h ↦ inl (omega (arith, le, h.0), h.1)
-      | inr h ↦ inr (omega (arith, le, h.0), h.1)
-    ])
+    wider k ticks le g = (
+      g.0,
+      elim g.1 [
+        | inl h ↦ inl (omega (arith, le, h.0), h.1)
+        | inr h ↦ inr (omega (arith, le, h.0), h.1)
+      ],
+    )
 
     placed : (k : ℕ) (newer events : List Event) → trace_at k ≡ newer ++ events → Appends old.output new.output (written events) → IsGivenUp p input k old new
     placed zero newer events e out =
