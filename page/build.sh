@@ -40,7 +40,9 @@ sed -e "s/^target datalayout.*/target datalayout = \"$layout\"/" -e 's/^target t
 once='cc\|const_expr\|decls[a-z_]*\|forms\|forms_text\|object_names\|symbol_table\|typing_declarations\|typing_units\|zikorape'
 sed "/^define [^@]*@\"\($once\)::/s/ #\([0-9]*\) / minsize optsize #\1 /" wasm.ll >fast.ll
 "$clang" $flags -O2 -c -x ir fast.ll -o fast.o
-sed 's/^attributes #\([0-9]*\) = { /&minsize optsize /' wasm.ll >small.ll
+# What analyses statements calls itself at each level of them. With all kinds of statements inlined into one function a level takes 16 KB of the engine's stack.
+levels='verify_statements::statements'
+sed -e 's/^attributes #\([0-9]*\) = { /&minsize optsize /' -e "/^define [^@]*@\"$levels::/s/ #\([0-9]*\) / noinline #\1 /" wasm.ll >small.ll
 "$clang" $flags -Oz -c -x ir small.ll -o small.o
 
 # What it calls: the heap, and the product of 128 bits.
