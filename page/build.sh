@@ -40,7 +40,8 @@ sed -e "s/^target datalayout.*/target datalayout = \"$layout\"/" -e 's/^target t
 once='cc\|const_expr\|decls[a-z_]*\|forms\|forms_text\|object_names\|symbol_table\|typing_declarations\|typing_units\|zikorape'
 sed "/^define [^@]*@\"\($once\)::/s/ #\([0-9]*\) / minsize optsize #\1 /" wasm.ll >fast.ll
 "$clang" $flags -O2 -c -x ir fast.ll -o fast.o
-# What analyses statements calls itself at each level of them. With all kinds of statements inlined into one function a level takes 16 KB of the engine's stack.
+# What analyses statements calls itself at each level of them. With all kinds of statements inlined into one function a level takes 16 KB of the engine's stack:
+# so neither LLVM inlines them nor wasm-opt, which otherwise inlines what has one caller.
 levels='verify_statements::statements'
 sed -e 's/^attributes #\([0-9]*\) = { /&minsize optsize /' -e "/^define [^@]*@\"$levels::/s/ #\([0-9]*\) / noinline #\1 /" wasm.ll >small.ll
 "$clang" $flags -Oz -c -x ir small.ll -o small.o
@@ -64,5 +65,5 @@ made() {
 
 made zikorape fast.o "$compiler" --duplicate-function-elimination --remove-unused-brs --merge-blocks --vacuum --optimize-instructions --rse --vacuum --reorder-locals --strip-debug --strip-producers
 made diagnostics small.o "$explainer" -Oz --strip-debug --strip-producers
-made analysis small.o "$analyser" -Oz --flatten --rereloop -Oz -Oz --strip-debug --strip-producers
+made analysis small.o "$analyser" -Oz --flatten --rereloop -Oz -Oz --one-caller-inline-max-function-size=60 --strip-debug --strip-producers
 sh "$page/digest.sh" >"$page/SOURCES"
