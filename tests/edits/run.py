@@ -134,6 +134,9 @@ def unread(line, changed):
     at = re.match(r'(?:\./)?(\S+?):\d+:\d+: error: (?:(`[^`]*`): )?(.*)', line)
     if not at or at[1] not in changed and not at[1].startswith(('src/', 'specs/')):
         return False
+    # What follows from a refusal above.
+    if re.match(r'\d+ declarations? that depends? on `[^`]*`, which was (rejected|not admitted)', at[3]):
+        return False
     said = re.sub(r'`[^`]*`', '', at[3])
     return not at[2] or bool(re.search(r'is not in scope|has no field|is no name|operand is missing|expected the end|cannot continue', said))
 
